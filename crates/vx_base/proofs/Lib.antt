@@ -1,0 +1,6 @@
+pub mod ListParts
+pub mod NumberBytes
+pub mod NumberLists
+pub mod PackedBits
+pub mod PackedBytes
+pub mod MaskCounts

@@ -1,0 +1,136 @@
+// A run of booleans that grows.
+#![tactic(auto, using(crate::proofs::PackedBits::length_unpacked, crate::proofs::PackedBits::unpacked_none, crate::proofs::PackedBits::get_unpacked))]
+
+ghost use Rattle.std.specs.Prelude.{◌≡◌, ◌≢◌, ◌≤◌, ◌<◌, ◌+◌, ◌-◌, ◌/◌, ◌*◌, ◌^◌, ℕ, Bool, true, [], ◌∷◌, ◌++◌, length, take, drop, replicate, slice_set, IfOk, OnOk, OnErr, IsOkUnless};
+ghost use Rattle.vx_base.specs.Bits.{bit_of};
+ghost use Rattle.vx_base.specs.declared.errors.VortexError.TheVariants.{Memory};
+
+use crate::bit_buffer::BitBuffer;
+use crate::byte_buffer::ByteBuffer;
+use crate::errors::VortexError;
+use std::alloc::Global;
+use std::marker::Model;
+
+// The most bytes that a builder takes, so that its places can be counted.
+const MAX_BYTES: usize = 1 << 60;
+
+/// Booleans that are appended one by one.
+#[derive(Drop)]
+pub struct BitBufferMut {
+    bytes: Vec<u8>,
+    len: usize,
+}
+
+impl Model for BitBufferMut {
+    ghost use Rattle.std.specs.Prelude.{Bool, List, ◌≤◌, ◌+◌, ◌*◌, ◌^◌, length};
+    ghost use Rattle.vx_base.specs.Bits.{unpacked};
+
+    ghost Value = { List Bool };
+
+    ghost view = { λ b. unpacked b.bytes.items 0 b.len };
+
+    ghost invariant = { λ b. (b.len ≤ 8 * length b.bytes.items) × (length b.bytes.items ≤ 2 ^ 60) };
+}
+
+// Writes bit `k` of the bytes.
+fn put_bit(bytes: &mut [u8], k: usize, value: bool)
+    requires { k / 8 < length bytes.old }
+    ensures written { bit_of bytes.new k ≡ value }
+    ensures others { (j : ℕ) → j ≢ k → bit_of bytes.new j ≡ bit_of bytes.old j }
+{
+    let mask = 1u8 << (k % 8);
+    if value {
+        bytes[k / 8] |= mask;
+    } else {
+        bytes[k / 8] &= !mask;
+    }
+}
+
+// Adds a byte if bit `len` has none.
+fn make_room(bytes: &mut Vec<u8>, len: usize) -> Result<(), VortexError>
+    requires { (len ≤ 8 * length bytes.old.items) × (length bytes.old.items ≤ 2 ^ 60) }
+    ensures room { OnOk result (len / 8 < length bytes.new.items) }
+    ensures limit { length bytes.new.items ≤ 2 ^ 60 }
+    ensures longer { length bytes.old.items ≤ length bytes.new.items }
+    ensures same { (j : ℕ) → j < len → bit_of bytes.new.items j ≡ bit_of bytes.old.items j }
+    ensures memory { IsOkUnless result Memory }
+{
+    if len / 8 == bytes.len() {
+        if bytes.len() >= MAX_BYTES {
+            return Err(VortexError::Memory);
+        }
+        bytes.push(0)?;
+    }
+    Ok(())
+}
+
+impl BitBufferMut {
+    /// No booleans, with room for `capacity` of them.
+    pub fn with_capacity(alloc: Global, capacity: usize) -> Result<BitBufferMut, VortexError>
+        ensures ok { IfOk result (λ b. b ≡ []) }
+        ensures err { IsOkUnless result Memory }
+    {
+        Ok(BitBufferMut {
+            bytes: Vec::with_capacity(alloc, capacity.div_ceil(8))?,
+            len: 0,
+        })
+    }
+
+    pub fn len(&self) -> usize
+        ensures value { result ≡ length self.now }
+        ensures bound { result ≤ 2 ^ 63 }
+    {
+        self.len
+    }
+
+    /// Adds a boolean at the end.
+    #[tactic(auto, using(crate::proofs::PackedBits::unpacked_push, crate::proofs::PackedBits::length_unpacked))]
+    pub fn append(&mut self, value: bool) -> Result<(), VortexError>
+        ensures ok { OnOk result (self.new ≡ self.old ++ value ∷ []) }
+        ensures err { OnErr result (self.new ≡ self.old) }
+        ensures memory { IsOkUnless result Memory }
+    {
+        make_room(&mut self.bytes, self.len)?;
+        put_bit(&mut self.bytes, self.len, value);
+        self.len += 1;
+        Ok(())
+    }
+
+    // Replaces the boolean at place `i`.
+    #[tactic(auto, using(crate::proofs::PackedBits::unpacked_set, crate::proofs::PackedBits::length_unpacked))]
+    fn replace(&mut self, i: usize, value: bool)
+        requires { i < length self.old }
+        ensures { self.new ≡ slice_set self.old i value }
+    {
+        put_bit(&mut self.bytes, i, value);
+    }
+
+    /// Makes the boolean at place `i` true.
+    pub fn set(&mut self, i: usize)
+        requires { i < length self.old }
+        ensures { self.new ≡ slice_set self.old i true }
+    {
+        self.replace(i, true);
+    }
+
+    /// Makes each boolean from place `start` up to place `end` the given one.
+    pub fn fill_range(&mut self, start: usize, end: usize, value: bool)
+        requires start_le_end { start ≤ end }
+        requires in_bounds { end ≤ length self.old }
+        ensures { self.new ≡ take start self.old ++ replicate (end - start) value ++ drop end self.old }
+    {
+        for i in start..end {
+            self.replace(i, value);
+        }
+    }
+
+    /// The booleans, to be shared.
+    pub fn freeze(self) -> Result<BitBuffer, VortexError>
+        ensures ok { IfOk result (λ b. b ≡ self) }
+        ensures err { IsOkUnless result Memory }
+    {
+        let BitBufferMut { bytes, len } = self;
+        let alloc = *bytes.allocator();
+        Ok(BitBuffer::from_parts(ByteBuffer::from_vec(alloc, bytes)?, 0, len))
+    }
+}

@@ -1,0 +1,152 @@
+// A shared list of numbers of one type.
+
+ghost use Rattle.std.specs.Prelude.{◌≡◌, ◌≤◌, ◌<◌, ◌*◌, ◌↔◌, [], length, map, slice_get, slice_range, Some, IsTrue, IfOk, IsOkUnless};
+ghost use Rattle.vx_base.specs.Integers.{byte_width, numbers};
+ghost use Rattle.vx_base.specs.declared.errors.VortexError.TheVariants.{Memory};
+
+use crate::byte_buffer::ByteBuffer;
+use crate::errors::VortexError;
+use crate::native::NativePType;
+use std::alloc::Global;
+use std::marker::Model;
+use std::ops::Range;
+use std::rc::Rc;
+
+/// Numbers of one type that are cut and shared with no copy.
+#[derive(Drop)]
+pub struct Buffer<T> {
+    items: Rc<Vec<T>>,
+    start: usize,
+    len: usize,
+}
+
+impl<T> Model for Buffer<T> {
+    ghost use Rattle.std.specs.Prelude.{List, ◌+◌, ◌≤◌, length, slice_range};
+
+    ghost Value = { List T };
+
+    ghost view = { λ b. slice_range b.items.value.items b.start (b.start + b.len) };
+
+    ghost invariant = { λ b. b.start + b.len ≤ length b.items.value.items };
+}
+
+impl<T: Drop> Buffer<T> {
+    /// A buffer without items.
+    pub fn empty(alloc: Global) -> Result<Buffer<T>, VortexError>
+        ensures ok { IfOk result (λ b. b ≡ []) }
+        ensures err { IsOkUnless result Memory }
+    {
+        Buffer::from_vec(alloc, Vec::new(alloc))
+    }
+
+    /// A buffer of the items of `vec`, with no copy.
+    pub fn from_vec(alloc: Global, vec: Vec<T>) -> Result<Buffer<T>, VortexError>
+        ensures ok { IfOk result (λ b. b ≡ vec.items) }
+        ensures err { IsOkUnless result Memory }
+    {
+        let len = vec.len();
+        Ok(Buffer {
+            items: Rc::new(alloc, vec)?,
+            start: 0,
+            len,
+        })
+    }
+
+    pub fn len(&self) -> usize
+        ensures { result ≡ length self.now }
+    {
+        self.len
+    }
+
+    pub fn is_empty(&self) -> bool
+        ensures { IsTrue result ↔ (self.now ≡ []) }
+    {
+        self.len() == 0
+    }
+
+    pub fn as_slice(&self) -> &[T]
+        ensures { result.now ≡ self.now }
+    {
+        &self.items.as_slice()[self.start..self.start + self.len]
+    }
+
+    /// The items of `range`, shared.
+    pub fn slice(&self, _alloc: Global, range: Range<usize>) -> Result<Buffer<T>, VortexError>
+        requires start_le_end { range.start ≤ range.end }
+        requires in_bounds { range.end ≤ length self.now }
+        ensures ok { IfOk result (λ b. b ≡ slice_range self.now range.start range.end) }
+        ensures err { IsOkUnless result Memory }
+    {
+        Ok(Buffer {
+            items: self.items.clone()?,
+            start: self.start + range.start,
+            len: range.end - range.start,
+        })
+    }
+
+    /// The same items, shared.
+    pub fn try_clone(&self, _alloc: Global) -> Result<Buffer<T>, VortexError>
+        ensures ok { IfOk result (λ b. b ≡ self.now) }
+        ensures err { IsOkUnless result Memory }
+    {
+        Ok(Buffer {
+            items: self.items.clone()?,
+            start: self.start,
+            len: self.len,
+        })
+    }
+}
+
+impl<T: Copy> Buffer<T> {
+    /// A buffer with a copy of these items.
+    pub fn copy_from(alloc: Global, items: &[T]) -> Result<Buffer<T>, VortexError>
+        ensures ok { IfOk result (λ b. b ≡ items.now) }
+        ensures err { IsOkUnless result Memory }
+    {
+        let mut copy = Vec::with_capacity(alloc, items.len())?;
+        copy.extend_from_slice(items)?;
+        Buffer::from_vec(alloc, copy)
+    }
+
+    /// The item at place `i`.
+    pub fn value(&self, i: usize) -> T
+        requires { i < length self.now }
+        ensures { slice_get self.now i ≡ Some result }
+    {
+        self.as_slice()[i]
+    }
+}
+
+impl<T: NativePType> Buffer<T> {
+    /// The numbers that these bytes hold. Bytes beyond the last whole number are left out.
+    pub fn from_byte_buffer(alloc: Global, bytes: &ByteBuffer) -> Result<Buffer<T>, VortexError>
+        ensures ok { IfOk result (λ b. map T.value b ≡ numbers T.PTYPE bytes.now) }
+        ensures err { IsOkUnless result Memory }
+    {
+        let width = T::PTYPE.byte_width();
+        let source = bytes.as_slice();
+        let mut items = Vec::new(alloc);
+        for i in 0..source.len() / width {
+            let start = i * width;
+            items.push(T::get_le(&source[start..start + width]))?;
+        }
+        Buffer::from_vec(alloc, items)
+    }
+
+    /// The bytes of the numbers, one number after another.
+    pub fn into_byte_buffer(&self, alloc: Global) -> Result<ByteBuffer, VortexError>
+        ensures ok { IfOk result (λ b. numbers T.PTYPE b ≡ map T.value self.now) }
+        ensures len { IfOk result (λ b. length b ≡ length self.now * byte_width T.PTYPE) }
+        ensures err { IsOkUnless result Memory }
+    {
+        let width = T::PTYPE.byte_width();
+        let mut bytes = Vec::new(alloc);
+        let mut scratch = [0u8; 8];
+        for item in self.as_slice() {
+            let part = &mut scratch[..width];
+            item.put_le(part);
+            bytes.extend_from_slice(part)?;
+        }
+        ByteBuffer::from_vec(alloc, bytes)
+    }
+}

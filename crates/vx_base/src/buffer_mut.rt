@@ -1,0 +1,77 @@
+// A list of numbers of one type that grows.
+
+ghost use Rattle.std.specs.Prelude.{◌≡◌, ◌≤◌, ◌<◌, ◌*◌, ◌++◌, ◌∷◌, [], length, IfOk, OnOk, OnErr, IsOkUnless};
+ghost use Rattle.std.specs.Borrow.{sem};
+ghost use Rattle.vx_base.specs.declared.errors.VortexError.TheVariants.{Memory};
+
+use crate::buffer::Buffer;
+use crate::errors::VortexError;
+use std::alloc::Global;
+use std::marker::Model;
+
+/// Numbers of one type that are pushed one by one.
+#[derive(Drop)]
+pub struct BufferMut<T> {
+    items: Vec<T>,
+}
+
+impl<T> Model for BufferMut<T> {
+    ghost use Rattle.std.specs.Prelude.{List};
+
+    ghost Value = { List T };
+
+    ghost view = { λ b. b.items.items };
+}
+
+impl<T: Drop> BufferMut<T> {
+    ghost use Rattle.vx_base.specs.Lends.{lends_items};
+
+    pub fn with_capacity(alloc: Global, capacity: usize) -> Result<BufferMut<T>, VortexError>
+        ensures ok { IfOk result (λ b. b ≡ []) }
+        ensures err { IsOkUnless result Memory }
+    {
+        Ok(BufferMut {
+            items: Vec::with_capacity(alloc, capacity)?,
+        })
+    }
+
+    pub fn len(&self) -> usize
+        ensures { result ≡ length self.now }
+    {
+        self.items.len()
+    }
+
+    /// Adds an item at the end.
+    pub fn push(&mut self, item: T) -> Result<(), VortexError>
+        ensures ok { OnOk result (self.new ≡ self.old ++ item ∷ []) }
+        ensures err { OnErr result (self.new ≡ self.old) }
+        ensures memory { IsOkUnless result Memory }
+    {
+        self.items.push(item)?;
+        Ok(())
+    }
+
+    pub fn as_slice(&self) -> &[T]
+        ensures { result.now ≡ self.now }
+    {
+        self.items.as_slice()
+    }
+
+    /// The items, for writing.
+    pub fn as_mut_slice(&mut self) -> &mut [T]
+        ensures* writes_back { sem 𝓛 (lends_items T.row self.entry result) }
+        ensures value { result.now ≡ self.old }
+    {
+        self.items.as_mut_slice()
+    }
+
+    /// The items, to be shared.
+    pub fn freeze(self) -> Result<Buffer<T>, VortexError>
+        ensures ok { IfOk result (λ b. b ≡ self) }
+        ensures err { IsOkUnless result Memory }
+    {
+        let BufferMut { items } = self;
+        let alloc = *items.allocator();
+        Buffer::from_vec(alloc, items)
+    }
+}

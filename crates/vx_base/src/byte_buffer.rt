@@ -1,0 +1,117 @@
+// A shared run of bytes.
+
+ghost use Rattle.std.specs.Prelude.{◌≡◌, ◌≤◌, ◌<◌, ◌^◌, ◌*◌, ◌↔◌, [], length, slice_range, IsTrue, IfOk, IsOkUnless};
+ghost use Rattle.vx_base.specs.Integers.{byte_width, numbers};
+ghost use Rattle.vx_base.specs.declared.errors.VortexError.TheVariants.{Memory};
+
+use crate::errors::VortexError;
+use crate::ptypes::PType;
+use bytes::Bytes;
+use std::alloc::Global;
+use std::marker::Model;
+use std::ops::Range;
+
+/// Bytes that are cut and shared with no copy.
+#[derive(Drop)]
+pub struct ByteBuffer {
+    bytes: Bytes,
+}
+
+impl Model for ByteBuffer {
+    ghost use Rattle.std.specs.Prelude.{ℕ, List};
+
+    ghost Value = { List ℕ };
+
+    ghost view = { λ b. b.bytes };
+}
+
+impl ByteBuffer {
+    /// A buffer without bytes.
+    pub fn empty(_alloc: Global) -> Result<ByteBuffer, VortexError>
+        ensures ok { IfOk result (λ b. b ≡ []) }
+        ensures err { IsOkUnless result Memory }
+    {
+        Ok(ByteBuffer {
+            bytes: Bytes::new(),
+        })
+    }
+
+    /// A buffer with a copy of these bytes.
+    pub fn copy_from(alloc: Global, bytes: &[u8]) -> Result<ByteBuffer, VortexError>
+        ensures ok { IfOk result (λ b. b ≡ bytes.now) }
+        ensures err { IsOkUnless result Memory }
+    {
+        Ok(ByteBuffer {
+            bytes: Bytes::copy_from_slice(alloc, bytes)?,
+        })
+    }
+
+    /// A buffer of the bytes of `vec`, with no copy.
+    pub fn from_vec(_alloc: Global, vec: Vec<u8>) -> Result<ByteBuffer, VortexError>
+        ensures ok { IfOk result (λ b. b ≡ vec.items) }
+        ensures err { IsOkUnless result Memory }
+    {
+        Ok(ByteBuffer {
+            bytes: Bytes::from_vec(vec)?,
+        })
+    }
+
+    pub fn len(&self) -> usize
+        ensures value { result ≡ length self.now }
+        ensures bound { result < 2 ^ 63 }
+    {
+        self.bytes.len()
+    }
+
+    pub fn is_empty(&self) -> bool
+        ensures { IsTrue result ↔ (self.now ≡ []) }
+    {
+        self.bytes.is_empty()
+    }
+
+    pub fn as_slice(&self) -> &[u8]
+        ensures { result.now ≡ self.now }
+    {
+        self.bytes.as_slice()
+    }
+
+    /// The bytes of `range`, shared.
+    pub fn slice(&self, _alloc: Global, range: Range<usize>) -> Result<ByteBuffer, VortexError>
+        requires start_le_end { range.start ≤ range.end }
+        requires in_bounds { range.end ≤ length self.now }
+        ensures ok { IfOk result (λ b. b ≡ slice_range self.now range.start range.end) }
+        ensures err { IsOkUnless result Memory }
+    {
+        Ok(ByteBuffer {
+            bytes: self.bytes.slice(range)?,
+        })
+    }
+
+    /// The same bytes, shared.
+    pub fn try_clone(&self, _alloc: Global) -> Result<ByteBuffer, VortexError>
+        ensures ok { IfOk result (λ b. b ≡ self.now) }
+        ensures err { IsOkUnless result Memory }
+    {
+        Ok(ByteBuffer {
+            bytes: self.bytes.clone()?,
+        })
+    }
+}
+
+/// The bytes of the numbers of `range`, shared.
+pub fn slice_numbers(
+    alloc: Global,
+    bytes: &ByteBuffer,
+    ptype: PType,
+    range: Range<usize>,
+) -> Result<ByteBuffer, VortexError>
+    requires start_le_end { range.start ≤ range.end }
+    requires in_bounds { range.end * byte_width ptype ≤ length bytes.now }
+    ensures ok { IfOk result (λ b. numbers ptype b
+        ≡ slice_range (numbers ptype bytes.now) range.start range.end) }
+    ensures err { IsOkUnless result Memory }
+{
+    let _len = bytes.len();
+    let width = ptype.byte_width();
+    bytes.slice(alloc, range.start * width..range.end * width)
+}

@@ -1,0 +1,142 @@
+// Why a call is refused.
+
+ghost use Rattle.std.specs.Prelude.{◌≡◌};
+ghost use Rattle.vx_base.specs.declared.errors.VortexError.TheVariants.{Memory};
+
+use std::alloc::{AllocError, AllocFailed};
+use thiserror::Error;
+
+/// Why a call is refused. Every refusal but `Memory` names a fault that stands in what was handed
+/// in; where several stand, the first in the order that the call states is answered. `Memory` may
+/// come in place of any other answer, and only where a growth was really refused.
+#[derive(Debug, Drop, PartialEq, Eq, Clone, Copy, Error)]
+pub enum VortexError {
+    #[error("memory was refused")]
+    Memory,
+    #[error("a data type or layout is not one that the call takes")]
+    MismatchedTypes,
+    #[error("a length is {found}, expected {expected}")]
+    LengthMismatch { expected: usize, found: usize },
+    #[error("the nullability does not fit")]
+    NullabilityMismatch,
+    #[error("position {index} lies past the length {len}")]
+    OutOfBounds { index: usize, len: usize },
+    #[error("row {row} is negative")]
+    Negative { row: usize },
+    #[error("a number passes its integer type")]
+    Overflow,
+    #[error("this is not implemented")]
+    NotImplemented,
+    #[error("a null stands where none may be")]
+    HasNulls,
+    #[error("no column has that name")]
+    UnknownField,
+    #[error("nothing was given")]
+    EmptyInput,
+    #[error("the data types differ")]
+    DifferingDtypes,
+    #[error("row {row} is not UTF-8")]
+    NotUtf8 { row: usize },
+    #[error("the view of row {row} names no buffer")]
+    BadBuffer { row: usize },
+    #[error("the view of row {row} starts past its buffer")]
+    BadStart { row: usize },
+    #[error("the view of row {row} ends past its buffer")]
+    BadEnd { row: usize },
+    #[error("the prefix in the view of row {row} is not that of its value")]
+    BadPrefix { row: usize },
+    #[error("the limit passes the greatest length of a buffer")]
+    LimitTooLarge,
+    #[error("the value of row {row} is longer than the limit")]
+    ValueTooLong { row: usize },
+    #[error("the lengths do not sum to the length of the heap")]
+    LengthsNotExact,
+    #[error("offset {row} is less than the one before it")]
+    FallingOffsets { row: usize },
+    #[error("the position of patch {row} is out of range")]
+    PatchOutOfRange { row: usize },
+    #[error("lists of size 0 have elements")]
+    DegenerateElements,
+}
+
+impl VortexError {
+    ghost use Rattle.vx_base.specs.Refusals.{error_number, error_name};
+
+    /// The number of the refusal, from 1 (`Memory`) to 23.
+    pub fn number(&self) -> u8
+        ensures { result ≡ error_number self.now }
+    {
+        match self {
+            VortexError::Memory => 1,
+            VortexError::MismatchedTypes => 2,
+            VortexError::LengthMismatch { .. } => 3,
+            VortexError::NullabilityMismatch => 4,
+            VortexError::OutOfBounds { .. } => 5,
+            VortexError::Negative { .. } => 6,
+            VortexError::Overflow => 7,
+            VortexError::NotImplemented => 8,
+            VortexError::HasNulls => 9,
+            VortexError::UnknownField => 10,
+            VortexError::EmptyInput => 11,
+            VortexError::DifferingDtypes => 12,
+            VortexError::NotUtf8 { .. } => 13,
+            VortexError::BadBuffer { .. } => 14,
+            VortexError::BadStart { .. } => 15,
+            VortexError::BadEnd { .. } => 16,
+            VortexError::BadPrefix { .. } => 17,
+            VortexError::LimitTooLarge => 18,
+            VortexError::ValueTooLong { .. } => 19,
+            VortexError::LengthsNotExact => 20,
+            VortexError::FallingOffsets { .. } => 21,
+            VortexError::PatchOutOfRange { .. } => 22,
+            VortexError::DegenerateElements => 23,
+        }
+    }
+
+    /// The name of the refusal, the variant's word.
+    pub fn name(&self) -> &'static str
+        ensures { result.now ≡ error_name self.now }
+    {
+        match self {
+            VortexError::Memory => "Memory",
+            VortexError::MismatchedTypes => "MismatchedTypes",
+            VortexError::LengthMismatch { .. } => "LengthMismatch",
+            VortexError::NullabilityMismatch => "NullabilityMismatch",
+            VortexError::OutOfBounds { .. } => "OutOfBounds",
+            VortexError::Negative { .. } => "Negative",
+            VortexError::Overflow => "Overflow",
+            VortexError::NotImplemented => "NotImplemented",
+            VortexError::HasNulls => "HasNulls",
+            VortexError::UnknownField => "UnknownField",
+            VortexError::EmptyInput => "EmptyInput",
+            VortexError::DifferingDtypes => "DifferingDtypes",
+            VortexError::NotUtf8 { .. } => "NotUtf8",
+            VortexError::BadBuffer { .. } => "BadBuffer",
+            VortexError::BadStart { .. } => "BadStart",
+            VortexError::BadEnd { .. } => "BadEnd",
+            VortexError::BadPrefix { .. } => "BadPrefix",
+            VortexError::LimitTooLarge => "LimitTooLarge",
+            VortexError::ValueTooLong { .. } => "ValueTooLong",
+            VortexError::LengthsNotExact => "LengthsNotExact",
+            VortexError::FallingOffsets { .. } => "FallingOffsets",
+            VortexError::PatchOutOfRange { .. } => "PatchOutOfRange",
+            VortexError::DegenerateElements => "DegenerateElements",
+        }
+    }
+}
+
+impl From<AllocError> for VortexError {
+    ghost from_gives = { λ _ e. e ≡ Memory };
+
+    fn from(_error: AllocError) -> VortexError {
+        VortexError::Memory
+    }
+}
+
+impl<T: Drop> From<AllocFailed<T>> for VortexError {
+    ghost from_gives = { λ _ e. e ≡ Memory };
+
+    fn from(_error: AllocFailed<T>) -> VortexError {
+        VortexError::Memory
+    }
+}

@@ -1,0 +1,28 @@
+//! The ground of the arrays: refusals, data types, integer types, buffers, bits and masks.
+#![tactic(auto)]
+
+mod bit_buffer;
+mod bit_buffer_mut;
+mod buffer;
+mod buffer_mut;
+mod byte_buffer;
+mod dtypes;
+mod errors;
+mod mask;
+mod native;
+mod nullability;
+mod numbers;
+mod ptypes;
+
+pub use crate::bit_buffer::BitBuffer;
+pub use crate::bit_buffer_mut::BitBufferMut;
+pub use crate::buffer::Buffer;
+pub use crate::buffer_mut::BufferMut;
+pub use crate::byte_buffer::{ByteBuffer, slice_numbers};
+pub use crate::dtypes::DType;
+pub use crate::errors::VortexError;
+pub use crate::mask::Mask;
+pub use crate::native::{NativePType, get_then_put, put_then_get};
+pub use crate::nullability::Nullability;
+pub use crate::numbers::{int_at, int_of, put_int};
+pub use crate::ptypes::PType;

@@ -1,0 +1,241 @@
+// The number types that Rust has, under one trait.
+
+ghost use Rattle.std.specs.Prelude.{◌≡◌, ◌↔◌, ◌≤ℤ◌, ℕ, ℤ, length, IsSome, IfSome, refl, unsigned_abs};
+ghost use Rattle.std.specs.Int.{w8, w16, w32, w64};
+ghost use Rattle.std.proofs.Common.{ap};
+ghost use Rattle.num_traits.specs.Ints.{signed-bounds, unsigned-bounds};
+ghost use Rattle.vx_base.specs.Integers.{byte_width, Holds, number_of, bytes_of};
+ghost use Rattle.vx_base.specs.declared.ptypes.PType.{PType};
+ghost use Rattle.vx_base.specs.declared.ptypes.PType.TheVariants.{U8, U16, U32, U64, I8, I16, I32, I64};
+
+use crate::numbers::{int_of, put_int};
+use crate::ptypes::PType;
+use num_traits::{PrimInt, cast};
+
+/// A number type of Rust that is one of the eight of `PType`.
+pub trait NativePType: PrimInt {
+    // The type, and how many bytes a number takes.
+    const PTYPE: PType;
+
+    const WIDTH: usize;
+
+    ghost PTYPE: { PType };
+
+    ghost WIDTH: { ℕ };
+
+    /// The number, which is one of the type.
+    fn as_i128(self) -> i128
+        ensures value { result ≡ Self.value self }
+        ensures holds { Holds PTYPE result };
+
+    // The numbers of Rust's type are those of its `PType`, and each stands for itself.
+    ghost width_law: { WIDTH ≡ byte_width PTYPE };
+
+    ghost fits_law: { (z : ℤ) → Self.fits z ↔ Holds PTYPE z };
+
+    ghost same_law: { (a b : Self) → Self.value a ≡ Self.value b → a ≡ b };
+
+    /// The value that is this number, if the type has it.
+    final fn from_i128(number: i128) -> Option<Self>
+        ensures some { IsSome result ↔ Holds PTYPE number }
+        ensures value { IfSome result (λ x. Self.value x ≡ number) }
+    {
+        cast(number)
+    }
+
+    /// Writes the bytes of a number, the least significant byte first.
+    final fn put_le(self, out: &mut [u8])
+        requires { length out.old ≡ WIDTH }
+        ensures bytes { out.new ≡ bytes_of PTYPE (Self.value self) }
+        ensures holds { Holds PTYPE (Self.value self) }
+    {
+        put_int(self.as_i128(), Self::PTYPE, out)
+    }
+
+    /// Reads a number from its bytes.
+    final fn get_le(bytes: &[u8]) -> Self
+        requires { length bytes.now ≡ WIDTH }
+        ensures value { Self.value result ≡ number_of PTYPE bytes.now }
+        ensures holds { Holds PTYPE (Self.value result) }
+    {
+        Self::from_i128(int_of(bytes, Self::PTYPE)).unwrap()
+    }
+}
+
+impl NativePType for u8 {
+    const PTYPE: PType = PType::U8;
+
+    const WIDTH: usize = 1;
+
+    ghost PTYPE = { U8 };
+
+    ghost WIDTH = { 1 };
+
+    fn as_i128(self) -> i128 {
+        self as i128
+    }
+
+    ghost width_law = { refl };
+
+    ghost fits_law = { unsigned-bounds 8 };
+
+    ghost same_law = { λ a b e. ap unsigned_abs e };
+}
+
+impl NativePType for u16 {
+    const PTYPE: PType = PType::U16;
+
+    const WIDTH: usize = 2;
+
+    ghost PTYPE = { U16 };
+
+    ghost WIDTH = { 2 };
+
+    fn as_i128(self) -> i128 {
+        self as i128
+    }
+
+    ghost width_law = { refl };
+
+    ghost fits_law = { unsigned-bounds 16 };
+
+    ghost same_law = { λ a b e. ap unsigned_abs e };
+}
+
+impl NativePType for u32 {
+    const PTYPE: PType = PType::U32;
+
+    const WIDTH: usize = 4;
+
+    ghost PTYPE = { U32 };
+
+    ghost WIDTH = { 4 };
+
+    fn as_i128(self) -> i128 {
+        self as i128
+    }
+
+    ghost width_law = { refl };
+
+    ghost fits_law = { unsigned-bounds 32 };
+
+    ghost same_law = { λ a b e. ap unsigned_abs e };
+}
+
+impl NativePType for u64 {
+    const PTYPE: PType = PType::U64;
+
+    const WIDTH: usize = 8;
+
+    ghost PTYPE = { U64 };
+
+    ghost WIDTH = { 8 };
+
+    fn as_i128(self) -> i128 {
+        self as i128
+    }
+
+    ghost width_law = { refl };
+
+    ghost fits_law = { unsigned-bounds 64 };
+
+    ghost same_law = { λ a b e. ap unsigned_abs e };
+}
+
+impl NativePType for i8 {
+    const PTYPE: PType = PType::I8;
+
+    const WIDTH: usize = 1;
+
+    ghost PTYPE = { I8 };
+
+    ghost WIDTH = { 1 };
+
+    fn as_i128(self) -> i128 {
+        self as i128
+    }
+
+    ghost width_law = { refl };
+
+    ghost fits_law = { signed-bounds w8 };
+
+    ghost same_law = { λ a b e. e };
+}
+
+impl NativePType for i16 {
+    const PTYPE: PType = PType::I16;
+
+    const WIDTH: usize = 2;
+
+    ghost PTYPE = { I16 };
+
+    ghost WIDTH = { 2 };
+
+    fn as_i128(self) -> i128 {
+        self as i128
+    }
+
+    ghost width_law = { refl };
+
+    ghost fits_law = { signed-bounds w16 };
+
+    ghost same_law = { λ a b e. e };
+}
+
+impl NativePType for i32 {
+    const PTYPE: PType = PType::I32;
+
+    const WIDTH: usize = 4;
+
+    ghost PTYPE = { I32 };
+
+    ghost WIDTH = { 4 };
+
+    fn as_i128(self) -> i128 {
+        self as i128
+    }
+
+    ghost width_law = { refl };
+
+    ghost fits_law = { signed-bounds w32 };
+
+    ghost same_law = { λ a b e. e };
+}
+
+impl NativePType for i64 {
+    const PTYPE: PType = PType::I64;
+
+    const WIDTH: usize = 8;
+
+    ghost PTYPE = { I64 };
+
+    ghost WIDTH = { 8 };
+
+    fn as_i128(self) -> i128 {
+        self as i128
+    }
+
+    ghost width_law = { refl };
+
+    ghost fits_law = { signed-bounds w64 };
+
+    ghost same_law = { λ a b e. e };
+}
+
+/// Writes a number and reads it again: the number is what it was.
+pub fn put_then_get<T: NativePType>(number: T, out: &mut [u8]) -> T
+    requires { length out.old ≡ T.WIDTH }
+    ensures { result ≡ number }
+{
+    number.put_le(out);
+    T::get_le(out)
+}
+
+/// Reads a number and writes it again: the bytes are what they were.
+pub fn get_then_put<T: NativePType>(bytes: &[u8], out: &mut [u8])
+    requires bytes { length bytes.now ≡ T.WIDTH }
+    requires out { length out.old ≡ T.WIDTH }
+    ensures { out.new ≡ bytes.now }
+{
+    T::get_le(bytes).put_le(out);
+}
