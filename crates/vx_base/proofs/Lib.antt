@@ -4,3 +4,4 @@ pub mod NumberLists
 pub mod PackedBits
 pub mod PackedBytes
 pub mod MaskCounts
+pub mod Positions
