@@ -5,3 +5,4 @@ pub mod PackedBits
 pub mod PackedBytes
 pub mod MaskCounts
 pub mod Positions
+pub mod Gathered

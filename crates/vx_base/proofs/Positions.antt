@@ -1,12 +1,11 @@
 -- Numbers of a type that are positions, which are never negative.
-use Rattle.std.proofs.Common.{ℕ, ◌+◌, ◌^◌, ◌*◌, ◌/◌, ◌<◌, ◌≡◌, List, [], ◌∷◌, ◌++◌, length, get_or, take, map, Bool, refl, sym, ◌∙◌, ap, subst, arith, to_z, of_z}
-use Rattle.std.specs.Prelude.{ℤ, pos, negsuc, ◌≤ℤ◌, ◌<ℤ◌, slice_range, unsigned_abs}
+use Rattle.std.proofs.Common.{ℕ, ◌^◌, ◌/◌, ◌<◌, ◌≡◌, List, length, sym, ◌∙◌, ap, subst, arith, to_z, of_z}
+use Rattle.std.specs.Prelude.{ℤ, pos, negsuc, ◌≤ℤ◌, ◌<ℤ◌, unsigned_abs}
 use Rattle.std.specs.Int.{w128}
 use Rattle.std.specs.List.{All}
 use Rattle.std.proofs.lemmas.Int.{ints, to_z_pos}
-use Rattle.std.proofs.lemmas.List.{map_push}
-use Rattle.vx_base.proofs.NumberLists.{length_numbers, get_numbers, numbers_more}
-use Rattle.vx_base.specs.Integers.{byte_width, number_of, number_at, numbers, Holds}
+use Rattle.vx_base.proofs.NumberLists.{length_numbers, get_numbers}
+use Rattle.vx_base.specs.Integers.{byte_width, number_at, numbers, Holds}
 use Rattle.vx_base.specs.declared.ptypes.PType.{PType}
 use Rattle.vx_base.specs.declared.ptypes.PType.TheVariants.{U8, U16, U32, U64, I8, I16, I32, I64}
 

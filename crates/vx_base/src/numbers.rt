@@ -45,6 +45,14 @@ pub fn put_int(number: i128, ptype: PType, out: &mut [u8])
     }
 }
 
+/// How many whole numbers of a type these bytes hold.
+#[tactic(auto, using(crate::proofs::NumberLists::length_numbers))]
+pub fn number_count(bytes: &[u8], ptype: PType) -> usize
+    ensures { result ≡ length (numbers ptype bytes.now) }
+{
+    bytes.len() / ptype.byte_width()
+}
+
 /// The number at place `i`, where the bytes hold one number after another. Asks that it is there.
 #[tactic(auto, using(crate::proofs::NumberLists::number_room))]
 pub fn int_at(bytes: &[u8], ptype: PType, i: usize) -> i128
