@@ -4,3 +4,5 @@ pub mod NumberLists
 pub mod PackedBits
 pub mod PackedBytes
 pub mod MaskCounts
+pub mod Positions
+pub mod Gathered

@@ -1,5 +1,6 @@
 pub mod Integers
 pub mod Bits
+pub mod Picks
 pub mod Masks
 pub mod Lends
 pub mod Refusals

@@ -1,0 +1,37 @@
+-- Numbers of a type that are positions, which are never negative.
+use Rattle.std.proofs.Common.{ℕ, ◌^◌, ◌/◌, ◌<◌, ◌≡◌, List, length, sym, ◌∙◌, ap, subst, arith, to_z, of_z}
+use Rattle.std.specs.Prelude.{ℤ, pos, negsuc, ◌≤ℤ◌, ◌<ℤ◌, unsigned_abs}
+use Rattle.std.specs.Int.{w128}
+use Rattle.std.specs.List.{All}
+use Rattle.std.proofs.lemmas.Int.{ints, to_z_pos}
+use Rattle.vx_base.proofs.NumberLists.{length_numbers, get_numbers}
+use Rattle.vx_base.specs.Integers.{byte_width, number_at, numbers, Holds}
+use Rattle.vx_base.specs.declared.ptypes.PType.{PType}
+use Rattle.vx_base.specs.declared.ptypes.PType.TheVariants.{U8, U16, U32, U64, I8, I16, I32, I64}
+
+-- no type has a number of more than 64 bits
+pub holds-below : (t : PType) (z : ℤ) → Holds t z → z <ℤ pos (2 ^ 64)
+holds-below U8 z h = omega (arith, ints)
+holds-below U16 z h = omega (arith, ints)
+holds-below U32 z h = omega (arith, ints)
+holds-below U64 z h = omega (arith, ints)
+holds-below I8 z h = omega (arith, ints)
+holds-below I16 z h = omega (arith, ints)
+holds-below I32 z h = omega (arith, ints)
+holds-below I64 z h = omega (arith, ints)
+
+-- a number at a place, where none of them is negative
+pub numbers-not_negative : (t : PType) (bs : List ℕ) (i : ℕ) (z : ℤ) → All (λ y. pos 0 ≤ℤ y) (numbers t bs) → i < length bs / byte_width t → z ≡ number_at t bs i → pos 0 ≤ℤ z
+numbers-not_negative t bs i z all h e =
+    let within : i < length (numbers t bs) = omega (arith, length_numbers t bs) in
+    let P : ℤ → Type 0 = λ y. pos 0 ≤ℤ y in
+    subst P (get_numbers t bs i (pos 0) h ∙ sym e) (all i (pos 0) within)
+
+-- what a cast to a position gives
+pub position_of : (z : ℤ) → pos 0 ≤ℤ z → z <ℤ pos (2 ^ 64) → pos (unsigned_abs (to_z w128 (of_z w128 z))) ≡ z
+position_of (pos n) low high = ap pos (omega (arith, ints))
+position_of (negsuc n) low high = absurd (omega (arith, ints))
+
+-- a position as a signed number of 128 bits
+pub signed_position : (n : ℕ) → n < 2 ^ 64 → to_z w128 n ≡ pos n
+signed_position n h = to_z_pos w128 n (omega arith)

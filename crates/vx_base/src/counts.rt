@@ -1,0 +1,86 @@
+// Positions and sizes, as bytes of an integer type.
+
+ghost use Rattle.std.specs.Prelude.{◌≡◌, ◌≤ℤ◌, ◌*◌, pos, length, map, IfOk, IsOkUnless};
+ghost use Rattle.std.specs.List.{All};
+ghost use Rattle.vx_base.specs.Integers.{byte_width, numbers, Holds};
+ghost use Rattle.vx_base.specs.declared.errors.VortexError.TheVariants.{Memory};
+
+use crate::byte_buffer::ByteBuffer;
+use crate::errors::VortexError;
+use crate::native::NativePType;
+use crate::numbers::put_int;
+use crate::ptypes::PType;
+use std::alloc::Global;
+
+/// The numbers that these bytes hold, as positions. Asks that none of them is negative.
+pub fn read_counts(alloc: Global, ptype: PType, bytes: &[u8]) -> Result<Vec<usize>, VortexError>
+    requires { All (λ z. pos 0 ≤ℤ z) (numbers ptype bytes.now) }
+    ensures ok { IfOk result (λ counts. map pos counts.items ≡ numbers ptype bytes.now) }
+    ensures err { IsOkUnless result Memory }
+{
+    match ptype {
+        PType::U8 => read_native::<u8>(alloc, bytes),
+        PType::U16 => read_native::<u16>(alloc, bytes),
+        PType::U32 => read_native::<u32>(alloc, bytes),
+        PType::U64 => read_native::<u64>(alloc, bytes),
+        PType::I8 => read_native::<i8>(alloc, bytes),
+        PType::I16 => read_native::<i16>(alloc, bytes),
+        PType::I32 => read_native::<i32>(alloc, bytes),
+        PType::I64 => read_native::<i64>(alloc, bytes),
+    }
+}
+
+fn read_native<T: NativePType>(alloc: Global, bytes: &[u8]) -> Result<Vec<usize>, VortexError>
+    requires { All (λ z. pos 0 ≤ℤ z) (numbers T.PTYPE bytes.now) }
+    ensures ok { IfOk result (λ counts. map pos counts.items ≡ numbers T.PTYPE bytes.now) }
+    ensures err { IsOkUnless result Memory }
+{
+    let width = T::PTYPE.byte_width();
+    let mut counts = Vec::with_capacity(alloc, bytes.len() / width)?;
+    for i in 0..bytes.len() / width {
+        let start = i * width;
+        let number = T::get_le(&bytes[start..start + width]).as_i128();
+        counts.push(number as usize)?;
+    }
+    Ok(counts)
+}
+
+/// The bytes of these positions as numbers of a type. Asks that the type holds each of them.
+pub fn write_counts(
+    alloc: Global,
+    ptype: PType,
+    counts: &[usize],
+) -> Result<ByteBuffer, VortexError>
+    requires { All (λ n. Holds ptype (pos n)) counts.now }
+    ensures ok { IfOk result (λ b. numbers ptype b ≡ map pos counts.now) }
+    ensures len { IfOk result (λ b. length b ≡ length counts.now * byte_width ptype) }
+    ensures err { IsOkUnless result Memory }
+{
+    match ptype {
+        PType::U8 => write_native::<u8>(alloc, counts),
+        PType::U16 => write_native::<u16>(alloc, counts),
+        PType::U32 => write_native::<u32>(alloc, counts),
+        PType::U64 => write_native::<u64>(alloc, counts),
+        PType::I8 => write_native::<i8>(alloc, counts),
+        PType::I16 => write_native::<i16>(alloc, counts),
+        PType::I32 => write_native::<i32>(alloc, counts),
+        PType::I64 => write_native::<i64>(alloc, counts),
+    }
+}
+
+fn write_native<T: NativePType>(alloc: Global, counts: &[usize]) -> Result<ByteBuffer, VortexError>
+    requires { All (λ n. Holds T.PTYPE (pos n)) counts.now }
+    ensures ok { IfOk result (λ b. numbers T.PTYPE b ≡ map pos counts.now) }
+    ensures len { IfOk result (λ b. length b ≡ length counts.now * byte_width T.PTYPE) }
+    ensures err { IsOkUnless result Memory }
+{
+    let width = T::PTYPE.byte_width();
+    let mut bytes = Vec::with_capacity(alloc, counts.len().saturating_mul(width))?;
+    let mut scratch = [0u8; 8];
+    for count in counts {
+        let part = &mut scratch[..width];
+        put_int(*count as i128, T::PTYPE, part);
+        bytes.extend_from_slice(part)?;
+    }
+    ByteBuffer::from_vec(alloc, bytes)
+}
