@@ -1,5 +1,5 @@
 -- What a refusal says, and which of several faults is answered.
-use Rattle.std.specs.Prelude.{◌≡◌, ◌⊎◌, ℕ, zero, suc, List, codes, Option, Some, None}
+use Rattle.std.specs.Prelude.{◌≡◌, ◌<◌, ◌⊎◌, ℕ, zero, suc, List, codes, Option, Some, None}
 use Rattle.vx_base.specs.declared.errors.VortexError.{VortexError}
 use Rattle.vx_base.specs.declared.errors.VortexError.TheVariants.{Memory, MismatchedTypes, LengthMismatch, NullabilityMismatch, OutOfBounds, Negative, Overflow, NotImplemented, HasNulls, UnknownField, EmptyInput, DifferingDtypes, NotUtf8, BadBuffer, BadStart, BadEnd, BadPrefix, LimitTooLarge, ValueTooLong, LengthsNotExact, FallingOffsets, PatchOutOfRange, DegenerateElements}
 
@@ -67,6 +67,15 @@ or_else (Some first) second = Some first
 abbrev pub first_fault : (ℕ → Option Refusal) → ℕ → Option Refusal
 first_fault fault zero = None
 first_fault fault (suc n) = or_else (first_fault fault n) (fault n)
+
+-- a fault of the first n rows stands at the least row that has one; where none is answered, no row has one
+abbrev pub IsLeastFault : (ℕ → Option Refusal) → ℕ → Option Refusal → Type 0
+IsLeastFault fault n None = (i : ℕ) → i < n → fault i ≡ None
+IsLeastFault fault n (Some r) = (i : ℕ) × (i < n) × (fault i ≡ Some r) × ((j : ℕ) → j < i → fault j ≡ None)
+
+-- the first fault is the fault of the least row that has one
+abbrev pub FirstFaultIsLeast : Type 0
+FirstFaultIsLeast = (fault : ℕ → Option Refusal) (n : ℕ) → IsLeastFault fault n (first_fault fault n)
 
 -- the number of each refusal
 abbrev pub error_number : VortexError → ℕ

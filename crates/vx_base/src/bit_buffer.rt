@@ -66,8 +66,8 @@ impl BitBuffer {
     }
 
     /// The `len` bits of these bytes from bit `offset` on, the least significant bit of each byte
-    /// first. Whole bytes before the first bit are dropped. Asks that there are enough bits, and
-    /// that they can be counted.
+    /// first. Whole bytes before the first bit are dropped. Asks that there are `offset + len`
+    /// bits, and that this sum is below 2^64. Fails only for want of memory.
     pub fn new_with_offset(
         alloc: Global,
         bytes: ByteBuffer,
@@ -83,7 +83,7 @@ impl BitBuffer {
         Ok(BitBuffer::from_parts(bytes, offset % 8, len))
     }
 
-    /// A buffer of these booleans.
+    /// A buffer of these booleans. Fails only for want of memory.
     pub fn from_bools(alloc: Global, bools: &[bool]) -> Result<BitBuffer, VortexError>
         ensures ok { IfOk result (λ b. b ≡ bools.now) }
         ensures err { IsOkUnless result Memory }
@@ -95,26 +95,28 @@ impl BitBuffer {
         bits.freeze()
     }
 
+    /// How many booleans there are.
     pub fn len(&self) -> usize
         ensures { result ≡ length self.now }
     {
         self.len
     }
 
+    /// Whether there are no booleans.
     pub fn is_empty(&self) -> bool
         ensures { IsTrue result ↔ (self.now ≡ []) }
     {
         self.len() == 0
     }
 
-    /// The bit of the first byte at which the booleans begin.
+    /// The bit of the first byte at which the booleans begin, from 0 to 7.
     pub fn offset(&self) -> usize
         ensures { result < 8 }
     {
         self.offset
     }
 
-    /// The boolean at place `i`.
+    /// The boolean at place `i`, counted from 0. Asks that there is one.
     pub fn value(&self, i: usize) -> bool
         requires { i < length self.now }
         ensures { result ≡ bool_at self.now i }
@@ -123,7 +125,8 @@ impl BitBuffer {
         (self.bytes.as_slice()[place / 8] >> (place % 8)) & 1 == 1
     }
 
-    /// The booleans of `range`, shared.
+    /// The booleans of `range`, shared. Asks that the range starts at or before its end, and ends
+    /// at or before the last boolean. Fails only for want of memory.
     pub fn slice(&self, alloc: Global, range: Range<usize>) -> Result<BitBuffer, VortexError>
         requires start_le_end { range.start ≤ range.end }
         requires in_bounds { range.end ≤ length self.now }
@@ -139,7 +142,7 @@ impl BitBuffer {
         })
     }
 
-    /// The same booleans, shared.
+    /// The same booleans, shared. Fails only for want of memory.
     pub fn try_clone(&self, alloc: Global) -> Result<BitBuffer, VortexError>
         ensures ok { IfOk result (λ b. b ≡ self.now) }
         ensures err { IsOkUnless result Memory }
@@ -169,7 +172,8 @@ impl BitBuffer {
         count
     }
 
-    /// The booleans that are true in both.
+    /// A buffer that is true at the places where both are. Asks that both are as long. Fails only
+    /// for want of memory.
     pub fn and(&self, alloc: Global, other: &BitBuffer) -> Result<BitBuffer, VortexError>
         requires { length self.now ≡ length other.now }
         ensures ok { IfOk result (λ b. b ≡ both self.now other.now) }

@@ -65,7 +65,7 @@ fn make_room(bytes: &mut Vec<u8>, len: usize) -> Result<(), VortexError>
 }
 
 impl BitBufferMut {
-    /// No booleans, with room for `capacity` of them.
+    /// No booleans, with room for `capacity` of them. Fails only for want of memory.
     pub fn with_capacity(alloc: Global, capacity: usize) -> Result<BitBufferMut, VortexError>
         ensures ok { IfOk result (λ b. b ≡ []) }
         ensures err { IsOkUnless result Memory }
@@ -76,6 +76,7 @@ impl BitBufferMut {
         })
     }
 
+    /// How many booleans there are: at most 2^63.
     pub fn len(&self) -> usize
         ensures value { result ≡ length self.now }
         ensures bound { result ≤ 2 ^ 63 }
@@ -83,7 +84,8 @@ impl BitBufferMut {
         self.len
     }
 
-    /// Adds a boolean at the end.
+    /// Adds a boolean at the end. Fails only for want of memory, also where 2^63 booleans stand,
+    /// and then the booleans are what they were.
     #[tactic(auto, using(crate::proofs::PackedBits::unpacked_push, crate::proofs::PackedBits::length_unpacked))]
     pub fn append(&mut self, value: bool) -> Result<(), VortexError>
         ensures ok { OnOk result (self.new ≡ self.old ++ value ∷ []) }
@@ -105,7 +107,7 @@ impl BitBufferMut {
         put_bit(&mut self.bytes, i, value);
     }
 
-    /// Makes the boolean at place `i` true.
+    /// Makes the boolean at place `i` true. Asks that there is one.
     pub fn set(&mut self, i: usize)
         requires { i < length self.old }
         ensures { self.new ≡ slice_set self.old i true }
@@ -113,7 +115,8 @@ impl BitBufferMut {
         self.replace(i, true);
     }
 
-    /// Makes each boolean from place `start` up to place `end` the given one.
+    /// Makes each boolean from place `start` up to, but not at, place `end` the given one. Asks that
+    /// `start` is at most `end`, and `end` at most the length.
     pub fn fill_range(&mut self, start: usize, end: usize, value: bool)
         requires start_le_end { start ≤ end }
         requires in_bounds { end ≤ length self.old }
@@ -124,7 +127,7 @@ impl BitBufferMut {
         }
     }
 
-    /// The booleans, to be shared.
+    /// The booleans, to be shared, with no copy of them. Fails only for want of memory.
     pub fn freeze(self) -> Result<BitBuffer, VortexError>
         ensures ok { IfOk result (λ b. b ≡ self) }
         ensures err { IsOkUnless result Memory }

@@ -31,7 +31,7 @@ impl<T> Model for Buffer<T> {
 }
 
 impl<T: Drop> Buffer<T> {
-    /// A buffer without items.
+    /// A buffer without items. Fails only for want of memory.
     pub fn empty(alloc: Global) -> Result<Buffer<T>, VortexError>
         ensures ok { IfOk result (λ b. b ≡ []) }
         ensures err { IsOkUnless result Memory }
@@ -39,7 +39,7 @@ impl<T: Drop> Buffer<T> {
         Buffer::from_vec(alloc, Vec::new(alloc))
     }
 
-    /// A buffer of the items of `vec`, with no copy.
+    /// A buffer of the items of `vec`, with no copy of them. Fails only for want of memory.
     pub fn from_vec(alloc: Global, vec: Vec<T>) -> Result<Buffer<T>, VortexError>
         ensures ok { IfOk result (λ b. b ≡ vec.items) }
         ensures err { IsOkUnless result Memory }
@@ -52,25 +52,29 @@ impl<T: Drop> Buffer<T> {
         })
     }
 
+    /// How many items there are.
     pub fn len(&self) -> usize
         ensures { result ≡ length self.now }
     {
         self.len
     }
 
+    /// Whether there are no items.
     pub fn is_empty(&self) -> bool
         ensures { IsTrue result ↔ (self.now ≡ []) }
     {
         self.len() == 0
     }
 
+    /// The items, to be read.
     pub fn as_slice(&self) -> &[T]
         ensures { result.now ≡ self.now }
     {
         &self.items.as_slice()[self.start..self.start + self.len]
     }
 
-    /// The items of `range`, shared.
+    /// The items of `range`, shared. Asks that the range starts at or before its end, and ends at
+    /// or before the last item. Fails only for want of memory.
     pub fn slice(&self, _alloc: Global, range: Range<usize>) -> Result<Buffer<T>, VortexError>
         requires start_le_end { range.start ≤ range.end }
         requires in_bounds { range.end ≤ length self.now }
@@ -84,7 +88,7 @@ impl<T: Drop> Buffer<T> {
         })
     }
 
-    /// The same items, shared.
+    /// The same items, shared. Fails only for want of memory.
     pub fn try_clone(&self, _alloc: Global) -> Result<Buffer<T>, VortexError>
         ensures ok { IfOk result (λ b. b ≡ self.now) }
         ensures err { IsOkUnless result Memory }
@@ -98,7 +102,7 @@ impl<T: Drop> Buffer<T> {
 }
 
 impl<T: Copy> Buffer<T> {
-    /// A buffer with a copy of these items.
+    /// A buffer with a copy of these items. Fails only for want of memory.
     pub fn copy_from(alloc: Global, items: &[T]) -> Result<Buffer<T>, VortexError>
         ensures ok { IfOk result (λ b. b ≡ items.now) }
         ensures err { IsOkUnless result Memory }
@@ -108,7 +112,7 @@ impl<T: Copy> Buffer<T> {
         Buffer::from_vec(alloc, copy)
     }
 
-    /// The item at place `i`.
+    /// The item at place `i`, counted from 0. Asks that there is one.
     pub fn value(&self, i: usize) -> T
         requires { i < length self.now }
         ensures { slice_get self.now i ≡ Some result }
@@ -118,7 +122,8 @@ impl<T: Copy> Buffer<T> {
 }
 
 impl<T: NativePType> Buffer<T> {
-    /// The numbers that these bytes hold. Bytes beyond the last whole number are left out.
+    /// The numbers that these bytes hold, the least significant byte of each first. Bytes beyond
+    /// the last whole number are left out. Fails only for want of memory.
     pub fn from_byte_buffer(alloc: Global, bytes: &ByteBuffer) -> Result<Buffer<T>, VortexError>
         ensures ok { IfOk result (λ b. map T.value b ≡ numbers T.PTYPE bytes.now) }
         ensures err { IsOkUnless result Memory }
@@ -133,7 +138,8 @@ impl<T: NativePType> Buffer<T> {
         Buffer::from_vec(alloc, items)
     }
 
-    /// The bytes of the numbers, one number after another.
+    /// The bytes of the numbers, one number after another, the least significant byte of each
+    /// first. Fails only for want of memory.
     pub fn into_byte_buffer(&self, alloc: Global) -> Result<ByteBuffer, VortexError>
         ensures ok { IfOk result (λ b. numbers T.PTYPE b ≡ map T.value self.now) }
         ensures len { IfOk result (λ b. length b ≡ length self.now * byte_width T.PTYPE) }

@@ -26,6 +26,7 @@ impl<T> Model for BufferMut<T> {
 impl<T: Drop> BufferMut<T> {
     ghost use Rattle.vx_base.specs.Lends.{lends_items};
 
+    /// No items, with room for `capacity` of them. Fails only for want of memory.
     pub fn with_capacity(alloc: Global, capacity: usize) -> Result<BufferMut<T>, VortexError>
         ensures ok { IfOk result (λ b. b ≡ []) }
         ensures err { IsOkUnless result Memory }
@@ -35,13 +36,15 @@ impl<T: Drop> BufferMut<T> {
         })
     }
 
+    /// How many items there are.
     pub fn len(&self) -> usize
         ensures { result ≡ length self.now }
     {
         self.items.len()
     }
 
-    /// Adds an item at the end.
+    /// Adds an item at the end. Fails only for want of memory, and then the items are what they
+    /// were.
     pub fn push(&mut self, item: T) -> Result<(), VortexError>
         ensures ok { OnOk result (self.new ≡ self.old ++ item ∷ []) }
         ensures err { OnErr result (self.new ≡ self.old) }
@@ -51,13 +54,14 @@ impl<T: Drop> BufferMut<T> {
         Ok(())
     }
 
+    /// The items, to be read.
     pub fn as_slice(&self) -> &[T]
         ensures { result.now ≡ self.now }
     {
         self.items.as_slice()
     }
 
-    /// The items, for writing.
+    /// The items, to be written.
     pub fn as_mut_slice(&mut self) -> &mut [T]
         ensures* writes_back { sem 𝓛 (lends_items T.row self.entry result) }
         ensures value { result.now ≡ self.old }
@@ -65,7 +69,7 @@ impl<T: Drop> BufferMut<T> {
         self.items.as_mut_slice()
     }
 
-    /// The items, to be shared.
+    /// The items, to be shared, with no copy of them. Fails only for want of memory.
     pub fn freeze(self) -> Result<Buffer<T>, VortexError>
         ensures ok { IfOk result (λ b. b ≡ self) }
         ensures err { IsOkUnless result Memory }

@@ -26,7 +26,7 @@ impl Model for ByteBuffer {
 }
 
 impl ByteBuffer {
-    /// A buffer without bytes.
+    /// A buffer without bytes. It never fails.
     pub fn empty(_alloc: Global) -> Result<ByteBuffer, VortexError>
         ensures ok { IfOk result (λ b. b ≡ []) }
         ensures err { IsOkUnless result Memory }
@@ -36,7 +36,7 @@ impl ByteBuffer {
         })
     }
 
-    /// A buffer with a copy of these bytes.
+    /// A buffer with a copy of these bytes. Fails only for want of memory.
     pub fn copy_from(alloc: Global, bytes: &[u8]) -> Result<ByteBuffer, VortexError>
         ensures ok { IfOk result (λ b. b ≡ bytes.now) }
         ensures err { IsOkUnless result Memory }
@@ -46,7 +46,7 @@ impl ByteBuffer {
         })
     }
 
-    /// A buffer of the bytes of `vec`, with no copy.
+    /// A buffer of the bytes of `vec`, with no copy of them. Fails only for want of memory.
     pub fn from_vec(_alloc: Global, vec: Vec<u8>) -> Result<ByteBuffer, VortexError>
         ensures ok { IfOk result (λ b. b ≡ vec.items) }
         ensures err { IsOkUnless result Memory }
@@ -56,6 +56,7 @@ impl ByteBuffer {
         })
     }
 
+    /// How many bytes there are: fewer than 2^63.
     pub fn len(&self) -> usize
         ensures value { result ≡ length self.now }
         ensures bound { result < 2 ^ 63 }
@@ -63,19 +64,22 @@ impl ByteBuffer {
         self.bytes.len()
     }
 
+    /// Whether there are no bytes.
     pub fn is_empty(&self) -> bool
         ensures { IsTrue result ↔ (self.now ≡ []) }
     {
         self.bytes.is_empty()
     }
 
+    /// The bytes, to be read.
     pub fn as_slice(&self) -> &[u8]
         ensures { result.now ≡ self.now }
     {
         self.bytes.as_slice()
     }
 
-    /// The bytes of `range`, shared.
+    /// The bytes of `range`, shared. Asks that the range starts at or before its end, and ends at
+    /// or before the last byte. Fails only for want of memory.
     pub fn slice(&self, _alloc: Global, range: Range<usize>) -> Result<ByteBuffer, VortexError>
         requires start_le_end { range.start ≤ range.end }
         requires in_bounds { range.end ≤ length self.now }
@@ -87,7 +91,7 @@ impl ByteBuffer {
         })
     }
 
-    /// The same bytes, shared.
+    /// The same bytes, shared. Fails only for want of memory.
     pub fn try_clone(&self, _alloc: Global) -> Result<ByteBuffer, VortexError>
         ensures ok { IfOk result (λ b. b ≡ self.now) }
         ensures err { IsOkUnless result Memory }
@@ -98,7 +102,9 @@ impl ByteBuffer {
     }
 }
 
-/// The bytes of the numbers of `range`, shared. Asks a range within the numbers.
+/// The bytes of the numbers of `range`, shared: the range counts numbers, not bytes. Asks that it
+/// starts at or before its end, and that the bytes hold that many numbers. Fails only for want of
+/// memory.
 #[tactic(auto, using(crate::proofs::NumberLists::numbers_room))]
 pub fn slice_numbers(
     alloc: Global,

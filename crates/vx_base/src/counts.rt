@@ -12,7 +12,8 @@ use crate::numbers::put_int;
 use crate::ptypes::PType;
 use std::alloc::Global;
 
-/// The numbers that these bytes hold, as positions. Asks that none of them is negative.
+/// The numbers that these bytes hold, as positions: bytes beyond the last whole number are left
+/// out. Asks that none of the numbers is negative. Fails only for want of memory.
 pub fn read_counts(alloc: Global, ptype: PType, bytes: &[u8]) -> Result<Vec<usize>, VortexError>
     requires { All (λ z. pos 0 ≤ℤ z) (numbers ptype bytes.now) }
     ensures ok { IfOk result (λ counts. map pos counts.items ≡ numbers ptype bytes.now) }
@@ -45,7 +46,8 @@ fn read_native<T: NativePType>(alloc: Global, bytes: &[u8]) -> Result<Vec<usize>
     Ok(counts)
 }
 
-/// The bytes of these positions as numbers of a type. Asks that the type holds each of them.
+/// The bytes of these positions as numbers of a type, the least significant byte of each first.
+/// Asks that the type has each of them. Fails only for want of memory.
 pub fn write_counts(
     alloc: Global,
     ptype: PType,

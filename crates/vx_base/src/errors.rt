@@ -15,12 +15,15 @@ pub enum VortexError {
     Memory,
     #[error("a data type or layout is not one that the call takes")]
     MismatchedTypes,
+    /// Both count rows.
     #[error("a length is {found}, expected {expected}")]
     LengthMismatch { expected: usize, found: usize },
     #[error("the nullability does not fit")]
     NullabilityMismatch,
+    /// A position, or the end of a range, and the length that it has to stay within.
     #[error("position {index} lies past the length {len}")]
     OutOfBounds { index: usize, len: usize },
+    /// The first such row, counted from 0 as all rows here are.
     #[error("row {row} is negative")]
     Negative { row: usize },
     #[error("a number passes its integer type")]
@@ -35,24 +38,32 @@ pub enum VortexError {
     EmptyInput,
     #[error("the data types differ")]
     DifferingDtypes,
+    /// The first such row.
     #[error("row {row} is not UTF-8")]
     NotUtf8 { row: usize },
+    /// The first such row.
     #[error("the view of row {row} names no buffer")]
     BadBuffer { row: usize },
+    /// The first such row.
     #[error("the view of row {row} starts past its buffer")]
     BadStart { row: usize },
+    /// The first such row.
     #[error("the view of row {row} ends past its buffer")]
     BadEnd { row: usize },
+    /// The first such row.
     #[error("the prefix in the view of row {row} is not that of its value")]
     BadPrefix { row: usize },
     #[error("the limit passes the greatest length of a buffer")]
     LimitTooLarge,
+    /// The first such row.
     #[error("the value of row {row} is longer than the limit")]
     ValueTooLong { row: usize },
     #[error("the lengths do not sum to the length of the heap")]
     LengthsNotExact,
+    /// The place of the first such offset.
     #[error("offset {row} is less than the one before it")]
     FallingOffsets { row: usize },
+    /// The first such patch.
     #[error("the position of patch {row} is out of range")]
     PatchOutOfRange { row: usize },
     #[error("lists of size 0 have elements")]

@@ -10,11 +10,14 @@ mod counts;
 mod dtypes;
 mod errors;
 mod gather;
+mod laws;
 mod mask;
 mod native;
 mod nullability;
 mod numbers;
 mod ptypes;
+#[cfg(test)]
+mod tests;
 
 pub use crate::bit_buffer::BitBuffer;
 pub use crate::bit_buffer_mut::BitBufferMut;
@@ -25,6 +28,7 @@ pub use crate::counts::{read_counts, write_counts};
 pub use crate::dtypes::DType;
 pub use crate::errors::VortexError;
 pub use crate::gather::{gather_bits, gather_numbers};
+pub use crate::laws::first_fault_is_least;
 pub use crate::mask::Mask;
 pub use crate::native::{NativePType, get_then_put, put_then_get};
 pub use crate::nullability::Nullability;

@@ -54,7 +54,7 @@ impl Mask {
         }
     }
 
-    /// The booleans of a bit buffer.
+    /// The booleans of a bit buffer, with no copy of them. It never fails.
     pub fn from_buffer(_alloc: Global, bits: BitBuffer) -> Result<Mask, VortexError>
         ensures ok { IfOk result (λ m. m ≡ bits) }
         ensures err { IsOkUnless result Memory }
@@ -72,6 +72,7 @@ impl Mask {
         })
     }
 
+    /// How many rows there are.
     pub fn len(&self) -> usize
         ensures { result ≡ length self.now }
     {
@@ -82,7 +83,7 @@ impl Mask {
         }
     }
 
-    /// The boolean of row `i`.
+    /// The boolean of row `i`, counted from 0. Asks that there is such a row.
     pub fn value(&self, i: usize) -> bool
         requires { i < length self.now }
         ensures { result ≡ bool_at self.now i }

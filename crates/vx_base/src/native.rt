@@ -14,9 +14,10 @@ use num_traits::{PrimInt, cast};
 
 /// A number type of Rust that is one of the eight of `PType`.
 pub trait NativePType: PrimInt {
-    // The type, and how many bytes a number takes.
+    /// The type's `PType`.
     const PTYPE: PType;
 
+    /// How many bytes a number takes.
     const WIDTH: usize;
 
     ghost PTYPE: { PType };
@@ -43,7 +44,8 @@ pub trait NativePType: PrimInt {
         cast(number)
     }
 
-    /// Writes the bytes of a number, the least significant byte first.
+    /// Writes the bytes of the number, the least significant byte first. Asks for the room of just
+    /// one number.
     final fn put_le(self, out: &mut [u8])
         requires { length out.old ≡ WIDTH }
         ensures bytes { out.new ≡ bytes_of PTYPE (Self.value self) }
@@ -52,7 +54,8 @@ pub trait NativePType: PrimInt {
         put_int(self.as_i128(), Self::PTYPE, out)
     }
 
-    /// Reads a number from its bytes.
+    /// Reads a number from its bytes, the least significant byte first. Asks for just the bytes of
+    /// one number.
     final fn get_le(bytes: &[u8]) -> Self
         requires { length bytes.now ≡ WIDTH }
         ensures value { Self.value result ≡ number_of PTYPE bytes.now }
@@ -222,7 +225,8 @@ impl NativePType for i64 {
     ghost same_law = { λ a b e. e };
 }
 
-/// Writes a number and reads it again: the number is what it was.
+/// Writes a number and reads it again: the number is what it was. Asks for the room of just one
+/// number.
 pub fn put_then_get<T: NativePType>(number: T, out: &mut [u8]) -> T
     requires { length out.old ≡ T.WIDTH }
     ensures { result ≡ number }
@@ -231,7 +235,8 @@ pub fn put_then_get<T: NativePType>(number: T, out: &mut [u8]) -> T
     T::get_le(out)
 }
 
-/// Reads a number and writes it again: the bytes are what they were.
+/// Reads a number and writes it again: the bytes are what they were. Asks for the bytes of just
+/// one number, and as much room.
 pub fn get_then_put<T: NativePType>(bytes: &[u8], out: &mut [u8])
     requires bytes { length bytes.now ≡ T.WIDTH }
     requires out { length out.old ≡ T.WIDTH }

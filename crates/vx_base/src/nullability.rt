@@ -5,7 +5,9 @@ ghost use Rattle.std.specs.Prelude.{◌≡◌, ◌||◌};
 /// Whether null may stand among the rows of a data type.
 #[derive(Clone, Copy, Debug, PartialEq, Eq)]
 pub enum Nullability {
+    /// No row is null.
     NonNullable,
+    /// A row may be null.
     Nullable,
 }
 

@@ -5,7 +5,8 @@ ghost use Rattle.vx_base.specs.Integers.{byte_width, Holds, number_of, bytes_of,
 
 use crate::ptypes::PType;
 
-/// The number that these bytes stand for, the least significant byte first.
+/// The number that these bytes stand for, the least significant byte first. Asks for just the
+/// bytes of one number.
 pub fn int_of(bytes: &[u8], ptype: PType) -> i128
     requires { length bytes.now ≡ byte_width ptype }
     ensures value { result ≡ number_of ptype bytes.now }
@@ -27,7 +28,8 @@ pub fn int_of(bytes: &[u8], ptype: PType) -> i128
     }
 }
 
-/// Writes the bytes of a number, the least significant byte first.
+/// Writes the bytes of a number, the least significant byte first. Asks that the type has the
+/// number, and for the room of just one number.
 pub fn put_int(number: i128, ptype: PType, out: &mut [u8])
     requires room { length out.old ≡ byte_width ptype }
     requires holds { Holds ptype number }
@@ -53,7 +55,8 @@ pub fn number_count(bytes: &[u8], ptype: PType) -> usize
     bytes.len() / ptype.byte_width()
 }
 
-/// The number at place `i`, where the bytes hold one number after another. Asks that it is there.
+/// The number at place `i`, counted from 0, where the bytes hold one number after another. Asks
+/// that they hold more than `i` numbers.
 #[tactic(auto, using(crate::proofs::NumberLists::number_room))]
 pub fn int_at(bytes: &[u8], ptype: PType, i: usize) -> i128
     requires { i < length (numbers ptype bytes.now) }

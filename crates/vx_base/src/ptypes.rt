@@ -8,13 +8,21 @@ use std::fmt;
 /// A type of whole numbers, by its width in bits and whether it has a sign.
 #[derive(Clone, Copy, Debug, PartialEq, Eq, Hash)]
 pub enum PType {
+    /// 8 bits, no sign.
     U8,
+    /// 16 bits, no sign.
     U16,
+    /// 32 bits, no sign.
     U32,
+    /// 64 bits, no sign.
     U64,
+    /// 8 bits with a sign.
     I8,
+    /// 16 bits with a sign.
     I16,
+    /// 32 bits with a sign.
     I32,
+    /// 64 bits with a sign.
     I64,
 }
 
@@ -31,6 +39,7 @@ impl PType {
         }
     }
 
+    /// Whether the type has no sign.
     pub fn is_unsigned_int(self) -> bool
         ensures { result ≡ is_unsigned self }
     {

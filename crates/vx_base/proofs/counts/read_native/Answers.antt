@@ -1,7 +1,7 @@
-use Rattle.std.proofs.Common.{rules, ◌≡◌, ◌≤ℤ◌, ◌*◌, pos, length, map, IfOk, IsOkUnless, ℕ, ◌+◌, ◌-◌, ◌<◌, ◌≤◌, ◌/◌, ◌%◌, Bool, true, false, nat_eq, nat_lt, List, [], ◌∷◌, ◌++◌, slice_index_or, slice_set, bit_and, bit_or, Fits, w8, w32, w64, Bor, MutBor, ℤ, ◌+ℤ◌, ◌-ℤ◌, ◌*ℤ◌, ◌<ℤ◌, FitsSigned, to_z, of_z, ap, ◌∙◌, sym, arith, take}
+use Rattle.std.proofs.Common.{rules, ◌≡◌, ◌≤ℤ◌, ◌*◌, pos, length, ◌+◌, ◌-◌, ◌/◌, ap, ◌∙◌, sym, arith, take}
 use Rattle.std.proofs.lemmas.Int.{ints}
-use Rattle.std.proofs.lemmas.List.{map_push, take_all}
-use Rattle.vx_base.specs.Integers.{byte_width, numbers, Holds}
+use Rattle.std.proofs.lemmas.List.{map_push}
+use Rattle.vx_base.specs.Integers.{byte_width, numbers}
 use Rattle.vx_base.proofs.NumberLists.{numbers_more, numbers_all}
 use Rattle.vx_base.proofs.Positions.{holds-below, numbers-not_negative, position_of}
 use Rattle.vx_base.proofs.counts.read_native.Goals as goal
