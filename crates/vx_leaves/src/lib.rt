@@ -1,0 +1,9 @@
+//! Typed arrays of truth values and of whole numbers.
+#![tactic(auto)]
+
+mod bool_array;
+mod checks;
+mod primitive_array;
+
+pub use crate::bool_array::BoolArray;
+pub use crate::primitive_array::PrimitiveArray;

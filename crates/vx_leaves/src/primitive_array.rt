@@ -1,0 +1,129 @@
+// Arrays of whole numbers.
+
+ghost use Rattle.std.specs.Prelude.{◌≡◌, ◌==◌, ◌*◌, true, false, None, length, map, IfOk, IfErr, IsOkUnless};
+ghost use Rattle.vx_base.specs.DTypes.{dtype_meaning};
+ghost use Rattle.vx_base.specs.Refusals.{IsMemoryOr};
+ghost use Rattle.vx_base.specs.Integers.{byte_width, numbers};
+ghost use Rattle.vx_base.specs.declared.errors.VortexError.TheVariants.{Memory};
+ghost use Rattle.vx_tree.specs.Formed.{ValidFits};
+ghost use Rattle.vx_tree.specs.Tree.{primitive};
+ghost use Rattle.vx_tree.specs.Meaning.{tree_len, kind_of};
+ghost use Rattle.vx_tree.specs.Parts.{valid_of};
+ghost use Rattle.vx_leaves.specs.Leaves.{is_primitive, validity_fault, IsPrimitive};
+
+use crate::checks::check_validity;
+use std::alloc::Global;
+use std::marker::Model;
+use vx_base::{Buffer, ByteBuffer, DType, NativePType, PType, VortexError};
+use vx_tree::{ArrayRef, Layout, Validity};
+
+/// An array of whole numbers of one type, in their bytes.
+#[derive(Drop)]
+pub struct PrimitiveArray {
+    array: ArrayRef,
+}
+
+impl Model for PrimitiveArray {
+    ghost use Rattle.std.specs.Prelude.{◌≡◌, true};
+    ghost use Rattle.vx_tree.specs.Tree.{Tree, tree_code};
+    ghost use Rattle.vx_leaves.specs.Leaves.{is_primitive};
+
+    ghost Value = { Tree };
+
+    ghost coded = { tree_code };
+
+    ghost view = { λ a. a.array };
+
+    ghost invariant = { λ a. is_primitive a.array ≡ true };
+}
+
+impl PrimitiveArray {
+    /// The array of these numbers, null where the validity is false. Refuses `MismatchedTypes` where
+    /// the validity has an array that is not one of plain booleans, then `LengthMismatch` where it
+    /// has not one row a number.
+    pub fn try_new<T: NativePType + Drop>(
+        alloc: Global,
+        buffer: Buffer<T>,
+        validity: Validity,
+    ) -> Result<PrimitiveArray, VortexError>
+        ensures parts { IfOk result (IsPrimitive T.PTYPE (map T.value buffer) (valid_of validity)) }
+        ensures accepted { IfOk result (λ _. validity_fault (valid_of validity) (length buffer) ≡ None) }
+        ensures refused { IfErr result (IsMemoryOr (validity_fault (valid_of validity) (length buffer))) }
+    {
+        check_validity(&validity, buffer.len())?;
+        let bytes = buffer.into_byte_buffer(alloc)?;
+        primitive_array(alloc, T::PTYPE, bytes, buffer.len(), validity)
+    }
+
+    /// How many rows there are.
+    pub fn len(&self) -> usize
+        ensures { result ≡ tree_len self.now }
+    {
+        self.array.len()
+    }
+
+    /// Whether there is no row.
+    pub fn is_empty(&self) -> bool
+        ensures { result ≡ (tree_len self.now == 0) }
+    {
+        self.array.is_empty()
+    }
+
+    /// What the rows are.
+    pub fn dtype(&self) -> &DType
+        ensures { dtype_meaning result.now ≡ kind_of self.now }
+    {
+        self.array.dtype()
+    }
+
+    /// The array, whatever its layout.
+    pub fn as_array(&self) -> &ArrayRef
+        ensures { result.now ≡ self.now }
+    {
+        &self.array
+    }
+
+    /// The array, whatever its layout.
+    pub fn into_array(self) -> ArrayRef
+        ensures { result ≡ self }
+    {
+        let PrimitiveArray { array } = self;
+        array
+    }
+
+    /// The array as one of whole numbers; an array of another layout comes back.
+    pub fn try_from_array(array: ArrayRef) -> Result<PrimitiveArray, ArrayRef>
+        ensures own { IfOk result (λ a. (a ≡ array) × (is_primitive array ≡ true)) }
+        ensures other { IfErr result (λ a. (a ≡ array) × (is_primitive array ≡ false)) }
+    {
+        if matches!(array.layout(), Layout::Primitive { .. }) {
+            return Ok(PrimitiveArray { array });
+        }
+        Err(array)
+    }
+}
+
+// The array of the numbers that these bytes hold.
+fn primitive_array(
+    alloc: Global,
+    ptype: PType,
+    bytes: ByteBuffer,
+    len: usize,
+    validity: Validity,
+) -> Result<PrimitiveArray, VortexError>
+    requires whole { length bytes ≡ len * byte_width ptype }
+    requires count { length (numbers ptype bytes) ≡ len }
+    requires fits { ValidFits (valid_of validity) len }
+    ensures parts { IfOk result (λ a. a ≡ primitive ptype bytes (valid_of validity)) }
+    ensures err { IsOkUnless result Memory }
+{
+    let array = ArrayRef::from_parts(
+        alloc,
+        Layout::Primitive {
+            ptype,
+            bytes,
+            validity,
+        },
+    )?;
+    Ok(PrimitiveArray { array })
+}
