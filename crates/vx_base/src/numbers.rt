@@ -7,6 +7,7 @@ use crate::ptypes::PType;
 
 /// The number that these bytes stand for, the least significant byte first. Asks for just the
 /// bytes of one number.
+#[inline]
 pub fn int_of(bytes: &[u8], ptype: PType) -> i128
     requires { length bytes.now ≡ byte_width ptype }
     ensures value { result ≡ number_of ptype bytes.now }
@@ -30,6 +31,7 @@ pub fn int_of(bytes: &[u8], ptype: PType) -> i128
 
 /// Writes the bytes of a number, the least significant byte first. Asks that the type has the
 /// number, and for the room of just one number.
+#[inline]
 pub fn put_int(number: i128, ptype: PType, out: &mut [u8])
     requires room { length out.old ≡ byte_width ptype }
     requires holds { Holds ptype number }
@@ -49,6 +51,7 @@ pub fn put_int(number: i128, ptype: PType, out: &mut [u8])
 
 /// The number at place `i`, counted from 0, where the bytes hold one number after another. Asks
 /// that they hold more than `i` numbers.
+#[inline]
 pub fn int_at(bytes: &[u8], ptype: PType, i: usize) -> i128
     requires { (i + 1) * byte_width ptype ≤ length bytes.now }
     ensures value { result ≡ number_at ptype bytes.now i }
