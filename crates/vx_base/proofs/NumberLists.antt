@@ -2,7 +2,7 @@
 use Rattle.std.proofs.Common.{ℕ, ◌+◌, ◌-◌, ◌*◌, ◌/◌, ◌<◌, ◌≤◌, ◌≡◌, List, [], ◌∷◌, ◌++◌, length, get_or, take, drop, map, refl, sym, ◌∙◌, ap, zero-add, arith}
 use Rattle.std.specs.Prelude.{ℤ, pos, slice_range}
 use Rattle.std.specs.List.{range_with_len}
-use Rattle.std.proofs.Math.Nat.{mul-le-mul_right}
+use Rattle.std.proofs.Math.Nat.{mul-le-mul_right, div-mul-le_self, add-mul}
 use Rattle.std.proofs.lemmas.Nat.{div-mul-add, le-div}
 use Rattle.std.proofs.lemmas.List.{take_more, take_all, drop_at, drop-append-le, take-append-le, length-append, length-drop, drop-drop, drop-take, take-take}
 use Rattle.std.proofs.lemmas.List.FromFn.{length-map-range_with_len, get_or-map-range_with_len, map-range_with_len_more}
@@ -144,3 +144,31 @@ pub numbers_between : (t : PType) (bs : List ℕ) (from to : ℕ) → from ≤ t
 numbers_between t bs from to le within =
     let end : from + (to - from) ≡ to = omega arith in
     rw end at (numbers_part t bs from (to - from) (rw end within))
+
+-- where a number is one of those that bytes hold, its bytes are there
+pub number_room : (t : PType) (bs : List ℕ) (i : ℕ) → i < length (numbers t bs) → i * byte_width t + byte_width t ≤ length bs
+number_room t bs i h =
+    let within : i + 1 ≤ length bs / byte_width t = omega (arith, length_numbers t bs) in
+    let scaled : (i + 1) * byte_width t ≤ length bs / byte_width t * byte_width t = mul-le-mul_right (byte_width t) within in
+    omega (arith, scaled, div-mul-le_self (length bs) (byte_width t))
+
+pub numbers_room : (t : PType) (bs : List ℕ) (n : ℕ) → n ≤ length (numbers t bs) → n * byte_width t ≤ length bs
+numbers_room t bs n h =
+    let within : n ≤ length bs / byte_width t = omega (arith, length_numbers t bs) in
+    let scaled : n * byte_width t ≤ length bs / byte_width t * byte_width t = mul-le-mul_right (byte_width t) within in
+    omega (arith, scaled, div-mul-le_self (length bs) (byte_width t))
+
+-- a number that is read from its bytes
+pub number_read : (t : PType) (bs : List ℕ) (i : ℕ) (z : ℤ) → i < length (numbers t bs) → z ≡ number_of t (slice_range bs (i * byte_width t) (i * byte_width t + byte_width t)) → z ≡ get_or (numbers t bs) i (pos 0)
+number_read t bs i z h e =
+    let size : i * byte_width t + byte_width t - i * byte_width t ≡ byte_width t = omega arith in
+    rw size at e ∙ sym (get_numbers t bs i (pos 0) (omega (arith, length_numbers t bs)))
+
+-- how many bytes a part of the numbers has
+pub numbers_long : (t : PType) (bs : List ℕ) (from to : ℕ) → from ≤ to → to * byte_width t ≤ length bs
+    → length (slice_range bs (from * byte_width t) (to * byte_width t)) ≡ (to - from) * byte_width t
+numbers_long t bs from to le within =
+    let end : from + (to - from) ≡ to = omega arith in
+    let start : from * byte_width t ≤ to * byte_width t = mul-le-mul_right (byte_width t) le in
+    let split : from * byte_width t + (to - from) * byte_width t ≡ to * byte_width t = sym (ap (λ (m : ℕ). m * byte_width t) (sym end) ∙ add-mul from (to - from) (byte_width t)) in
+    length_part bs (from * byte_width t) (to * byte_width t) start within ∙ omega (arith, split)

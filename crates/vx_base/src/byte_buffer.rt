@@ -1,6 +1,6 @@
 // A shared run of bytes.
 
-ghost use Rattle.std.specs.Prelude.{◌≡◌, ◌≤◌, ◌<◌, ◌^◌, ◌*◌, ◌↔◌, [], length, slice_range, IsTrue, IfOk, IsOkUnless};
+ghost use Rattle.std.specs.Prelude.{◌≡◌, ◌≤◌, ◌<◌, ◌^◌, ◌*◌, ◌-◌, ◌↔◌, [], length, slice_range, IsTrue, IfOk, IsOkUnless};
 ghost use Rattle.vx_base.specs.Integers.{byte_width, numbers};
 ghost use Rattle.vx_base.specs.declared.errors.VortexError.TheVariants.{Memory};
 
@@ -103,8 +103,9 @@ impl ByteBuffer {
 }
 
 /// The bytes of the numbers of `range`, shared: the range counts numbers, not bytes. Asks that it
-/// starts at or before its end, and that the bytes hold that many numbers. Fails only for want of
+/// starts at or before its end, and ends at or before the last number. Fails only for want of
 /// memory.
+#[tactic(auto, using(crate::proofs::NumberLists::numbers_room))]
 pub fn slice_numbers(
     alloc: Global,
     bytes: &ByteBuffer,
@@ -112,9 +113,10 @@ pub fn slice_numbers(
     range: Range<usize>,
 ) -> Result<ByteBuffer, VortexError>
     requires start_le_end { range.start ≤ range.end }
-    requires in_bounds { range.end * byte_width ptype ≤ length bytes.now }
+    requires in_bounds { range.end ≤ length (numbers ptype bytes.now) }
     ensures ok { IfOk result (λ b. numbers ptype b
         ≡ slice_range (numbers ptype bytes.now) range.start range.end) }
+    ensures len { IfOk result (λ b. length b ≡ (range.end - range.start) * byte_width ptype) }
     ensures err { IsOkUnless result Memory }
 {
     let _len = bytes.len();

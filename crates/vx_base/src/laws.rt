@@ -6,5 +6,4 @@ ghost use Rattle.vx_base.specs.Refusals.{FirstFaultIsLeast};
 /// just where no row has one.
 pub fn first_fault_is_least()
     ensures { FirstFaultIsLeast }
-{
-}
+{}

@@ -32,5 +32,5 @@ pub use crate::laws::first_fault_is_least;
 pub use crate::mask::Mask;
 pub use crate::native::{NativePType, get_then_put, put_then_get};
 pub use crate::nullability::Nullability;
-pub use crate::numbers::{int_at, int_of, put_int};
+pub use crate::numbers::{int_at, int_of, number_count, put_int};
 pub use crate::ptypes::PType;

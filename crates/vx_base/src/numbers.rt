@@ -1,7 +1,7 @@
 // Numbers of a type that is known when the program runs, as bytes.
 
-ghost use Rattle.std.specs.Prelude.{◌≡◌, ◌+◌, ◌*◌, ◌≤◌, length};
-ghost use Rattle.vx_base.specs.Integers.{byte_width, Holds, number_of, bytes_of, number_at};
+ghost use Rattle.std.specs.Prelude.{◌≡◌, ◌<◌, length, pos, slice_index_or};
+ghost use Rattle.vx_base.specs.Integers.{byte_width, Holds, number_of, bytes_of, numbers};
 
 use crate::ptypes::PType;
 
@@ -49,12 +49,22 @@ pub fn put_int(number: i128, ptype: PType, out: &mut [u8])
     }
 }
 
+/// How many whole numbers of a type these bytes hold.
+#[tactic(auto, using(crate::proofs::NumberLists::length_numbers))]
+#[inline]
+pub fn number_count(bytes: &[u8], ptype: PType) -> usize
+    ensures { result ≡ length (numbers ptype bytes.now) }
+{
+    bytes.len() / ptype.byte_width()
+}
+
 /// The number at place `i`, counted from 0, where the bytes hold one number after another. Asks
-/// that they hold more than `i` numbers.
+/// that it is there.
+#[tactic(auto, using(crate::proofs::NumberLists::number_room))]
 #[inline]
 pub fn int_at(bytes: &[u8], ptype: PType, i: usize) -> i128
-    requires { (i + 1) * byte_width ptype ≤ length bytes.now }
-    ensures value { result ≡ number_at ptype bytes.now i }
+    requires { i < length (numbers ptype bytes.now) }
+    ensures value { result ≡ slice_index_or (numbers ptype bytes.now) i (pos 0) }
     ensures holds { Holds ptype result }
 {
     let width = ptype.byte_width();

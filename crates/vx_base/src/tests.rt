@@ -3,7 +3,7 @@
 use crate::{
     BitBuffer, BitBufferMut, Buffer, BufferMut, ByteBuffer, DType, Mask, NativePType, Nullability,
     PType, VortexError, first_fault_is_least, gather_bits, gather_numbers, get_then_put, int_at,
-    int_of, put_int, put_then_get, read_counts, slice_numbers, write_counts,
+    int_of, number_count, put_int, put_then_get, read_counts, slice_numbers, write_counts,
 };
 
 // ---- integer types
@@ -25,7 +25,10 @@ fn ranges_of_types(rt: HostRuntime) {
 
 #[test]
 fn types_print(rt: HostRuntime) -> Result<(), std::test::Fail> {
-    assert_eq!(rt; format!(in rt.alloc(); "{} {}", PType::U8, PType::I64)?.as_str(), "u8 i64");
+    assert_eq!(rt;
+        format!(in rt.alloc(); "{} {}", PType::U8, PType::I64)?.as_str(),
+        "u8 i64"
+    );
     Ok(())
 }
 
@@ -37,7 +40,15 @@ fn number_of_bytes(rt: HostRuntime) {
 
 #[test]
 fn number_at_place(rt: HostRuntime) {
-    assert_eq!(rt; int_at(&[0x01, 0xff, 0xfe, 0xff, 0x00, 0x80], PType::I16, 2), -32768);
+    assert_eq!(rt;
+        int_at(&[0x01, 0xff, 0xfe, 0xff, 0x00, 0x80], PType::I16, 2),
+        -32768
+    );
+}
+
+#[test]
+fn count_of_numbers(rt: HostRuntime) {
+    assert_eq!(rt; number_count(&[1, 2, 3, 4, 5], PType::I16), 2);
 }
 
 #[test]
@@ -79,9 +90,20 @@ fn refusals_below_twelve(rt: HostRuntime) {
     for (refusal, number, name) in [
         (VortexError::Memory, 1, "Memory"),
         (VortexError::MismatchedTypes, 2, "MismatchedTypes"),
-        (VortexError::LengthMismatch { expected: 1, found: 2 }, 3, "LengthMismatch"),
+        (
+            VortexError::LengthMismatch {
+                expected: 1,
+                found: 2,
+            },
+            3,
+            "LengthMismatch",
+        ),
         (VortexError::NullabilityMismatch, 4, "NullabilityMismatch"),
-        (VortexError::OutOfBounds { index: 1, len: 1 }, 5, "OutOfBounds"),
+        (
+            VortexError::OutOfBounds { index: 1, len: 1 },
+            5,
+            "OutOfBounds",
+        ),
         (VortexError::Negative { row: 0 }, 6, "Negative"),
         (VortexError::Overflow, 7, "Overflow"),
         (VortexError::NotImplemented, 8, "NotImplemented"),
@@ -89,7 +111,10 @@ fn refusals_below_twelve(rt: HostRuntime) {
         (VortexError::UnknownField, 10, "UnknownField"),
         (VortexError::EmptyInput, 11, "EmptyInput"),
     ] {
-        assert!(rt; refusal.number() == number && refusal.name() == name, "at {number}");
+        assert!(rt;
+            refusal.number() == number && refusal.name() == name,
+            "at {number}"
+        );
     }
 }
 
@@ -106,17 +131,30 @@ fn refusals_from_twelve(rt: HostRuntime) {
         (VortexError::ValueTooLong { row: 0 }, 19, "ValueTooLong"),
         (VortexError::LengthsNotExact, 20, "LengthsNotExact"),
         (VortexError::FallingOffsets { row: 0 }, 21, "FallingOffsets"),
-        (VortexError::PatchOutOfRange { row: 0 }, 22, "PatchOutOfRange"),
+        (
+            VortexError::PatchOutOfRange { row: 0 },
+            22,
+            "PatchOutOfRange",
+        ),
         (VortexError::DegenerateElements, 23, "DegenerateElements"),
     ] {
-        assert!(rt; refusal.number() == number && refusal.name() == name, "at {number}");
+        assert!(rt;
+            refusal.number() == number && refusal.name() == name,
+            "at {number}"
+        );
     }
 }
 
 #[test]
 fn refusals_print(rt: HostRuntime) -> Result<(), std::test::Fail> {
-    let refusal = VortexError::LengthMismatch { expected: 3, found: 2 };
-    assert_eq!(rt; format!(in rt.alloc(); "{refusal}")?.as_str(), "a length is 2, expected 3");
+    let refusal = VortexError::LengthMismatch {
+        expected: 3,
+        found: 2,
+    };
+    assert_eq!(rt;
+        format!(in rt.alloc(); "{refusal}")?.as_str(),
+        "a length is 2, expected 3"
+    );
     Ok(())
 }
 
@@ -141,7 +179,11 @@ fn nullability_of_data_types(rt: HostRuntime) {
     assert!(rt; !binary.is_nullable() && binary.nullability() == Nullability::NonNullable);
     let nullable = binary.union_nullability(Nullability::Nullable);
     assert!(rt; nullable.is_nullable());
-    assert!(rt; !nullable.with_nullability(Nullability::NonNullable).is_nullable());
+    assert!(rt;
+        !nullable
+            .with_nullability(Nullability::NonNullable)
+            .is_nullable()
+    );
 }
 
 #[test]
@@ -255,7 +297,12 @@ fn numbers_from_positions(rt: HostRuntime) -> Result<(), VortexError> {
 
 #[test]
 fn picked_numbers(rt: HostRuntime) -> Result<(), VortexError> {
-    let picked = gather_numbers(rt.alloc(), PType::U16, &[1, 0, 0, 2], &[Some(1), None, Some(0)])?;
+    let picked = gather_numbers(
+        rt.alloc(),
+        PType::U16,
+        &[1, 0, 0, 2],
+        &[Some(1), None, Some(0)],
+    )?;
     assert!(rt; picked.as_slice() == [0, 2, 0, 0, 1, 0].as_slice());
     Ok(())
 }
