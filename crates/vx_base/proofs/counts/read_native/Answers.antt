@@ -1,7 +1,7 @@
-use Rattle.std.proofs.Common.{rules, ◌≡◌, ◌≤ℤ◌, ◌*◌, pos, length, ◌+◌, ◌-◌, ◌/◌, ap, ◌∙◌, sym, arith, take}
+use Rattle.std.proofs.Common.{rules, ◌≡◌, ◌≤ℤ◌, ◌*◌, pos, map, ◌+◌, ◌-◌, ap, ◌∙◌, sym, arith}
 use Rattle.std.proofs.lemmas.Int.{ints}
 use Rattle.std.proofs.lemmas.List.{map_push}
-use Rattle.vx_base.specs.Integers.{byte_width, numbers}
+use Rattle.vx_base.specs.Integers.{byte_width}
 use Rattle.vx_base.proofs.NumberLists.{numbers_more, numbers_end}
 use Rattle.vx_base.proofs.Positions.{holds-below, numbers-not_negative, position_of}
 use Rattle.vx_base.proofs.counts.read_native.Goals as goal

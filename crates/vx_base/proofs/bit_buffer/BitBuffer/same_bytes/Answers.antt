@@ -1,4 +1,4 @@
-use Rattle.std.proofs.Common.{ℕ, ◌≡◌, ◌≤◌, ◌<◌, ◌+◌, ◌*◌, ◌/◌, List, length, take, drop, sym, ap, ◌∙◌, arith}
+use Rattle.std.proofs.Common.{ℕ, ◌≡◌, ◌+◌, ◌*◌, ◌/◌, List, length, take, drop, sym, ap, ◌∙◌, arith}
 use lib.Lanes.{mask_l}
 use Rattle.vx_base.specs.Bits.{byte_from}
 use Rattle.vx_base.proofs.PackedBits.{length_unpacked}
