@@ -232,7 +232,8 @@ impl NativePType for i64 {
 /// number.
 pub fn put_then_get<T: NativePType>(number: T, out: &mut [u8]) -> T
     requires { length out.old ≡ T.WIDTH }
-    ensures { result ≡ number }
+    ensures value { result ≡ number }
+    ensures bytes { out.new ≡ bytes_of T.PTYPE (T.value number) }
 {
     number.put_le(out);
     T::get_le(out)
