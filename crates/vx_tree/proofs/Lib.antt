@@ -1,0 +1,4 @@
+pub mod Masks
+pub mod Indices
+pub mod Sliced
+pub mod Taken

@@ -1,0 +1,31 @@
+-- The masks of validities, and the bits of plain booleans.
+use Rattle.std.proofs.Common.{ℕ, ◌≡◌, Bool, true, false, List, length, map, replicate, refl, sym, ◌∙◌}
+use Rattle.std.specs.List.{range_with_len}
+use Rattle.std.proofs.lemmas.List.FromFn.{fill_by_all}
+use Rattle.std.proofs.lemmas.List.{get_or-replicate, length-replicate}
+use Rattle.vx_base.specs.Rows.{truth_of}
+use Rattle.vx_base.specs.Kinds.{booleans}
+use Rattle.vx_tree.specs.Tree.{Tree, bools, Valid, non_nullable, all_valid, all_invalid, by_array}
+use Rattle.vx_tree.specs.Meaning.{row_at, tree_len, kind_of, is_valid_at, valid_mask}
+
+-- a constant state gives the same boolean for each row
+pub mask_of_constant : (v : Valid) (n : ℕ) (b : Bool) → ((i : ℕ) → is_valid_at v i ≡ b) → replicate n b ≡ valid_mask v n
+mask_of_constant v n b same =
+    fill_by_all (is_valid_at v) (replicate n b) n b (length-replicate n b) (λ i l. get_or-replicate n i b b l ∙ sym (same i))
+
+pub all_true_mask : (v : Valid) (n : ℕ) → v ≡ non_nullable → replicate n true ≡ valid_mask v n
+all_true_mask v n e = mask_of_constant v n true (λ i. rw e refl)
+
+pub all_valid_mask : (v : Valid) (n : ℕ) → v ≡ all_valid → replicate n true ≡ valid_mask v n
+all_valid_mask v n e = mask_of_constant v n true (λ i. rw e refl)
+
+pub all_invalid_mask : (v : Valid) (n : ℕ) → v ≡ all_invalid → replicate n false ≡ valid_mask v n
+all_invalid_mask v n e = mask_of_constant v n false (λ i. rw e refl)
+
+-- plain booleans are their bits
+pub bits_are_truths : (t : Tree) (bits : List Bool) (v : Valid) → t ≡ bools bits v → kind_of t ≡ booleans false
+    → bits ≡ map (λ i. truth_of (row_at t i)) (range_with_len 0 (tree_len t))
+bits_are_truths t bits non_nullable e k = rw e (fill_by_all (λ i. truth_of (row_at (bools bits non_nullable) i)) bits (length bits) false refl (λ i l. refl))
+bits_are_truths t bits all_valid e k = let h = rw e at k in cc
+bits_are_truths t bits all_invalid e k = let h = rw e at k in cc
+bits_are_truths t bits (by_array m) e k = let h = rw e at k in cc

@@ -1,0 +1,74 @@
+-- Which fault a call on an array answers with, where several stand.
+use Rattle.std.specs.Prelude.{◌*◌, ◌^◌, ℕ, pos, negsuc, Option, Some, None, nat_lt, ◌==◌, if◌then◌else◌}
+use Rattle.vx_base.specs.Refusals.{Refusal, mismatched_types, length_mismatch, out_of_bounds, negative, overflow, or_else, first_fault}
+use Rattle.vx_base.specs.Rows.{Row, null, boolean, whole, bytes, text, items, record_of}
+use Rattle.vx_base.specs.Kinds.{is_integers, is_plain_booleans}
+use Rattle.vx_tree.specs.Tree.{Tree, bools, primitive, constant, dictionary, fixed_list, list_view, structure, view_array, Trees, no_trees, tree, Valid, non_nullable, all_valid, all_invalid, by_array}
+use Rattle.vx_tree.specs.Meaning.{tree_len, kind_of, row_at}
+
+-- a row past the end
+abbrev pub position_fault : ℕ → ℕ → Option Refusal
+position_fault len i = if nat_lt i len then None else Some (out_of_bounds i)
+
+-- the range of a slice: first its end, then its start
+abbrev pub slice_fault : ℕ → ℕ → ℕ → Option Refusal
+slice_fault len start end =
+    if nat_lt len end then Some (out_of_bounds end) else (if nat_lt end start then Some (out_of_bounds start) else None)
+
+-- a validity array that is not one of plain booleans
+abbrev pub valid_type_fault : Valid → Option Refusal
+valid_type_fault non_nullable = None
+valid_type_fault all_valid = None
+valid_type_fault all_invalid = None
+valid_type_fault (by_array t) = if is_plain_booleans (kind_of t) then None else Some mismatched_types
+
+-- the length of the validity array, where there is one
+abbrev pub valid_len : Valid → Option ℕ
+valid_len non_nullable = None
+valid_len all_valid = None
+valid_len all_invalid = None
+valid_len (by_array t) = Some (tree_len t)
+
+-- a validity array of another length
+abbrev pub valid_len_fault : Valid → ℕ → Option Refusal
+valid_len_fault non_nullable n = None
+valid_len_fault all_valid n = None
+valid_len_fault all_invalid n = None
+valid_len_fault (by_array t) n = if tree_len t == n then None else Some length_mismatch
+
+-- row i of the indices, as a position of len rows: a null is none
+abbrev pub index_fault : ℕ → ℕ → Row → Option Refusal
+index_fault len i null = None
+index_fault len i (boolean b) = None
+index_fault len i (whole (pos k)) = if nat_lt k len then None else Some (out_of_bounds k)
+index_fault len i (whole (negsuc k)) = Some (negative i)
+index_fault len i (bytes bs) = None
+index_fault len i (text bs) = None
+index_fault len i (items rs) = None
+index_fault len i (record_of fs) = None
+
+-- the first row of the indices that is no position of len rows
+abbrev pub indices_fault : ℕ → Tree → Option Refusal
+indices_fault len indices = first_fault (λ i. index_fault len i (row_at indices i)) (tree_len indices)
+
+-- n rows of an array need more elements than can be counted: of a list of fixed size, the array itself or one reached
+-- through columns and elements of fixed-size lists
+abbrev mutual
+  pub take_overflow : Tree → ℕ → Option Refusal
+  take_overflow (bools bits v) n = None
+  take_overflow (primitive t bs v) n = None
+  take_overflow (constant k r m) n = None
+  take_overflow (dictionary c v f) n = None
+  take_overflow (fixed_list e k v m) n = if nat_lt (n * k) (2 ^ 64) then take_overflow e (n * k) else Some overflow
+  take_overflow (list_view e o s v f) n = None
+  take_overflow (structure ns ts v m) n = columns_overflow ts n
+  take_overflow (view_array vs bs u v) n = None
+
+  pub columns_overflow : Trees → ℕ → Option Refusal
+  columns_overflow no_trees n = None
+  columns_overflow (tree t ts) n = or_else (take_overflow t n) (columns_overflow ts n)
+
+-- taking: indices that are no integers, the first one that is no position, too many elements
+abbrev pub take_fault : Tree → Tree → Option Refusal
+take_fault t indices =
+    if is_integers (kind_of indices) then or_else (indices_fault (tree_len t) indices) (take_overflow t (tree_len indices)) else Some mismatched_types

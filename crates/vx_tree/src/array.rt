@@ -1,0 +1,181 @@
+// An array, and the layouts that it may have.
+
+ghost use Rattle.std.specs.Prelude.{◌≡◌, ◌==◌, IfOk, IsOkUnless};
+ghost use Rattle.vx_base.specs.DTypes.{dtype_meaning};
+ghost use Rattle.vx_base.specs.declared.errors.VortexError.TheVariants.{Memory};
+ghost use Rattle.vx_tree.specs.Meaning.{tree_len, kind_of};
+ghost use Rattle.vx_tree.specs.Formed.{WellFormed};
+ghost use Rattle.vx_tree.specs.Parts.{tree_of};
+
+use std::alloc::Global;
+use std::marker::Model;
+use std::rc::Rc;
+use vx_base::{BitBuffer, ByteBuffer, DType, PType, VortexError, number_count};
+
+/// A column of rows: a layout whose parts are shared, with the data type and the number of its
+/// rows. Its parts are well formed at every depth.
+#[cycle(tree)]
+#[derive(Drop)]
+pub struct ArrayRef {
+    node: Rc<Node>,
+}
+
+#[cycle(tree)]
+#[derive(Drop)]
+struct Node {
+    dtype: DType,
+    len: usize,
+    layout: Layout,
+}
+
+/// Which rows are valid; the others are null.
+#[cycle(tree)]
+#[derive(Drop)]
+pub enum Validity {
+    /// Every row is valid, and the data type takes no null.
+    NonNullable,
+    /// Every row is valid, and the data type takes null.
+    AllValid,
+    /// Every row is null.
+    AllInvalid,
+    /// An array of plain booleans, in any layout, is true where the row is valid.
+    Array(ArrayRef),
+}
+
+/// The layouts of an array.
+#[cycle(tree)]
+#[derive(Drop)]
+pub enum Layout {
+    /// Truth values, one to a bit.
+    Bool {
+        bits: BitBuffer,
+        validity: Validity,
+    },
+    /// Whole numbers of one type, one after another, their lowest byte first.
+    Primitive {
+        ptype: PType,
+        bytes: ByteBuffer,
+        validity: Validity,
+    },
+    /// Row `i` is the list of `sizes[i]` rows of the elements from `offsets[i]` on. A set flag
+    /// says that each list ends where the next one begins, null rows counted.
+    ListView {
+        elements: ArrayRef,
+        offsets: ArrayRef,
+        sizes: ArrayRef,
+        validity: Validity,
+        flag: bool,
+    },
+}
+
+impl Model for ArrayRef {
+    ghost use Rattle.vx_tree.specs.Tree.{Tree, tree_code, depth};
+    ghost use Rattle.vx_tree.specs.Formed.{IsKept};
+
+    ghost Value = { Tree };
+
+    ghost coded = { tree_code };
+
+    ghost use Rattle.vx_tree.specs.Parts.{tree_of};
+    ghost use Rattle.vx_base.specs.DTypes.{dtype_meaning};
+
+    ghost view = { λ a. tree_of a.node.value.layout };
+
+    ghost invariant = { λ a. IsKept (tree_of a.node.value.layout) a.node.value.len (dtype_meaning a.node.value.dtype) };
+
+    ghost size = { depth };
+
+    ghost use Rattle.vx_tree.specs.Falls.{layout_falls};
+
+    ghost size_decreases = { λ a h. layout_falls a.node.value.layout };
+}
+
+impl ArrayRef {
+    /// How many rows there are.
+    pub fn len(&self) -> usize
+        ensures { result ≡ tree_len self.now }
+    {
+        self.node.len
+    }
+
+    /// Whether there is no row.
+    pub fn is_empty(&self) -> bool
+        ensures { result ≡ (tree_len self.now == 0) }
+    {
+        self.len() == 0
+    }
+
+    /// What the rows are.
+    pub fn dtype(&self) -> &DType
+        ensures { dtype_meaning result.now ≡ kind_of self.now }
+    {
+        &self.node.dtype
+    }
+
+    /// The layout with its parts, which are well formed.
+    pub fn layout(&self) -> &Layout
+        ensures parts { tree_of result.now ≡ self.now }
+        ensures formed { WellFormed (tree_of result.now) }
+    {
+        &self.node.layout
+    }
+
+    /// An array of these parts. Asks that they are well formed: that the validity has as many
+    /// rows, that a list view's offsets and sizes are counts, that its lists end within the
+    /// elements, and that a set flag holds.
+    pub fn from_parts(alloc: Global, layout: Layout) -> Result<ArrayRef, VortexError>
+        requires { WellFormed (tree_of layout) }
+        ensures ok { IfOk result (λ a. a ≡ tree_of layout) }
+        ensures err { IsOkUnless result Memory }
+    {
+        let len = layout.len();
+        let dtype = layout.dtype(alloc)?;
+        let node = Rc::new(alloc, Node { dtype, len, layout })?;
+        Ok(ArrayRef { node })
+    }
+
+    /// The same array, its parts shared.
+    pub fn try_clone(&self, _alloc: Global) -> Result<ArrayRef, VortexError>
+        ensures ok { IfOk result (λ a. a ≡ self.now) }
+        ensures err { IsOkUnless result Memory }
+    {
+        let node = self.node.clone()?;
+        Ok(ArrayRef { node })
+    }
+}
+
+impl Layout {
+    // How many rows the parts have.
+    fn len(&self) -> usize
+        ensures { result ≡ tree_len (tree_of self.now) }
+    {
+        match self {
+            Layout::Bool { bits, .. } => bits.len(),
+            Layout::Primitive { ptype, bytes, .. } => number_count(bytes.as_slice(), *ptype),
+            Layout::ListView { offsets, .. } => offsets.len(),
+        }
+    }
+
+    // The data type of the rows.
+    fn dtype(&self, alloc: Global) -> Result<DType, VortexError>
+        ensures ok { IfOk result (λ d. dtype_meaning d ≡ kind_of (tree_of self.now)) }
+        ensures err { IsOkUnless result Memory }
+    {
+        match self {
+            Layout::Bool { validity, .. } => Ok(DType::Bool(validity.nullability())),
+            Layout::Primitive {
+                ptype,
+                validity,
+                ..
+            } => Ok(DType::Primitive(*ptype, validity.nullability())),
+            Layout::ListView {
+                elements,
+                validity,
+                ..
+            } => {
+                let items = Rc::new(alloc, elements.dtype().try_clone(alloc)?)?;
+                Ok(DType::List(items, validity.nullability()))
+            }
+        }
+    }
+}

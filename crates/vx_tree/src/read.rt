@@ -1,0 +1,86 @@
+// Rows that are read one at a time, or as bits.
+
+ghost use Rattle.std.specs.Prelude.{◌≡◌, ◌<◌, ◌≤ℤ◌, ◌^◌, ◌-◌, pos, true, false, map, None, IfOk, IfErr, IfSome, IsSome, is_some, IsOkUnless};
+ghost use Rattle.std.specs.List.{range_with_len};
+ghost use Rattle.vx_base.specs.Refusals.{IsMemoryOr};
+ghost use Rattle.vx_base.specs.Integers.{Holds};
+ghost use Rattle.vx_base.specs.Rows.{is_present, truth_of, number_in};
+ghost use Rattle.vx_base.specs.Kinds.{booleans, is_integers, is_plain_integers, integer_type};
+ghost use Rattle.vx_base.specs.declared.errors.VortexError.TheVariants.{Memory};
+ghost use Rattle.vx_tree.specs.Meaning.{tree_len, kind_of, row_at};
+ghost use Rattle.vx_tree.specs.Faults.{position_fault};
+
+use crate::array::{ArrayRef, Layout};
+use std::alloc::Global;
+use vx_base::{BitBuffer, VortexError, int_at};
+
+#[tactic(auto, using(crate::specs::Formed::valid_reads))]
+impl ArrayRef {
+    /// Whether row `i` is not null. Refuses `OutOfBounds` where `i` is not below the length.
+    pub fn is_valid(&self, _alloc: Global, i: usize) -> Result<bool, VortexError>
+        ensures valid { IfOk result (λ b. b ≡ is_present (row_at self.now i)) }
+        ensures accepted { IfOk result (λ _. position_fault (tree_len self.now) i ≡ None) }
+        ensures refused { IfErr result (IsMemoryOr (position_fault (tree_len self.now) i)) }
+    {
+        let len = self.len();
+        if i >= len {
+            return Err(VortexError::OutOfBounds { index: i, len });
+        }
+        match self.layout() {
+            Layout::Bool { validity, .. } => Ok(validity.is_valid_at(i)),
+            Layout::Primitive { validity, .. } => Ok(validity.is_valid_at(i)),
+            Layout::ListView { validity, .. } => Ok(validity.is_valid_at(i)),
+        }
+    }
+
+    /// The number of row `i`, where it is not null. Asks an integer data type and a row below the
+    /// length.
+    pub fn int_at(&self, i: usize) -> Option<i128>
+        requires ints { is_integers (kind_of self.now) ≡ true }
+        requires in_bounds { i < tree_len self.now }
+        ensures value { result ≡ number_in (row_at self.now i) }
+        ensures present { is_some result ≡ is_present (row_at self.now i) }
+        ensures plain { is_plain_integers (kind_of self.now) ≡ true → IsSome result }
+        ensures holds { IfSome result (Holds (integer_type (kind_of self.now))) }
+        ensures small { IfSome result (λ z. z ≤ℤ pos (2 ^ 64 - 1)) }
+    {
+        match self.layout() {
+            Layout::Primitive {
+                ptype,
+                bytes,
+                validity,
+            } => {
+                if validity.is_valid_at(i) {
+                    Some(int_at(bytes.as_slice(), *ptype, i))
+                } else {
+                    None
+                }
+            }
+            _ => unreachable!(),
+        }
+    }
+
+    // Row `i` of an array of plain booleans.
+    pub(crate) fn truth_at(&self, i: usize) -> bool
+        requires kind { kind_of self.now ≡ booleans false }
+        requires in_bounds { i < tree_len self.now }
+        ensures { result ≡ truth_of (row_at self.now i) }
+    {
+        match self.layout() {
+            Layout::Bool { bits, .. } => bits.value(i),
+            _ => unreachable!(),
+        }
+    }
+
+    // The rows of an array of plain booleans, as bits.
+    pub(crate) fn plain_bits(&self, alloc: Global) -> Result<BitBuffer, VortexError>
+        requires { kind_of self.now ≡ booleans false }
+        ensures ok { IfOk result (λ b. b ≡ map (λ i. truth_of (row_at self.now i)) (range_with_len 0 (tree_len self.now))) }
+        ensures err { IsOkUnless result Memory }
+    {
+        match self.layout() {
+            Layout::Bool { bits, .. } => bits.try_clone(alloc),
+            _ => unreachable!(),
+        }
+    }
+}

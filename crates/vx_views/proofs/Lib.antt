@@ -1,0 +1,10 @@
+pub mod Digits
+pub mod FourBytes
+pub mod Padding
+pub mod Bytewise
+pub mod Places
+pub mod WordOrder
+pub mod Utf8Table
+pub mod Utf8Ranges
+pub mod FirstFaults
+pub mod FaultyViews

@@ -1,0 +1,182 @@
+//! The check of views that come from outside.
+
+ghost use Rattle.std.specs.Prelude.{◌≡◌, ◌≢◌, ◌<◌, ◌↔◌, length, OnOk, IfOk, IfErr, None};
+ghost use Rattle.vx_base.specs.Refusals.{refusal_of, IsMemoryOr};
+ghost use Rattle.vx_base.specs.declared.errors.VortexError.TheVariants.{Memory};
+ghost use Rattle.vx_views.specs.Faulty.{views_fault, view_fault, place_fault, text_fault, AreSound};
+ghost use Rattle.vx_views.specs.Views.{view_size, view_value};
+
+use crate::view::BinaryView;
+use std::alloc::Global;
+use vx_base::{ByteBuffer, Mask, VortexError};
+
+/// Whether each view of a valid row may stand there: the first faulty row refuses, with its number.
+///
+/// A view that refers to its value refuses with `BadBuffer` where there is no buffer of its number, `BadStart` where
+/// its offset is not below that buffer's length, `BadEnd` where the value ends past the buffer, `BadPrefix` where the
+/// value begins otherwise than the view says, and, where text is checked, `NotUtf8`. A view that holds its value
+/// refuses with `NotUtf8` alone. Each value is judged alone: bytes that no valid view refers to never refuse, and
+/// neither does a null row.
+///
+/// The `budget` is the number of bytes of whole buffers that may be read ahead; it changes no answer, and today
+/// nothing is read ahead. No memory is taken.
+pub fn check_views(
+    _alloc: Global,
+    views: &[BinaryView],
+    mask: &Mask,
+    buffers: &[ByteBuffer],
+    check_utf8: bool,
+    _budget: usize,
+) -> Result<(), VortexError>
+    requires { length mask.now ≡ length views.now }
+    ensures accepted { OnOk result (views_fault check_utf8 mask.now buffers.now views.now ≡ None) }
+    ensures refused { IfErr result (IsMemoryOr (views_fault check_utf8 mask.now buffers.now views.now)) }
+    ensures no_memory { IfErr result (λ e. e ≢ Memory) }
+
+    // Each valid view then resolves, begins as it says, and is text where text is asked.
+    ensures sound { OnOk result (AreSound check_utf8 mask.now buffers.now views.now) }
+{
+    for (row, view) in views.iter().enumerate() {
+        if mask.value(row) {
+            check_view(view, row, buffers, check_utf8)?;
+        }
+    }
+    Ok(())
+}
+
+/// Views are without a fault exactly where each valid one can be read, begins as it says, and is text where text is
+/// asked.
+pub fn faultless_views_are_sound(
+    views: &[BinaryView],
+    mask: &Mask,
+    buffers: &[ByteBuffer],
+    check_utf8: bool,
+)
+    ensures { (views_fault check_utf8 mask.now buffers.now views.now ≡ None)
+        ↔ AreSound check_utf8 mask.now buffers.now views.now }
+{}
+
+// Whether the view of a valid row may stand there.
+fn check_view(
+    view: &BinaryView,
+    row: usize,
+    buffers: &[ByteBuffer],
+    check_utf8: bool,
+) -> Result<(), VortexError>
+    ensures accepted { OnOk result (view_fault check_utf8 buffers.now view.now row ≡ None) }
+    ensures refused { IfErr result (λ e. view_fault check_utf8 buffers.now view.now row ≡ refusal_of e) }
+    ensures no_memory { IfErr result (λ e. e ≢ Memory) }
+{
+    if view.is_inlined() {
+        return check_text(view.bytes(&[]), row, check_utf8);
+    }
+    check_text(value_at(view, row, buffers)?, row, check_utf8)
+}
+
+// Whether the value of a row is text, where text is asked.
+fn check_text(value: &[u8], row: usize, check_utf8: bool) -> Result<(), VortexError>
+    ensures accepted { OnOk result (text_fault check_utf8 value.now row ≡ None) }
+    ensures refused { IfErr result (λ e. text_fault check_utf8 value.now row ≡ refusal_of e) }
+    ensures no_memory { IfErr result (λ e. e ≢ Memory) }
+{
+    if check_utf8 && !simdutf8::is_utf8(value) {
+        return Err(VortexError::NotUtf8 { row });
+    }
+    Ok(())
+}
+
+// The value that a view refers to, where the view says rightly where it stands and how it begins.
+fn value_at<'a>(
+    view: &BinaryView,
+    row: usize,
+    buffers: &'a [ByteBuffer],
+) -> Result<&'a [u8], VortexError>
+    requires { 12 < view_size view.now }
+    ensures accepted { OnOk result (place_fault buffers.now view.now row ≡ None) }
+    ensures value { IfOk result (λ v. v.now ≡ view_value buffers.now view.now) }
+    ensures refused { IfErr result (λ e. place_fault buffers.now view.now row ≡ refusal_of e) }
+    ensures no_memory { IfErr result (λ e. e ≢ Memory) }
+{
+    let parts = view.as_view();
+    let Some(buffer) = buffers.get(parts.buffer_index as usize) else {
+        return Err(VortexError::BadBuffer { row });
+    };
+    let (buffer, range) = (buffer.as_slice(), parts.as_range());
+    if buffer.len() <= range.start {
+        return Err(VortexError::BadStart { row });
+    }
+    if buffer.len() < range.end {
+        return Err(VortexError::BadEnd { row });
+    }
+    let value = &buffer[range];
+    if !value.starts_with(&parts.prefix) {
+        return Err(VortexError::BadPrefix { row });
+    }
+    Ok(value)
+}
+
+#[cfg(test)]
+mod tests {
+    use super::*;
+
+    // What is answered of one view over one buffer, in which text is asked.
+    fn check_one(
+        alloc: Global,
+        buffer: &[u8],
+        view: BinaryView,
+        budget: usize,
+    ) -> Result<(), VortexError> {
+        let buffers = [ByteBuffer::copy_from(alloc, buffer)?];
+        check_views(alloc, &[view], &Mask::new_true(1), &buffers, true, budget)
+    }
+
+    #[test]
+    fn values_are_checked_alone(rt: HostRuntime) {
+        let text = b"aaaaaaaaaaaa\xC3\xA9bbbbbbbbbbbbb\xFF";
+        let cut = BinaryView::new_ref(13, *b"aaaa", 0, 0);
+        let whole = BinaryView::new_ref(14, *b"aaaa", 0, 0);
+        for budget in [0, 13, 27, usize::MAX] {
+            let refused = check_one(rt.alloc(), &text[..27], cut, budget);
+            assert_eq!(rt; refused, Err(VortexError::NotUtf8 { row: 0 }));
+            assert_eq!(rt; check_one(rt.alloc(), &text[..27], whole, budget), Ok(()));
+            assert_eq!(rt; check_one(rt.alloc(), text, whole, budget), Ok(()));
+        }
+    }
+
+    #[test]
+    fn null_rows_are_never_faulty(rt: HostRuntime) {
+        let view = BinaryView::new_ref(13, *b"abcd", 9, 0);
+        let null = check_views(rt.alloc(), &[view], &Mask::new_false(1), &[], true, 0);
+        assert_eq!(rt; null, Ok(()));
+        let valid = check_views(rt.alloc(), &[view], &Mask::new_true(1), &[], true, 0);
+        assert_eq!(rt; valid, Err(VortexError::BadBuffer { row: 0 }));
+    }
+
+    #[test]
+    fn the_first_fault_is_named(rt: HostRuntime) {
+        for (prefix, block, offset, fault) in [
+            (*b"abcX", 0, 0, VortexError::BadPrefix { row: 0 }),
+            (*b"abcd", 0, 1, VortexError::BadEnd { row: 0 }),
+            (*b"abcd", 0, 13, VortexError::BadStart { row: 0 }),
+            (*b"abcd", 1, 0, VortexError::BadBuffer { row: 0 }),
+        ] {
+            let view = BinaryView::new_ref(13, prefix, block, offset);
+            for budget in [0, 13, usize::MAX] {
+                let answer = check_one(rt.alloc(), b"abcdefghijklm", view, budget);
+                assert_eq!(rt; answer, Err(fault));
+            }
+        }
+    }
+
+    #[test]
+    fn inlined_values_are_checked(rt: HostRuntime) {
+        let view = BinaryView::new_inlined(b"\xFF");
+        let mask = Mask::new_true(1);
+        let text = check_views(rt.alloc(), &[view], &mask, &[], true, 0);
+        assert_eq!(rt; text, Err(VortexError::NotUtf8 { row: 0 }));
+        assert_eq!(rt;
+            check_views(rt.alloc(), &[view], &mask, &[], false, 0),
+            Ok(())
+        );
+    }
+}
