@@ -3,6 +3,7 @@ pub mod NumberBytes
 pub mod NumberLists
 pub mod PackedBits
 pub mod PackedBytes
+pub mod SameBits
 pub mod MaskCounts
 pub mod Positions
 pub mod Gathered

@@ -1,11 +1,11 @@
 -- Numbers of a type that are positions, which are never negative.
-use Rattle.std.proofs.Common.{ℕ, ◌^◌, ◌/◌, ◌<◌, ◌≡◌, List, length, sym, ◌∙◌, ap, subst, arith, to_z, of_z}
+use Rattle.std.proofs.Common.{ℕ, ◌^◌, ◌*◌, ◌/◌, ◌<◌, ◌≡◌, List, length, take, drop, true, sym, ◌∙◌, ap, subst, arith, to_z, of_z}
 use Rattle.std.specs.Prelude.{ℤ, pos, negsuc, ◌≤ℤ◌, ◌<ℤ◌, unsigned_abs}
 use Rattle.std.specs.Int.{w128}
 use Rattle.std.specs.List.{All}
 use Rattle.std.proofs.lemmas.Int.{ints, to_z_pos}
 use Rattle.vx_base.proofs.NumberLists.{length_numbers, get_numbers}
-use Rattle.vx_base.specs.Integers.{byte_width, number_at, numbers, Holds}
+use Rattle.vx_base.specs.Integers.{byte_width, is_unsigned, number_of, number_at, numbers, Holds}
 use Rattle.vx_base.specs.declared.ptypes.PType.{PType}
 use Rattle.vx_base.specs.declared.ptypes.PType.TheVariants.{U8, U16, U32, U64, I8, I16, I32, I64}
 
@@ -35,3 +35,19 @@ position_of (negsuc n) low high = absurd (omega (arith, ints))
 -- a position as a signed number of 128 bits
 pub signed_position : (n : ℕ) → n < 2 ^ 64 → to_z w128 n ≡ pos n
 signed_position n h = to_z_pos w128 n (omega arith)
+
+-- a number of a type without sign is not negative
+unsigned_number : (t : PType) (bs : List ℕ) → is_unsigned t ≡ true → pos 0 ≤ℤ number_of t bs
+unsigned_number U8 bs h = omega (arith, ints)
+unsigned_number U16 bs h = omega (arith, ints)
+unsigned_number U32 bs h = omega (arith, ints)
+unsigned_number U64 bs h = omega (arith, ints)
+unsigned_number I8 bs h = absurd (cc)
+unsigned_number I16 bs h = absurd (cc)
+unsigned_number I32 bs h = absurd (cc)
+unsigned_number I64 bs h = absurd (cc)
+
+pub unsigned-numbers : (t : PType) (bs : List ℕ) → is_unsigned t ≡ true → All (λ y. pos 0 ≤ℤ y) (numbers t bs)
+unsigned-numbers t bs h = λ k d within.
+    let P : ℤ → Type 0 = λ y. pos 0 ≤ℤ y in
+    subst P (sym (get_numbers t bs k d (omega (arith, length_numbers t bs)))) (unsigned_number t (take (byte_width t) (drop (k * byte_width t) bs)) h)

@@ -1,7 +1,7 @@
 // A shared run of booleans, packed eight to a byte.
 #![tactic(auto, using(crate::proofs::PackedBits::length_unpacked, crate::proofs::PackedBits::unpacked_none, crate::proofs::PackedBits::get_unpacked))]
 
-ghost use Rattle.std.specs.Prelude.{◌≡◌, ◌≤◌, ◌<◌, ◌+◌, ◌*◌, ◌^◌, ◌↔◌, Bool, [], length, slice_range, count_by, slice_index, IsTrue, IfOk, IsOkUnless};
+ghost use Rattle.std.specs.Prelude.{◌≡◌, ◌≤◌, ◌<◌, ◌+◌, ◌*◌, ◌/◌, ◌^◌, ◌↔◌, Bool, [], length, take, slice_range, count_by, slice_index, IsTrue, IfOk, IsOkUnless};
 ghost use Rattle.std.specs.Bool.{beq};
 ghost use Rattle.std.specs.Cmp.{bool_eq_equiv, partial_equiv_from_equiv};
 ghost use Rattle.std.specs.Cmp.Lexicographic.{pointwise, lists_equiv};
@@ -43,6 +43,7 @@ fn byte_or_zero(bytes: &[u8], i: usize) -> u8
 }
 
 // The eight bits from bit `place` on, with zeroes past the end.
+#[inline]
 fn byte_from(bytes: &[u8], place: usize) -> u8
     ensures { result ≡ byte_from bytes.now place }
 {
@@ -117,6 +118,7 @@ impl BitBuffer {
     }
 
     /// The boolean at place `i`, counted from 0. Asks that there is one.
+    #[inline]
     pub fn value(&self, i: usize) -> bool
         requires { i < length self.now }
         ensures { result ≡ bool_at self.now i }
@@ -199,14 +201,29 @@ impl BitBuffer {
         (offset, len, bytes)
     }
 
+    // Whether the two, which are as long, have the same booleans in their whole bytes.
+    fn same_bytes(&self, other: &BitBuffer) -> bool
+        requires { length self.now ≡ length other.now }
+        ensures { IsTrue result ↔ (take (8 * (length self.now / 8)) self.now ≡ take (8 * (length self.now / 8)) other.now) }
+    {
+        let mine = self.bytes.as_slice();
+        let theirs = other.bytes.as_slice();
+        for j in 0..self.len / 8 {
+            if byte_from(mine, self.offset + 8 * j) != byte_from(theirs, other.offset + 8 * j) {
+                return false;
+            }
+        }
+        true
+    }
+
     // Whether the two have the same booleans.
     fn same(&self, other: &BitBuffer) -> bool
         ensures { IsTrue result ↔ (self.now ≡ other.now) }
     {
-        if self.len() != other.len() {
+        if self.len() != other.len() || !self.same_bytes(other) {
             return false;
         }
-        for i in 0..self.len() {
+        for i in 8 * (self.len() / 8)..self.len() {
             if self.value(i) != other.value(i) {
                 return false;
             }

@@ -33,6 +33,7 @@ impl Model for BitBufferMut {
 }
 
 // Writes bit `k` of the bytes.
+#[inline]
 fn put_bit(bytes: &mut [u8], k: usize, value: bool)
     requires { k / 8 < length bytes.old }
     ensures written { bit_of bytes.new k ≡ value }
@@ -87,6 +88,7 @@ impl BitBufferMut {
     /// Adds a boolean at the end. Fails only for want of memory, also where 2^63 booleans stand,
     /// and then the booleans are what they were.
     #[tactic(auto, using(crate::proofs::PackedBits::unpacked_push, crate::proofs::PackedBits::length_unpacked))]
+    #[inline]
     pub fn append(&mut self, value: bool) -> Result<(), VortexError>
         ensures ok { OnOk result (self.new ≡ self.old ++ value ∷ []) }
         ensures err { OnErr result (self.new ≡ self.old) }

@@ -103,7 +103,7 @@ impl ByteBuffer {
 }
 
 /// The bytes of the numbers of `range`, shared: the range counts numbers, not bytes. Asks that it
-/// starts at or before its end, and that the bytes hold that many numbers. Fails only for want of
+/// starts at or before its end, and ends at or before the last number. Fails only for want of
 /// memory.
 #[tactic(auto, using(crate::proofs::NumberLists::numbers_room))]
 pub fn slice_numbers(

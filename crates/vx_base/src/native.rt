@@ -37,6 +37,7 @@ pub trait NativePType: PrimInt {
     ghost same_law: { (a b : Self) → Self.value a ≡ Self.value b → a ≡ b };
 
     /// The value that is this number, if the type has it.
+    #[inline]
     final fn from_i128(number: i128) -> Option<Self>
         ensures some { IsSome result ↔ Holds PTYPE number }
         ensures value { IfSome result (λ x. Self.value x ≡ number) }
@@ -46,6 +47,7 @@ pub trait NativePType: PrimInt {
 
     /// Writes the bytes of the number, the least significant byte first. Asks for the room of just
     /// one number.
+    #[inline]
     final fn put_le(self, out: &mut [u8])
         requires { length out.old ≡ WIDTH }
         ensures bytes { out.new ≡ bytes_of PTYPE (Self.value self) }
@@ -56,6 +58,7 @@ pub trait NativePType: PrimInt {
 
     /// Reads a number from its bytes, the least significant byte first. Asks for just the bytes of
     /// one number.
+    #[inline]
     final fn get_le(bytes: &[u8]) -> Self
         requires { length bytes.now ≡ WIDTH }
         ensures value { Self.value result ≡ number_of PTYPE bytes.now }
@@ -229,7 +232,8 @@ impl NativePType for i64 {
 /// number.
 pub fn put_then_get<T: NativePType>(number: T, out: &mut [u8]) -> T
     requires { length out.old ≡ T.WIDTH }
-    ensures { result ≡ number }
+    ensures value { result ≡ number }
+    ensures bytes { out.new ≡ bytes_of T.PTYPE (T.value number) }
 {
     number.put_le(out);
     T::get_le(out)

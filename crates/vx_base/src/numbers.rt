@@ -7,6 +7,7 @@ use crate::ptypes::PType;
 
 /// The number that these bytes stand for, the least significant byte first. Asks for just the
 /// bytes of one number.
+#[inline]
 pub fn int_of(bytes: &[u8], ptype: PType) -> i128
     requires { length bytes.now ≡ byte_width ptype }
     ensures value { result ≡ number_of ptype bytes.now }
@@ -30,6 +31,7 @@ pub fn int_of(bytes: &[u8], ptype: PType) -> i128
 
 /// Writes the bytes of a number, the least significant byte first. Asks that the type has the
 /// number, and for the room of just one number.
+#[inline]
 pub fn put_int(number: i128, ptype: PType, out: &mut [u8])
     requires room { length out.old ≡ byte_width ptype }
     requires holds { Holds ptype number }
@@ -49,6 +51,7 @@ pub fn put_int(number: i128, ptype: PType, out: &mut [u8])
 
 /// How many whole numbers of a type these bytes hold.
 #[tactic(auto, using(crate::proofs::NumberLists::length_numbers))]
+#[inline]
 pub fn number_count(bytes: &[u8], ptype: PType) -> usize
     ensures { result ≡ length (numbers ptype bytes.now) }
 {
@@ -56,8 +59,9 @@ pub fn number_count(bytes: &[u8], ptype: PType) -> usize
 }
 
 /// The number at place `i`, counted from 0, where the bytes hold one number after another. Asks
-/// that they hold more than `i` numbers.
+/// that it is there.
 #[tactic(auto, using(crate::proofs::NumberLists::number_room))]
+#[inline]
 pub fn int_at(bytes: &[u8], ptype: PType, i: usize) -> i128
     requires { i < length (numbers ptype bytes.now) }
     ensures value { result ≡ slice_index_or (numbers ptype bytes.now) i (pos 0) }

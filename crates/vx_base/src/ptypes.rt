@@ -28,6 +28,7 @@ pub enum PType {
 
 impl PType {
     /// How many bytes a number of this type takes.
+    #[inline]
     pub fn byte_width(self) -> usize
         ensures { result ≡ byte_width self }
     {

@@ -3,7 +3,7 @@
 use crate::{
     BitBuffer, BitBufferMut, Buffer, BufferMut, ByteBuffer, DType, Mask, NativePType, Nullability,
     PType, VortexError, first_fault_is_least, gather_bits, gather_numbers, get_then_put, int_at,
-    int_of, put_int, put_then_get, read_counts, slice_numbers, write_counts,
+    int_of, number_count, put_int, put_then_get, read_counts, slice_numbers, write_counts,
 };
 
 // ---- integer types
@@ -40,10 +40,14 @@ fn number_of_bytes(rt: HostRuntime) {
 
 #[test]
 fn number_at_place(rt: HostRuntime) {
-    assert_eq!(rt;
-        int_at(&[0x01, 0xff, 0xfe, 0xff, 0x00, 0x80], PType::I16, 2),
-        -32768
-    );
+    let bytes = [0x01, 0xff, 0xfe, 0xff, 0x00, 0x80];
+    assert_eq!(rt; number_count(&bytes, PType::I16), 3);
+    assert_eq!(rt; int_at(&bytes, PType::I16, 2), -32768);
+}
+
+#[test]
+fn count_of_numbers(rt: HostRuntime) {
+    assert_eq!(rt; number_count(&[1, 2, 3, 4, 5], PType::I16), 2);
 }
 
 #[test]
@@ -215,6 +219,7 @@ fn slice_of_bytes(rt: HostRuntime) -> Result<(), VortexError> {
 #[test]
 fn slice_of_numbers(rt: HostRuntime) -> Result<(), VortexError> {
     let bytes = ByteBuffer::copy_from(rt.alloc(), &[1, 0, 2, 0, 3, 0])?;
+    assert_eq!(rt; number_count(bytes.as_slice(), PType::U16), 3);
     let part = slice_numbers(rt.alloc(), &bytes, PType::U16, 1..2)?;
     assert!(rt; part.as_slice() == [2, 0].as_slice());
     Ok(())

@@ -1,8 +1,8 @@
-use Rattle.std.proofs.Common.{rules, ◌≡◌, ◌≤ℤ◌, ◌*◌, pos, length, ◌+◌, ◌-◌, ◌/◌, ap, ◌∙◌, sym, arith, take}
+use Rattle.std.proofs.Common.{rules, ◌≡◌, ◌≤ℤ◌, ◌*◌, pos, map, ◌+◌, ◌-◌, ap, ◌∙◌, sym, arith}
 use Rattle.std.proofs.lemmas.Int.{ints}
 use Rattle.std.proofs.lemmas.List.{map_push}
-use Rattle.vx_base.specs.Integers.{byte_width, numbers}
-use Rattle.vx_base.proofs.NumberLists.{numbers_more, numbers_all}
+use Rattle.vx_base.specs.Integers.{byte_width}
+use Rattle.vx_base.proofs.NumberLists.{numbers_more, numbers_end}
 use Rattle.vx_base.proofs.Positions.{holds-below, numbers-not_negative, position_of}
 use Rattle.vx_base.proofs.counts.read_native.Goals as goal
 
@@ -34,7 +34,4 @@ loop-i-preserved g c =
 pub returns-clause-ok : goal.returns-clause-ok
 returns-clause-ok g c =
     let t = g.T.NativePType.PTYPE in
-    let source = c.args.bytes.now in
-    let wide : c.byte_width-width.result ≡ byte_width t = c.byte_width-width.ensures ∙ ap byte_width c.PTYPE.ensures in
-    let end : c.loop-i.i ≡ length source / c.byte_width-width.result = omega arith in
-    c.loop-i.invariant ∙ ap (λ n. take n (numbers t source)) (rw wide at end) ∙ numbers_all t source
+    numbers_end t c.args.bytes.now c.byte_width-width.result c.loop-i.i (map pos c.loop-i.counts.items) (c.byte_width-width.ensures ∙ ap byte_width c.PTYPE.ensures) (omega arith) c.loop-i.invariant

@@ -1,4 +1,4 @@
-use Rattle.std.proofs.Common.{◌≡◌, get_or, rules, ◌∙◌}
+use Rattle.std.proofs.Common.{◌≡◌, get_or, rules}
 use Rattle.std.specs.Prelude.{pos}
 use Rattle.vx_base.specs.Integers.{numbers}
 use Rattle.vx_base.proofs.NumberLists.{number_read}
