@@ -1,65 +1,46 @@
 -- Indices that are read one after another.
-use Rattle.std.proofs.Common.{ℕ, zero, suc, ◌+◌, ◌<◌, ◌≤◌, ◌≡◌, true, List, [], ◌∷◌, ◌++◌, length, map, Option, Some, None, refl, sym, ◌∙◌, ap, add-one, zero-add, inl, inr, arith}
-use Rattle.std.specs.Prelude.{ℤ, pos, negsuc, ◌<ℤ◌, IfSome, is_some}
+use Rattle.std.proofs.Common.{ℕ, zero, suc, ◌+◌, ◌<◌, ◌≡◌, Bool, true, false, List, [], ◌∷◌, ◌++◌, length, map, Option, Some, None, refl, sym, ◌∙◌, ap, add-one, zero-add, inl, inr, arith}
+use Rattle.std.specs.Prelude.{ℤ, IfSome, IsSome, is_some, if◌then◌else◌}
 use Rattle.std.specs.List.{range_with_len}
 use Rattle.std.proofs.lemmas.List.FromFn.{map-range_with_len_more, get_or-map-range_with_len, length-map-range_with_len, fill_by_all}
 use Rattle.std.proofs.lemmas.List.{length-map, get_or-map}
 use Rattle.std.proofs.lemmas.List.Elements.{All-push}
 use Rattle.std.proofs.lemmas.Bool.{cases_eq}
 use borrow.Author.Count.{below_more}
-use Rattle.std.proofs.lemmas.Int.{ints}
-use Rattle.std.proofs.lemmas.Bool.Decides.{nat_tests}
-use Rattle.vx_base.specs.Refusals.{Refusal, first_fault, negative, out_of_bounds}
+use Rattle.vx_base.specs.declared.ptypes.PType.{PType}
+use Rattle.vx_base.specs.Integers.{numbers}
+use Rattle.vx_base.specs.Bits.{bool_at}
+use Rattle.vx_base.specs.Refusals.{Refusal, first_fault}
 use Rattle.vx_base.specs.Rows.{Row, null, boolean, whole, bytes, text, items, record_of, number_in, position_in, is_present}
 use Rattle.vx_base.specs.Kinds.{is_integers}
-use Rattle.vx_tree.specs.Tree.{Tree, Valid}
+use Rattle.vx_base.proofs.ListParts.{map_range_same}
+use Rattle.vx_tree.specs.Tree.{Tree, primitive, Valid}
 use Rattle.vx_tree.specs.Shapes.{State}
 use Rattle.vx_tree.specs.Formed.{ValidFits}
-use Rattle.vx_tree.specs.Meaning.{tree_len, kind_of, row_at, rows, is_valid_at, picked}
+use Rattle.vx_tree.specs.Meaning.{tree_len, kind_of, row_at, rows, is_valid_at, valid_mask, picked, number_nth}
 use Rattle.vx_tree.specs.Faults.{index_fault, indices_fault, take_fault, take_overflow}
-use Rattle.vx_tree.specs.Operations.{AreWithin, IsIndexValidity, IsTaken, TellsPresent, position_at, pick, picks, positions}
+use Rattle.vx_tree.specs.Operations.{AreWithin, IsIndexValidity, IsTaken, TellsPresent, masked_numbers, number_row, position_at, pick, picks, positions}
 
 -- ---- one index
 
--- a row that is no number names no position, and is not faulty
-pub unread : (len i : ℕ) (r : Row) → number_in r ≡ None → (position_in r ≡ None) × (index_fault len i r ≡ None)
-unread len i null h = (refl, refl)
-unread len i (boolean b) h = (refl, refl)
-unread len i (whole z) h = cc
-unread len i (bytes bs) h = (refl, refl)
-unread len i (text bs) h = (refl, refl)
-unread len i (items rs) h = (refl, refl)
-unread len i (record_of fs) h = (refl, refl)
+-- the row of a row's number names the same position, and has the same fault
+number_row-position : (r : Row) → position_in (number_row (number_in r)) ≡ position_in r
+number_row-position null = refl
+number_row-position (boolean b) = refl
+number_row-position (whole z) = refl
+number_row-position (bytes bs) = refl
+number_row-position (text bs) = refl
+number_row-position (items rs) = refl
+number_row-position (record_of fs) = refl
 
--- a row with a number is that number
-pub read : (r : Row) (z : ℤ) → number_in r ≡ Some z → r ≡ whole z
-read null z h = cc
-read (boolean b) z h = cc
-read (whole y) z h = ap whole (some-inj y z h)
-  where
-    some-inj : (a b : ℤ) → Some a ≡ Some b → a ≡ b
-    some-inj a b e = cc
-read (bytes bs) z h = cc
-read (text bs) z h = cc
-read (items rs) z h = cc
-read (record_of fs) z h = cc
-
-pub negative_index : (len i : ℕ) (r : Row) (z : ℤ) → number_in r ≡ Some z → z <ℤ pos 0 → index_fault len i r ≡ Some (negative i)
-negative_index len i r (pos n) h l = absurd (omega (arith, ints))
-negative_index len i r (negsuc n) h l = rw (read r (negsuc n) h) refl
-
-pub past_index : (len i n : ℕ) (r : Row) (z : ℤ) → number_in r ≡ Some z → pos n ≡ z → len ≤ n → index_fault len i r ≡ Some (out_of_bounds n)
-past_index len i n r z h e l =
-    let whole_row : r ≡ whole (pos n) = read r z h ∙ ap whole (sym e) in
-    rw whole_row (grind (arith, nat_tests))
-
-pub within_index : (len i n : ℕ) (r : Row) (z : ℤ) → number_in r ≡ Some z → pos n ≡ z → n < len → (Some n ≡ position_in r) × (index_fault len i r ≡ None)
-within_index len i n r z h e l =
-    let whole_row : r ≡ whole (pos n) = read r z h ∙ ap whole (sym e) in
-    rw whole_row (refl, test)
-  where
-    test : index_fault len i (whole (pos n)) ≡ None
-    test = grind (arith, nat_tests)
+number_row-fault : (len i : ℕ) (r : Row) → index_fault len i (number_row (number_in r)) ≡ index_fault len i r
+number_row-fault len i null = refl
+number_row-fault len i (boolean b) = refl
+number_row-fault len i (whole z) = refl
+number_row-fault len i (bytes bs) = refl
+number_row-fault len i (text bs) = refl
+number_row-fault len i (items rs) = refl
+number_row-fault len i (record_of fs) = refl
 
 -- ---- all of them
 
@@ -82,15 +63,26 @@ first_fault-at f n (suc k) (Some r) h e s l = elim (cases_eq n k) [
   | inr apart ↦ rw (first_fault-at f n k (Some r) h e s (omega arith)) refl
 ]
 
-pub AreRead-more : (t : Tree) (len n : ℕ) (ps qs : List (Option ℕ)) (p : Option ℕ) → AreRead t len n ps → p ≡ position_in (row_at t n) → IfSome p (λ k. k < len)
-    → is_some p ≡ is_present (row_at t n) → index_fault len n (row_at t n) ≡ None → qs ≡ ps ++ p ∷ [] → AreRead t len (n + 1) qs
-AreRead-more t len n ps qs p h e w there f q =
+-- one index more is read, by its number
+pub AreRead-more : (t : Tree) (len n : ℕ) (ps qs : List (Option ℕ)) (number : Option ℤ) (p : Option ℕ) → AreRead t len n ps → number ≡ number_in (row_at t n) → is_some number ≡ is_present (row_at t n)
+    → p ≡ position_in (number_row number) → IfSome p (λ k. k < len) → is_some p ≡ is_some number → index_fault len n (number_row number) ≡ None → qs ≡ ps ++ p ∷ [] → AreRead t len (n + 1) qs
+AreRead-more t len n ps qs number p h same there e w some f q =
+    let position : p ≡ position_in (row_at t n) = rw same at e ∙ number_row-position (row_at t n) in
+    let present : is_some (position_in (row_at t n)) ≡ is_present (row_at t n) = ap is_some (sym position) ∙ some ∙ there in
+    let faultless : index_fault len n (row_at t n) ≡ None = sym (number_row-fault len n (row_at t n)) ∙ ap (λ o. index_fault len n (number_row o)) (sym same) ∙ f in
     rw q (record {
-      told = rw (h.told, e) (sym (map-range_with_len_more (λ i. position_in (row_at t i)) 0 n n (zero-add n)));
-      present = below_more (λ i. is_some (position_in (row_at t i)) ≡ is_present (row_at t i)) n h.present (rw e at there);
+      told = rw (h.told, position) (sym (map-range_with_len_more (λ i. position_in (row_at t i)) 0 n n (zero-add n)));
+      present = below_more (λ i. is_some (position_in (row_at t i)) ≡ is_present (row_at t i)) n h.present present;
       within = All-push (λ p. IfSome p (λ k. k < len)) ps p h.within w;
-      faultless = first_fault-none (λ i. index_fault len i (row_at t i)) n h.faultless f;
+      faultless = first_fault-none (λ i. index_fault len i (row_at t i)) n h.faultless faultless;
     })
+
+-- an index with a fault after some that are read is the first
+pub AreRead-fault : (t : Tree) (len n : ℕ) (ps : List (Option ℕ)) (number : Option ℤ) (r : Option Refusal) → AreRead t len n ps → number ≡ number_in (row_at t n)
+    → index_fault len n (number_row number) ≡ r → IsSome r → n < tree_len t → indices_fault len t ≡ r
+AreRead-fault t len n ps number r h same f s l =
+    let fault : index_fault len n (row_at t n) ≡ r = sym (number_row-fault len n (row_at t n)) ∙ ap (λ o. index_fault len n (number_row o)) (sym same) ∙ f in
+    first_fault-at (λ i. index_fault len i (row_at t i)) n (tree_len t) r h.faultless fault s l
 
 -- rows that are read one by one
 pub positions-of : (t : Tree) (n : ℕ) → n ≡ tree_len t → map (λ i. position_in (row_at t i)) (range_with_len 0 n) ≡ positions (rows t)
@@ -134,3 +126,35 @@ rows_taken t r ps index w h =
 -- with indices that are integers and faultless, only too many elements are a fault
 pub take_fault-of : (t indices : Tree) (n : ℕ) → is_integers (kind_of indices) ≡ true → indices_fault (tree_len t) indices ≡ None → n ≡ tree_len indices → take_fault t indices ≡ take_overflow t n
 take_fault-of t indices n ints none e = rw (ints, none, e) refl
+
+-- ---- arrays with the same rows
+
+pub record AreSame (t u : Tree) : Type 0 where
+  pub len : tree_len t ≡ tree_len u
+  pub rows : (i : ℕ) → i < tree_len t → row_at t i ≡ row_at u i
+
+pub positions-same : (t u : Tree) → AreSame t u → positions (rows t) ≡ positions (rows u)
+positions-same t u h =
+    ap positions (map_range_same (row_at t) (row_at u) 0 0 (tree_len t) (λ i l. rw zero-add (h.rows i l)) ∙ ap (λ n. map (row_at u) (range_with_len 0 n)) h.len)
+
+pub indices_fault-same : (len : ℕ) (t u : Tree) → AreSame t u → indices_fault len t ≡ indices_fault len u
+indices_fault-same len t u h = each (tree_len t) (λ i l. ap (index_fault len i) (h.rows i l)) ∙ ap (first_fault (λ i. index_fault len i (row_at u i))) h.len
+  where
+    each : (n : ℕ) → ((i : ℕ) → i < n → index_fault len i (row_at t i) ≡ index_fault len i (row_at u i)) → first_fault (λ i. index_fault len i (row_at t i)) n ≡ first_fault (λ i. index_fault len i (row_at u i)) n
+    each zero f = refl
+    each (suc n) f = rw (each n (λ i l. f i (omega arith)), f n (omega arith)) refl
+
+pub TellsPresent-same : (t u : Tree) → AreSame t u → TellsPresent u → TellsPresent t
+TellsPresent-same t u h p i l = rw (h.rows i l) (p i (rw h.len at l))
+
+-- numbers are those under the mask of their validity
+pub under_mask : (t : Tree) (p : PType) (bs : List ℕ) (v : Valid) (mask : List Bool) → t ≡ primitive p bs v → mask ≡ valid_mask v (tree_len t) → AreSame t (masked_numbers p bs mask)
+under_mask t p bs v mask e m =
+    rw e (record { len = refl; rows = λ i l. ap (λ b. if b then whole (number_nth (numbers p bs) i) else null) (sym (bit i (rw e l))) })
+  where
+    bit : (i : ℕ) → i < tree_len t → bool_at mask i ≡ is_valid_at v i
+    bit i l = ap (λ bits. bool_at bits i) m ∙ get_or-map-range_with_len (is_valid_at v) 0 (tree_len t) i i false l (zero-add i)
+
+-- and there are as many
+pub mask_long : (v : Valid) (mask : List Bool) (n : ℕ) → mask ≡ valid_mask v n → length mask ≡ n
+mask_long v mask n m = ap length m ∙ length-map-range_with_len (is_valid_at v) 0 n

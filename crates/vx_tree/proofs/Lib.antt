@@ -2,3 +2,4 @@ pub mod Masks
 pub mod Indices
 pub mod Sliced
 pub mod Taken
+pub mod Fitting

@@ -7,3 +7,5 @@ pub mod Parts
 pub mod Falls
 pub mod Faults
 pub mod Operations
+pub mod Fitting
+pub mod Worked

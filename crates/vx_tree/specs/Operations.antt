@@ -1,9 +1,10 @@
 -- What slicing and taking give, row by row.
-use Rattle.std.specs.Prelude.{◌≡◌, ◌<◌, ◌+◌, ℕ, Bool, false, pos, List, length, map, Option, Some, None, is_some, IsSome, IfSome, slice_index_or}
+use Rattle.std.specs.Prelude.{◌≡◌, ◌<◌, ◌+◌, ℕ, ℤ, Bool, false, pos, List, length, map, Option, Some, None, is_some, IsSome, IfSome, slice_index_or}
 use Rattle.std.specs.List.{All}
+use Rattle.vx_base.specs.declared.ptypes.PType.{PType}
 use Rattle.vx_base.specs.Rows.{Row, null, whole, position_in, count_in, is_present}
 use Rattle.vx_base.specs.Kinds.{or_nullable, booleans}
-use Rattle.vx_tree.specs.Tree.{Tree, Valid, non_nullable, all_valid, all_invalid, by_array}
+use Rattle.vx_tree.specs.Tree.{Tree, bools, primitive, Valid, non_nullable, all_valid, all_invalid, by_array}
 use Rattle.vx_tree.specs.Meaning.{tree_len, kind_of, row_at, is_valid_at, nullable, picked}
 use Rattle.vx_tree.specs.Shapes.{State, state_of, is_nullable_state, taken_state, shape_of, sliced_shape, taken_shape}
 use Rattle.vx_tree.specs.Formed.{ValidFits}
@@ -76,6 +77,15 @@ pub record IsCountsTaken (t : Tree) (ps : List (Option ℕ)) (r : Tree) : Type 0
 -- each row that is present names a position
 abbrev pub TellsPresent : Tree → Type 0
 TellsPresent t = (i : ℕ) → i < tree_len t → is_some (position_in (row_at t i)) ≡ is_present (row_at t i)
+
+-- the row of a number, null where there is none
+abbrev pub number_row : Option ℤ → Row
+number_row None = null
+number_row (Some z) = whole z
+
+-- numbers under a mask, as an array: null where the mask is false
+abbrev pub masked_numbers : PType → List ℕ → List Bool → Tree
+masked_numbers t bytes mask = primitive t bytes (by_array (bools mask non_nullable))
 
 -- ---- on lists of rows
 

@@ -1,21 +1,47 @@
-use Rattle.std.proofs.Common.{◌∙◌, inr, arith}
+use Rattle.std.proofs.Common.{ℕ, ◌≡◌, ◌∙◌, Bool, List, sym, ap}
 use Rattle.std.proofs.lemmas.Result.{err_from_is_err_and}
-use Rattle.vx_base.specs.Refusals.{refusal_of}
-use Rattle.vx_tree.specs.Meaning.{row_at, tree_len}
-use Rattle.vx_tree.specs.Faults.{index_fault}
-use Rattle.vx_tree.proofs.Indices.{AreRead-more, first_fault-at, positions-of}
+use Rattle.vx_base.specs.declared.ptypes.PType.{PType}
+use Rattle.vx_tree.specs.declared.array.Layout.{Layout}
+use Rattle.vx_tree.specs.declared.array.Layout.TheVariants as layout
+use Rattle.vx_tree.specs.declared.array.Validity.{Validity}
+use Rattle.vx_tree.specs.Tree.{Tree}
+use Rattle.vx_tree.specs.Parts.{tree_of, valid_of}
+use Rattle.vx_tree.specs.Meaning.{tree_len, valid_mask}
+use Rattle.vx_tree.specs.Operations.{masked_numbers}
+use Rattle.vx_tree.proofs.Indices.{AreSame, under_mask, mask_long, positions-same, indices_fault-same, TellsPresent-same}
 use Rattle.vx_tree.proofs.array.ArrayRef.positions.Goals as goal
 
-pub loop-row-preserved : goal.loop-row-preserved
-loop-row-preserved c =
-    let e = c.in_ok-position_of.ensures in
-    AreRead-more c.args.self.now c.args.len c.loop-row.row c.loop-row.positions.items c.push.new.self.items c.in_ok-position_of.field-0 c.loop-row.invariant e.ok e.within e.present e.accepted c.in_ok-push.ensures.items
+-- the numbers of this array are those under the mask that was made of its validity
+read : (t : Tree) (l : Layout) (p : PType) (bs : List ℕ) (v : Validity) (mask : List Bool) (n : ℕ) → tree_of l ≡ t → l ≡ layout.Primitive p bs v → n ≡ tree_len t → mask ≡ valid_mask (valid_of v) n
+    → AreSame t (masked_numbers p bs mask)
+read t l p bs v mask n parts is len made = under_mask t p bs (valid_of v) mask (sym parts ∙ ap tree_of is) (rw len at made)
 
-pub returns-in_err-position_of-clause-refused : goal.returns-in_err-position_of-clause-refused
-returns-in_err-position_of-clause-refused c =
-    let p = err_from_is_err_and c.from_residual-in_err-position_of.result c.from_residual-in_err-position_of.ensures.1 in
-    let e = c.in_err-position_of.ensures.refused in
-    rw (p.1, p.2) (inr (first_fault-at (λ i. index_fault c.args.len i (row_at c.args.self.now i)) c.loop-row.row (tree_len c.args.self.now) (refusal_of c.in_err-position_of.field-0.0) c.loop-row.invariant.faultless e.1 e.0 (omega arith)))
+pub masked_positions-requires : goal.masked_positions-requires
+masked_positions-requires c =
+    let long = mask_long (valid_of c.in-Primitive.validity) c.in_ok-mask-in-Primitive.mask c.len.result c.in_ok-mask-in-Primitive.ensures.mask in
+    rw c.as_slice.ensures (long ∙ rw (← c.layout.ensures.parts, c.in-Primitive.is) at c.len.ensures)
 
-pub returns-clause-ok : goal.returns-clause-ok
-returns-clause-ok c = c.loop-row.invariant.told ∙ positions-of c.args.self.now c.loop-row.row (omega arith)
+pub returns-in_err-masked_positions-in-Primitive-clause-refused :
+    goal.returns-in_err-masked_positions-in-Primitive-clause-refused
+returns-in_err-masked_positions-in-Primitive-clause-refused c =
+    let same = read c.args.self.now c.layout.result.now c.in-Primitive.ptype c.in-Primitive.bytes c.in-Primitive.validity c.in_ok-mask-in-Primitive.mask c.len.result c.layout.ensures.parts c.in-Primitive.is c.len.ensures c.in_ok-mask-in-Primitive.ensures.mask in
+    let p = err_from_is_err_and c.from_residual-in_err-masked_positions-in-Primitive.result c.from_residual-in_err-masked_positions-in-Primitive.ensures.1 in
+    rw (p.1, p.2, indices_fault-same c.args.len c.args.self.now (masked_numbers c.in-Primitive.ptype c.in-Primitive.bytes c.in_ok-mask-in-Primitive.mask) same) (rw c.as_slice.ensures at c.in_err-masked_positions-in-Primitive.ensures.refused)
+
+pub returns-in_ok-masked_positions-in-Primitive-clause-ok :
+    goal.returns-in_ok-masked_positions-in-Primitive-clause-ok
+returns-in_ok-masked_positions-in-Primitive-clause-ok c =
+    let same = read c.args.self.now c.layout.result.now c.in-Primitive.ptype c.in-Primitive.bytes c.in-Primitive.validity c.in_ok-mask-in-Primitive.mask c.len.result c.layout.ensures.parts c.in-Primitive.is c.len.ensures c.in_ok-mask-in-Primitive.ensures.mask in
+    rw c.as_slice.ensures at c.in_ok-masked_positions-in-Primitive.ensures.ok ∙ sym (positions-same c.args.self.now (masked_numbers c.in-Primitive.ptype c.in-Primitive.bytes c.in_ok-mask-in-Primitive.mask) same)
+
+pub returns-in_ok-masked_positions-in-Primitive-clause-present :
+    goal.returns-in_ok-masked_positions-in-Primitive-clause-present
+returns-in_ok-masked_positions-in-Primitive-clause-present c =
+    let same = read c.args.self.now c.layout.result.now c.in-Primitive.ptype c.in-Primitive.bytes c.in-Primitive.validity c.in_ok-mask-in-Primitive.mask c.len.result c.layout.ensures.parts c.in-Primitive.is c.len.ensures c.in_ok-mask-in-Primitive.ensures.mask in
+    TellsPresent-same c.args.self.now (masked_numbers c.in-Primitive.ptype c.in-Primitive.bytes c.in_ok-mask-in-Primitive.mask) same (rw c.as_slice.ensures at c.in_ok-masked_positions-in-Primitive.ensures.present)
+
+pub returns-in_ok-masked_positions-in-Primitive-clause-accepted :
+    goal.returns-in_ok-masked_positions-in-Primitive-clause-accepted
+returns-in_ok-masked_positions-in-Primitive-clause-accepted c =
+    let same = read c.args.self.now c.layout.result.now c.in-Primitive.ptype c.in-Primitive.bytes c.in-Primitive.validity c.in_ok-mask-in-Primitive.mask c.len.result c.layout.ensures.parts c.in-Primitive.is c.len.ensures c.in_ok-mask-in-Primitive.ensures.mask in
+    indices_fault-same c.args.len c.args.self.now (masked_numbers c.in-Primitive.ptype c.in-Primitive.bytes c.in_ok-mask-in-Primitive.mask) same ∙ rw c.as_slice.ensures at c.in_ok-masked_positions-in-Primitive.ensures.accepted

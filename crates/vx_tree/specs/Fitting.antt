@@ -1,0 +1,33 @@
+-- Every row of an array fits the array's kind.
+use Rattle.std.specs.Prelude.{◌<◌, ℕ, [], length, slice_index_or}
+use Rattle.vx_base.specs.Kinds.{Fits}
+use Rattle.vx_views.specs.Views.{AreBytes}
+use Rattle.vx_tree.specs.Tree.{Tree, bools, primitive, constant, dictionary, fixed_list, list_view, structure, view_array, Trees, no_trees, tree, Valid, non_nullable, all_valid, all_invalid, by_array}
+use Rattle.vx_tree.specs.Meaning.{tree_len, kind_of, row_at}
+use Rattle.vx_tree.specs.Formed.{WellFormed}
+
+-- well formed at every depth, with bytes that are bytes
+abbrev mutual
+  pub AllFormed : Tree → Type 0
+  AllFormed (bools bits v) = WellFormed (bools bits v) × ValidityFormed v
+  AllFormed (primitive t bs v) = WellFormed (primitive t bs v) × AreBytes bs × ValidityFormed v
+  AllFormed (constant k r n) = WellFormed (constant k r n)
+  AllFormed (dictionary c v f) = WellFormed (dictionary c v f) × AllFormed c × AllFormed v
+  AllFormed (fixed_list e k v n) = WellFormed (fixed_list e k v n) × AllFormed e × ValidityFormed v
+  AllFormed (list_view e o s v f) = WellFormed (list_view e o s v f) × AllFormed e × AllFormed o × AllFormed s × ValidityFormed v
+  AllFormed (structure ns ts v n) = WellFormed (structure ns ts v n) × ColumnsFormed ts × ValidityFormed v
+  AllFormed (view_array vs bs u v) = WellFormed (view_array vs bs u v) × ((i : ℕ) → i < length vs → AreBytes (slice_index_or vs i [])) × ValidityFormed v
+
+  pub ColumnsFormed : Trees → Type 0
+  ColumnsFormed no_trees = Unit {0}
+  ColumnsFormed (tree t ts) = AllFormed t × ColumnsFormed ts
+
+  pub ValidityFormed : Valid → Type 0
+  ValidityFormed non_nullable = Unit {0}
+  ValidityFormed all_valid = Unit {0}
+  ValidityFormed all_invalid = Unit {0}
+  ValidityFormed (by_array t) = AllFormed t
+
+-- of an array that is well formed at every depth each row fits the kind
+abbrev pub RowsFit : Type 0
+RowsFit = (t : Tree) → AllFormed t → (i : ℕ) → i < tree_len t → Fits (kind_of t) (row_at t i)

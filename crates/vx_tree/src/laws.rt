@@ -1,0 +1,44 @@
+// Laws of arrays, each proved as the contract of a function that does nothing.
+
+ghost use Rattle.std.specs.Prelude.{◌≡◌, ◌-◌, ◌^◌, Some, None};
+ghost use Rattle.vx_base.specs.Refusals.{out_of_bounds, negative, overflow, mismatched_types};
+ghost use Rattle.vx_tree.specs.Fitting.{RowsFit};
+ghost use Rattle.vx_tree.specs.Faults.{slice_fault, take_fault, take_overflow};
+ghost use Rattle.vx_tree.specs.Meaning.{rows};
+ghost use Rattle.vx_tree.specs.Operations.{picks};
+ghost use Rattle.vx_tree.specs.Worked.{signed_numbers, signed_rows, some_booleans, some_boolean_rows, all_null, all_null_rows, same_pair, same_pair_rows, dictionary_with_nulls, dictionary_rows, empty_lists, empty_list_rows, pairs, pair_rows, overlapping_lists, overlapping_rows, last_none_first, taken_rows, some_records, record_rows, some_texts, text_rows, some_bytes, bytes_rows, faulty_indices, negative_indices, null_indices};
+
+/// Of an array that is well formed at every depth, each row fits the array's data type.
+pub fn rows_fit_their_kind()
+    ensures { RowsFit }
+{}
+
+/// The rows of small arrays of each layout are those that were worked by hand.
+pub fn rows_of_worked_arrays()
+    ensures numbers { rows signed_numbers ≡ signed_rows }
+    ensures booleans { rows some_booleans ≡ some_boolean_rows }
+    ensures nulls { rows all_null ≡ all_null_rows }
+    ensures constant { rows same_pair ≡ same_pair_rows }
+    ensures dictionary { rows dictionary_with_nulls ≡ dictionary_rows }
+    ensures empty_lists { rows empty_lists ≡ empty_list_rows }
+    ensures fixed_lists { rows pairs ≡ pair_rows }
+    ensures list_view { rows overlapping_lists ≡ overlapping_rows }
+    ensures records { rows some_records ≡ record_rows }
+    ensures texts { rows some_texts ≡ text_rows }
+    ensures bytes { rows some_bytes ≡ bytes_rows }
+{}
+
+/// The rows that small arrays are to give when taken, and the first fault of those that may not
+/// be.
+pub fn faults_of_worked_arrays()
+    ensures taken { picks (rows overlapping_lists) last_none_first ≡ taken_rows }
+    ensures past_the_end { take_fault overlapping_lists faulty_indices ≡ Some (out_of_bounds 5) }
+    ensures negative_index { take_fault overlapping_lists negative_indices ≡ Some (negative 1) }
+    ensures null_index { take_fault overlapping_lists null_indices ≡ None }
+    ensures no_integers { take_fault overlapping_lists some_booleans ≡ Some mismatched_types }
+    ensures no_overflow { take_overflow pairs (2 ^ 63 - 1) ≡ None }
+    ensures overflow { take_overflow pairs (2 ^ 63) ≡ Some overflow }
+    ensures end_first { slice_fault 3 5 4 ≡ Some (out_of_bounds 4) }
+    ensures start { slice_fault 3 3 2 ≡ Some (out_of_bounds 3) }
+    ensures empty_slice { slice_fault 3 3 3 ≡ None }
+{}
