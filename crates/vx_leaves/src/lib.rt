@@ -7,3 +7,6 @@ mod primitive_array;
 
 pub use crate::bool_array::BoolArray;
 pub use crate::primitive_array::PrimitiveArray;
+
+#[cfg(test)]
+mod tests;
