@@ -8,3 +8,15 @@ pub mod Utf8Table
 pub mod Utf8Ranges
 pub mod FirstFaults
 pub mod FaultyViews
+pub mod CutPieces
+pub mod CutOpen
+pub mod CutNextValue
+pub mod Differences
+pub mod ReadsView
+pub mod CutPlaces
+pub mod NoFaults
+pub mod CutStops
+pub mod OffsetFacts
+pub mod NativeRanges
+pub mod LengthFaults
+pub mod BuildRefusals

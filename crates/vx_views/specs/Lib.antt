@@ -2,3 +2,6 @@ pub mod Order
 pub mod Views
 pub mod Utf8
 pub mod Faulty
+pub mod Cut
+pub mod Places
+pub mod BuildFaults

@@ -1,0 +1,139 @@
+-- What a call that builds views is refused for, given what its parts found.
+use Rattle.std.proofs.Common.{◌≡◌, Result, Ok, Err, IfErr, IfOk, IfSome, IfNone, drop, slice_range, length-take, length-drop, unsigned_abs, ℕ, ℤ, zero, suc, ◌+◌, ◌-◌, ◌^◌, ◌<◌, ◌≤◌, true, false, List, [], ◌∷◌, length, take, get_or, sum, if◌then◌else◌, nat_le, Option, Some, None, IsSome, inl, inr, refl, ◌∙◌, ap, ⊎_elim, ◌⊎◌, arith}
+use Rattle.std.specs.List.{All}
+use Rattle.std.specs.Result.{IsErrAnd}
+use Rattle.std.proofs.lemmas.Bool.{cases_lt, le-leb, lt-leb, leb-true}
+use Rattle.vx_base.specs.declared.errors.VortexError.{VortexError}
+use Rattle.vx_base.specs.declared.errors.VortexError.TheVariants.{Memory, LimitTooLarge, Overflow}
+use Rattle.vx_base.specs.Refusals.{Refusal, or_else, IsMemoryOr, limit_too_large, overflow, value_too_long}
+use Rattle.vx_views.specs.Cut.{ArePieces, IsCut, IsMaximalCut}
+use Rattle.vx_views.specs.BuildFaults.{limit_fault, numbering_fault, number_at, lengths_of, differences, too_long_at, lengths_fault, offsets_fault, IsFault, IsPieceCount}
+use Rattle.vx_views.specs.Places.{AreBuilt}
+use Rattle.vx_views.proofs.OffsetFacts.{AreSoundOffsets-none}
+use Rattle.std.proofs.lemmas.List.Sums.{sum_by-take-le}
+use Rattle.vx_views.proofs.CutPieces.{sum_take_mono, longest_same, longest_ahead}
+use Rattle.vx_views.proofs.CutPlaces.{length-pieces_of}
+use Rattle.vx_views.proofs.NoFaults.{AreSound-none, first_fault-at, if-none, length_at, length-lengths_of}
+use Rattle.vx_views.proofs.CutOpen.{sum_more, some_maximal}
+
+-- pieces cannot hold a value that is longer than the limit
+pieces_hold_not : (limit : ℕ) (lens : List ℕ) (from : ℕ) (ends : List ℕ) (to k : ℕ) → ArePieces limit lens from ends to → k < length lens → limit < get_or lens k 0 → from ≤ sum (take k lens) → sum (take (k + 1) lens) ≤ to → ⊥
+pieces_hold_not limit lens from [] to k pieces k_in over low high = omega (arith, sum_more lens k k_in)
+pieces_hold_not limit lens from (e ∷ es) to k pieces k_in over low high =
+    ⊎_elim
+    (λ (after : k < pieces.2.0). omega (arith, pieces.1, pieces.2.1, sum_more lens k k_in, sum_take_mono lens (k + 1) pieces.2.0 (omega arith)))
+    (λ (before : pieces.2.0 ≤ k). pieces_hold_not limit lens e es to k pieces.3 k_in over (omega (arith, pieces.2.1, sum_take_mono lens pieces.2.0 k before)) high)
+    (cases_lt k pieces.2.0)
+
+-- a value that is longer than the limit
+pub record HasLong (limit : ℕ) (lens : List ℕ) : Type 0 where
+  pub row : ℕ
+  pub row_in : row < length lens
+  pub long : limit < get_or lens row 0
+
+short_or_long : (limit : ℕ) (lens : List ℕ) → All (λ n. n ≤ limit) lens ⊎ HasLong limit lens
+short_or_long limit [] = inl (λ k d h. absurd (omega arith))
+short_or_long limit (n ∷ ns) =
+    ⊎_elim
+    (λ (over : limit < n). inr (record { row = 0; row_in = omega arith; long = over }))
+    (λ (small : n ≤ limit). ⊎_elim
+    (λ (rest : All (λ m. m ≤ limit) ns). inl (all_cons n ns small rest))
+    (λ (some : HasLong limit ns). inr (record { row = suc some.row; row_in = omega (arith, some.row_in); long = some.long }))
+    (short_or_long limit ns))
+    (cases_lt limit n)
+  where
+    all_cons : (m : ℕ) (ms : List ℕ) → m ≤ limit → All (λ x. x ≤ limit) ms → All (λ x. x ≤ limit) (m ∷ ms)
+    all_cons m ms small rest zero d h = small
+    all_cons m ms small rest (suc k) d h = rest k d (omega arith)
+
+maximal_count : (limit : ℕ) (lens ends : List ℕ) → IsMaximalCut limit lens ends → IsPieceCount limit lens (length ends)
+maximal_count limit lens ends m others other = ap length (longest_same limit lens others ends 0 0 refl other.cut.pieces other.longest m.cut.pieces m.longest)
+
+-- the maximal cut has some number of pieces, where there is one
+pub piece_count : (limit : ℕ) (lens : List ℕ) → (pieces : ℕ) × IsPieceCount limit lens pieces
+piece_count limit lens =
+    ⊎_elim
+    (λ (small : All (λ n. n ≤ limit) lens). let m = some_maximal limit lens small in (length m.0, maximal_count limit lens m.0 m.1))
+    (λ (some : HasLong limit lens). (0, λ ends m. absurd (pieces_hold_not limit lens 0 ends (sum lens) some.row m.cut.pieces some.row_in some.long (omega arith) (sum_by-take-le (λ (x : ℕ). x) lens (some.row + 1)))))
+    (short_or_long limit lens)
+
+-- an error of building views, where `fault` is the first one of the lengths or offsets
+abbrev pub IsRefused : ℕ → ℕ → Option Refusal → List ℕ → VortexError → Type 0
+IsRefused start limit fault lens e = (pieces : ℕ) × (IsPieceCount limit lens pieces × IsMemoryOr (or_else (limit_fault limit) (or_else fault (numbering_fault start pieces))) e)
+
+limit-none : (limit : ℕ) → limit ≤ 2147483647 → limit_fault limit ≡ None
+limit-none limit h = ap (λ b. if b then None else Some limit_too_large) (le-leb limit 2147483647 h)
+
+or_else-some : (a b : Option Refusal) → IsSome a → or_else a b ≡ a
+or_else-some None b some = absurd (let same : false ≡ true = some in cc)
+or_else-some (Some r) b some = refl
+
+pub refused-memory : (start limit : ℕ) (fault : Option Refusal) (lens : List ℕ) (e : VortexError) → e ≡ Memory → IsRefused start limit fault lens e
+refused-memory start limit fault lens e same = let p = piece_count limit lens in (p.0, (p.1, inl same))
+
+pub refused-limit : (start limit : ℕ) (fault : Option Refusal) (lens : List ℕ) → 2147483647 < limit → IsRefused start limit fault lens LimitTooLarge
+refused-limit start limit fault lens h =
+    let p = piece_count limit lens in
+    let first : limit_fault limit ≡ Some limit_too_large = ap (λ b. if b then None else Some limit_too_large) (lt-leb limit 2147483647 h) in
+    (p.0, (p.1, inr (ap (λ f. or_else f (or_else fault (numbering_fault start p.0))) first)))
+
+pub refused-fault : (start limit : ℕ) (fault : Option Refusal) (lens : List ℕ) (e : VortexError) → limit ≤ 2147483647 → IsFault fault e → IsRefused start limit fault lens e
+refused-fault start limit fault lens e h is =
+    let p = piece_count limit lens in
+    (p.0, (p.1, inr (ap (λ f. or_else f (or_else fault (numbering_fault start p.0))) (limit-none limit h) ∙ or_else-some fault (numbering_fault start p.0) is.0 ∙ is.1)))
+
+pub refused-numbers : (start limit : ℕ) (fault : Option Refusal) (lens : List ℕ) → limit ≤ 2147483647 → fault ≡ None → ((k : ℕ) → k < length lens → get_or lens k 0 ≤ limit) → ((ends : List ℕ) → IsCut limit lens ends → 2 ^ 32 < start + length ends) → IsRefused start limit fault lens Overflow
+refused-numbers start limit fault lens h none short past =
+    ⊎_elim
+    (λ (small : All (λ n. n ≤ limit) lens).
+    let m = some_maximal limit lens small in
+    let over : numbering_fault start (length m.0) ≡ Some overflow = ap (λ b. if b then None else Some overflow) (lt-leb (start + length m.0) (2 ^ 32) (past m.0 m.1.cut)) in
+    refuses m.0 m.1 over)
+    (λ (some : HasLong limit lens). absurd (omega (arith, short some.row some.row_in, some.long)))
+    (short_or_long limit lens)
+  where
+    refuses : (ends : List ℕ) → IsMaximalCut limit lens ends → numbering_fault start (length ends) ≡ Some overflow → IsRefused start limit fault lens Overflow
+    refuses ends m over = (length ends, (maximal_count limit lens ends m, inr (ap (λ f. or_else f (or_else fault (numbering_fault start (length ends)))) (limit-none limit h) ∙ ap (λ f. or_else f (numbering_fault start (length ends))) none ∙ over)))
+
+pub accepted : (start limit : ℕ) (fault : Option Refusal) (pieces : ℕ) → limit ≤ 2147483647 → fault ≡ None → start + pieces ≤ 2 ^ 32 → or_else (limit_fault limit) (or_else fault (numbering_fault start pieces)) ≡ None
+accepted start limit fault pieces h none few =
+    let named : numbering_fault start pieces ≡ None = ap (λ b. if b then None else Some overflow) (le-leb (start + pieces) (2 ^ 32) few) in
+    ap (λ f. or_else f (or_else fault (numbering_fault start pieces))) (limit-none limit h) ∙ ap (λ f. or_else f (numbering_fault start pieces)) none ∙ named
+
+-- the buffers that are built are no more than the pieces of any cut
+pub AreBuilt-fewest : (start limit : ℕ) (heap lens : List ℕ) (buffers views : List (List ℕ)) → AreBuilt start limit heap lens buffers views → (others : List ℕ) → IsCut limit lens others → length buffers ≤ length others
+AreBuilt-fewest start limit heap lens buffers views built others cut =
+    omega (arith, ap length built.pieces, length-pieces_of heap 0 built.ends, longest_ahead limit lens built.ends others 0 0 (sum lens) (omega arith) (omega arith) built.cut.cut.pieces built.cut.longest cut.pieces)
+
+pub AreBuilt-numbered : (start limit : ℕ) (heap lens : List ℕ) (buffers views : List (List ℕ)) → AreBuilt start limit heap lens buffers views → start + length buffers ≤ 2 ^ 32
+AreBuilt-numbered start limit heap lens buffers views built = omega (arith, built.numbered, ap length built.pieces, length-pieces_of heap 0 built.ends)
+
+-- lengths without a fault are within the limit
+pub short_lengths : (limit heap_len : ℕ) (numbers : List ℤ) → lengths_fault limit heap_len numbers ≡ None → (k : ℕ) → k < length (lengths_of numbers) → get_or (lengths_of numbers) k 0 ≤ limit
+short_lengths limit heap_len numbers e k h =
+    let k_in : k < length numbers = omega (arith, length-lengths_of numbers) in
+    omega (arith, length_at numbers k k_in, (AreSound-none limit heap_len numbers e).short k k_in)
+
+pub IfErr-weaker : {A E : Type 0} {Q : E → Type 0} (P : E → Type 0) (r : Result A E) → IsErrAnd r Q → ((e : E) → Q e → P e) → IfErr r P
+IfErr-weaker P (Ok x) h k = tt
+IfErr-weaker P (Err e) h k = k e h
+
+pub short_differences : (limit heap_len : ℕ) (offsets : List ℤ) → offsets_fault limit heap_len offsets ≡ None → (k : ℕ) → k < length (lengths_of (differences offsets)) → get_or (lengths_of (differences offsets)) k 0 ≤ limit
+short_differences limit heap_len offsets e k h =
+    let k_in : k < length (differences offsets) = omega (arith, length-lengths_of (differences offsets)) in
+    let here = first_fault-at (too_long_at limit (differences offsets)) (length (differences offsets)) k (AreSoundOffsets-none limit heap_len offsets e).short k_in in
+    omega (arith, length_at (differences offsets) k k_in, leb-true (unsigned_abs (number_at (differences offsets) k)) limit (if-none (nat_le (unsigned_abs (number_at (differences offsets) k)) limit) (value_too_long k) here))
+
+-- the same of what a cut found
+pub made-weaker : {A E : Type 0} (P Q : A → Type 0) (r : Result (Option A) E) → ((x : A) → P x → Q x) → IfOk r (λ o. IfSome o P) → IfOk r (λ o. IfSome o Q)
+made-weaker P Q (Ok (Some x)) k h = k x h
+made-weaker P Q (Ok None) k h = tt
+made-weaker P Q (Err e) k h = tt
+
+pub stopped-weaker : {A E : Type 0} (P Q : Type 0) (r : Result (Option A) E) → (P → Q) → IfOk r (λ o. IfNone o P) → IfOk r (λ o. IfNone o Q)
+stopped-weaker P Q (Ok (Some x)) k h = tt
+stopped-weaker P Q (Ok None) k h = k h
+stopped-weaker P Q (Err e) k h = tt
+
+pub length-used : (heap : List ℕ) (first last : ℕ) → first ≤ last → last ≤ length heap → length (slice_range heap first last) ≡ last - first
+length-used heap first last h k = omega (arith, length-take (last - first) (drop first heap), length-drop first heap)
