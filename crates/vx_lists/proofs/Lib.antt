@@ -1,0 +1,10 @@
+pub mod CanonicalRows
+pub mod TidyLayouts
+pub mod MappedLayouts
+pub mod PlannedRows
+pub mod PlannedNumbers
+pub mod ViewLayouts
+pub mod CountArrays
+pub mod RebuiltViews
+pub mod ListFaults
+pub mod ListPlans

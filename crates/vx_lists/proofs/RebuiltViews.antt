@@ -1,0 +1,151 @@
+-- A list view that is made by a plan is the rebuilt one.
+use Rattle.std.proofs.Common.{◌≡◌, ℕ, zero, suc, ◌+◌, ◌<◌, ◌≤◌, Bool, true, false, cond, List, [], ◌∷◌, ◌++◌, length, map, get_or, sum, Option, Some, None, refl, sym, ◌∙◌, ap, subst, zero-add, arith}
+use Rattle.std.specs.Prelude.{slice_index_or, IfSome, IsSome}
+use Rattle.std.specs.List.{All, flat_map, range_with_len}
+use Rattle.std.proofs.lemmas.List.{length-map, get_or-map}
+use Rattle.std.proofs.lemmas.List.Elements.{All-nil, All-append, All-map, All-get_or}
+use Rattle.std.proofs.lemmas.List.FromFn.{fill_by_all, length-range_with_len, get_or-range_with_len}
+use Rattle.vx_base.specs.declared.ptypes.PType.{PType}
+use Rattle.vx_base.specs.Rows.{Row, null, count_in}
+use Rattle.vx_base.specs.Kinds.{Kind, booleans, integers, texts, binaries, lists, fixed_lists, records, is_plain_integers, integer_type, or_nullable}
+use Rattle.vx_tree.specs.Tree.{Tree, list_view, Valid}
+use Rattle.vx_tree.specs.Meaning.{tree_len, kind_of, row_at, rows, valid_mask, nullable, picked}
+use Rattle.vx_tree.specs.Shapes.{never_null}
+use Rattle.vx_tree.specs.Formed.{IsListView, IsCounts, ValidFits, WellFormed}
+use Rattle.vx_tree.specs.Operations.{IsTaken, AreWithin, AreThere, position_at}
+use Rattle.vx_lists.specs.ListLayout.{ListLayout, layout, rows_of, IsWellFormed, IsTidy, items_of, size_of, starts_from, canonical, position_rows, valid_sizes, valid_total, IsPlan}
+use Rattle.vx_lists.specs.ListViews.{counts_in, list_layout_of, list_rows, rebuilt_type, offsets_of, sizes_of, IsCountArray, IsRebuilt}
+use Rattle.vx_lists.proofs.CanonicalRows.{canonical_well_formed, rows_of-canonical, length-flat_map-items_of, length-starts_from}
+use Rattle.vx_lists.proofs.TidyLayouts.{canonical_tidy}
+use Rattle.vx_lists.proofs.PlannedNumbers.{planned_is_canonical, map-size_of-position_rows, element_at}
+use Rattle.vx_lists.proofs.PlannedRows.{length-valid_sizes}
+use Rattle.vx_lists.proofs.ViewLayouts.{length-rows, get_or-rows, length-counts_in, get_or-counts_in, length-valid_mask, layout_well_formed, rows_of-list_layout_of, same_rows_by_lists}
+
+-- ---- the positions of a plan
+
+range_below : (offset size n : ℕ) → offset + size ≤ n → All (λ k. k < n) (range_with_len offset size)
+range_below offset size n fits = λ i d inside.
+    let here : i < size = omega (arith, length-range_with_len offset size) in
+    omega (arith, get_or-range_with_len offset size i d here)
+
+positions_below : (n : ℕ) (offsets sizes : List ℕ) (mask : List Bool) → length sizes ≡ length offsets → length mask ≡ length offsets → ((i : ℕ) → i < length offsets → get_or offsets i 0 + get_or sizes i 0 ≤ n) → All (λ k. k < n) (flat_map items_of (position_rows offsets sizes mask))
+positions_below n [] sizes mask sizes_len mask_len within = All-nil (λ k. k < n)
+positions_below n (offset ∷ offsets) [] mask sizes_len mask_len within = absurd (omega arith)
+positions_below n (offset ∷ offsets) (size ∷ sizes) [] sizes_len mask_len within = absurd (omega arith)
+positions_below n (offset ∷ offsets) (size ∷ sizes) (true ∷ mask) sizes_len mask_len within =
+    All-append (λ k. k < n) (range_with_len offset size) (flat_map items_of (position_rows offsets sizes mask))
+    (range_below offset size n (within 0 (omega arith)))
+    (positions_below n offsets sizes mask (omega arith) (omega arith) (λ i inside. within (suc i) (omega arith)))
+positions_below n (offset ∷ offsets) (size ∷ sizes) (false ∷ mask) sizes_len mask_len within =
+    positions_below n offsets sizes mask (omega arith) (omega arith) (λ i inside. within (suc i) (omega arith))
+
+module _ (offsets sizes : List ℕ) (mask : List Bool) (new_offsets new_sizes : List ℕ) (positions : List (Option ℕ)) (plan : IsPlan (position_rows offsets sizes mask) new_offsets new_sizes positions) (sizes_len : length sizes ≡ length offsets) (mask_len : length mask ≡ length offsets) where
+  pub planned_within : (n : ℕ) → ((i : ℕ) → i < length offsets → get_or offsets i 0 + get_or sizes i 0 ≤ n) → AreWithin n positions
+  planned_within n within =
+      let P : Option ℕ → Type 0 = λ p. IfSome p (λ k. k < n) in
+      subst (All P) (sym plan.positions_are) (All-map P Some (flat_map items_of (position_rows offsets sizes mask)) (positions_below n offsets sizes mask sizes_len mask_len within))
+
+  pub planned_there : AreThere positions
+  planned_there =
+      let P : Option ℕ → Type 0 = λ p. IsSome p in
+      subst (All P) (sym plan.positions_are) (All-map P Some (flat_map items_of (position_rows offsets sizes mask)) (λ i d inside. refl))
+
+  pub length-planned : length positions ≡ valid_total sizes mask
+  length-planned =
+      ap length plan.positions_are ∙ length-map (flat_map items_of (position_rows offsets sizes mask)) Some ∙ length-flat_map-items_of (position_rows offsets sizes mask)
+      ∙ ap sum (map-size_of-position_rows offsets sizes mask sizes_len mask_len)
+
+  pub length-planned_offsets : length new_offsets ≡ length offsets
+  length-planned_offsets =
+      ap length plan.offsets_are ∙ length-starts_from 0 (map size_of (position_rows offsets sizes mask))
+      ∙ ap length (map-size_of-position_rows offsets sizes mask sizes_len mask_len) ∙ length-valid_sizes sizes mask (mask_len ∙ sym sizes_len) ∙ sizes_len
+
+-- ---- the elements that are taken
+
+picked_rows : (e : Tree) (p : Option ℕ) → IfSome p (λ k. k < tree_len e) → picked (row_at e) p ≡ element_at (rows e) null p
+picked_rows e None within = refl
+picked_rows e (Some k) within = sym (get_or-rows e k null within)
+
+rows-taken : (e : Tree) (ps : List (Option ℕ)) (r : Tree) → AreWithin (tree_len e) ps → IsTaken e ps never_null r → rows r ≡ map (element_at (rows e) null) ps
+rows-taken e ps r within taken =
+    let each : (i : ℕ) → i < length ps → get_or (rows r) i null ≡ get_or (map (element_at (rows e) null) ps) i null =
+    λ i inside.
+    get_or-rows r i null (omega (arith, taken.len)) ∙ taken.rows i inside
+    ∙ picked_rows e (position_at ps i) (All-get_or (λ p. IfSome p (λ k. k < tree_len e)) ps i None inside within)
+    ∙ sym (get_or-map (element_at (rows e) null) ps i None null inside) in
+    let f : ℕ → Row = λ i. get_or (map (element_at (rows e) null) ps) i null in
+    fill_by_all f (rows r) (length ps) null (length-rows r ∙ taken.len) each
+    ∙ sym (fill_by_all f (map (element_at (rows e) null) ps) (length ps) null (length-map ps (element_at (rows e) null)) (λ i inside. refl))
+
+or_nullable-false : (k : Kind) → or_nullable false k ≡ k
+or_nullable-false (booleans n) = refl
+or_nullable-false (integers t n) = refl
+or_nullable-false (texts n) = refl
+or_nullable-false (binaries n) = refl
+or_nullable-false (lists k n) = refl
+or_nullable-false (fixed_lists k size n) = refl
+or_nullable-false (records names ks n) = refl
+
+plain_kind : (k : Kind) → is_plain_integers k ≡ true → k ≡ integers (integer_type k) false
+plain_kind (booleans n) plain = cc
+plain_kind (integers t true) plain = cc
+plain_kind (integers t false) plain = refl
+plain_kind (texts n) plain = cc
+plain_kind (binaries n) plain = cc
+plain_kind (lists k n) plain = cc
+plain_kind (fixed_lists k size n) plain = cc
+plain_kind (records names ks n) plain = cc
+
+-- ---- the new list view
+
+module _ (e o s : Tree) (v : Valid) (f : Bool) (good : IsListView e o s f) (fits : ValidFits v (tree_len o)) (new_offsets new_sizes : List ℕ) (positions : List (Option ℕ)) (plan : IsPlan (position_rows (counts_in o) (counts_in s) (valid_mask v (tree_len o))) new_offsets new_sizes positions) (e' o' s' : Tree) (taken : IsTaken e positions never_null e') (t_o t_s : PType) (o_is : IsCountArray t_o new_offsets o') (s_is : IsCountArray t_s new_sizes s') where
+  same_len : tree_len o' ≡ tree_len o
+  same_len =
+      let well = layout_well_formed e o s v f good in
+      sym (length-counts_in o') ∙ ap length o_is.counts_are ∙ length-planned_offsets (counts_in o) (counts_in s) (valid_mask v (tree_len o)) new_offsets new_sizes positions plan well.sizes_len well.mask_len ∙ length-counts_in o
+
+  pub rebuilt_layout : list_layout_of (list_view e' o' s' v true) ≡ canonical (list_rows (list_view e o s v f))
+  rebuilt_layout =
+      let old : ListLayout Row = list_layout_of (list_view e o s v f) in
+      let well = layout_well_formed e o s v f good in
+      let within = planned_within (counts_in o) (counts_in s) (valid_mask v (tree_len o)) new_offsets new_sizes positions plan well.sizes_len well.mask_len (tree_len e) (λ i inside. omega (arith, well.within i inside, length-rows e)) in
+      let planned = planned_is_canonical old null new_offsets new_sizes positions (rows e') well plan (rows-taken e positions e' within taken) in
+      ap (λ os. layout os (counts_in s') (valid_mask v (tree_len o')) (rows e')) o_is.counts_are
+      ∙ ap (λ ss. layout new_offsets ss (valid_mask v (tree_len o')) (rows e')) s_is.counts_are
+      ∙ ap (λ n. layout new_offsets new_sizes (valid_mask v n) (rows e')) same_len
+      ∙ planned ∙ ap canonical (rows_of-list_layout_of e o s v f good)
+
+  pub rebuilt_formed : WellFormed (list_view e' o' s' v true)
+  rebuilt_formed =
+      let lists_are = list_rows (list_view e o s v f) in
+      let well : IsWellFormed (list_layout_of (list_view e' o' s' v true)) = subst IsWellFormed (sym rebuilt_layout) (canonical_well_formed lists_are) in
+      let tidy : IsTidy (list_layout_of (list_view e' o' s' v true)) = subst IsTidy (sym rebuilt_layout) (canonical_tidy lists_are) in
+      let sizes_len : tree_len s' ≡ tree_len o' = sym (length-counts_in s') ∙ well.sizes_len ∙ length-counts_in o' in (
+        subst (ValidFits v) (sym same_len) fits,
+        record {
+          offsets = o_is.are_counts;
+          sizes = s_is.are_counts;
+          same_len = sizes_len;
+          within = λ i inside. omega (arith, well.within i (omega (arith, length-counts_in o')), get_or-counts_in o' i inside, get_or-counts_in s' i (omega arith), length-rows e');
+          follows = λ set i inside.
+              let inside_now : i < tree_len o' = omega arith in
+              let next = tidy.consecutive i (omega (arith, length-counts_in o')) in
+              omega (arith, next, get_or-counts_in o' i inside_now, get_or-counts_in s' i (omega arith), get_or-counts_in o' (i + 1) inside);
+        },
+      )
+
+  pub rebuilt_view : t_o ≡ rebuilt_type (integer_type (kind_of o)) → t_s ≡ integer_type (kind_of s) → IsRebuilt (list_view e o s v f) (list_view e' o' s' v true)
+  rebuilt_view offset_type size_type =
+      let formed = rebuilt_formed in
+      let same_lists : list_rows (list_view e' o' s' v true) ≡ list_rows (list_view e o s v f) =
+      sym (rows_of-list_layout_of e' o' s' v true formed.1) ∙ ap rows_of rebuilt_layout ∙ rows_of-canonical (list_rows (list_view e o s v f)) in
+      record {
+        is_view = refl;
+        canonical_layout = rebuilt_layout;
+        flag = refl;
+        offsets_kind = o_is.kind ∙ ap (λ t. integers t false) offset_type;
+        sizes_kind = s_is.kind ∙ ap (λ t. integers t false) size_type ∙ sym (plain_kind (kind_of s) good.sizes.kind);
+        kind = ap (λ k. lists k (nullable v)) (taken.kind ∙ or_nullable-false (kind_of e));
+        state = refl;
+        same_rows = same_rows_by_lists e' o' s' v true e o s v f same_lists;
+      }

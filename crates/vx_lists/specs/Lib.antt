@@ -1,0 +1,3 @@
+pub mod ListLayout
+pub mod ListViews
+pub mod ListViewFaults

@@ -1,0 +1,76 @@
+//! Laws of list layouts. Each function stands for the law that its clause states.
+
+ghost use Rattle.std.specs.Prelude.{◌≡◌, ◌↔◌, ◌<◌, ◌∷◌, [], ℕ, true, false, List, Option, length, map, sum, take, slice_index, slice_index_or};
+ghost use Rattle.vx_lists.specs.ListLayout.{ListLayout, layout, rows_of, IsWellFormed, StandsFor, size_of, canonical, IsTidy, valid_total, numbered, position_rows, map_layout};
+
+/// The canonical layout stands for its rows.
+pub fn canonical_stands<T>()
+    ensures { (rows : List (Option (List T))) → StandsFor (canonical rows) rows }
+{}
+
+/// Two canonical layouts are equal exactly where their rows are.
+pub fn canonical_is_exact<T>()
+    ensures { (rows others : List (Option (List T))) →
+        (canonical rows ≡ canonical others) ↔ (rows ≡ others) }
+{}
+
+/// The canonical layout starts at 0, is consecutive, has size 0 at null rows and no element past
+/// the last end.
+pub fn canonical_is_tidy<T>()
+    ensures { (rows : List (Option (List T))) → IsTidy (canonical rows) }
+{}
+
+/// No other layout that stands for the rows is tidy.
+pub fn tidy_is_canonical<T>()
+    ensures { (l : ListLayout T) (rows : List (Option (List T))) →
+        StandsFor l rows → IsTidy l → l ≡ canonical rows }
+{}
+
+/// Each offset of the canonical layout is the sum of the sizes before it.
+pub fn canonical_offset_is_sum<T>()
+    ensures { (rows : List (Option (List T))) (i : ℕ) → i < length rows →
+        slice_index (canonical rows).offsets i ≡ sum (take i (map size_of rows)) }
+{}
+
+/// The canonical layout has as many elements as the present rows have in all.
+pub fn canonical_len_is_valid_total<T>()
+    ensures { (l : ListLayout T) → IsWellFormed l →
+        length (canonical (rows_of l)).elements ≡ valid_total l.sizes l.mask }
+{}
+
+/// One gather of the elements gives the canonical layout: it is enough to lay out positions.
+pub fn gather_is_canonical<T>()
+    ensures { (l : ListLayout T) (d : T) → canonical (rows_of l)
+        ≡ map_layout (λ i. slice_index_or l.elements i d) (canonical (rows_of (numbered l))) }
+{}
+
+/// The positions to gather follow from the offsets, the sizes and the mask alone.
+pub fn gather_by_positions<T>()
+    ensures { (l : ListLayout T) (d : T) → IsWellFormed l → canonical (rows_of l)
+        ≡ map_layout (λ i. slice_index_or l.elements i d)
+        (canonical (position_rows l.offsets l.sizes l.mask)) }
+{}
+
+/// Lists that overlap are laid out one after the other.
+pub fn overlapping_lists_part()
+    ensures { let overlapping : ListLayout ℕ = layout (0 ∷ 1 ∷ []) (3 ∷ 2 ∷ []) (true ∷ true ∷ []) (1 ∷ 2 ∷ 3 ∷ [])
+        in canonical (rows_of overlapping)
+        ≡ layout (0 ∷ 3 ∷ []) (3 ∷ 2 ∷ []) (true ∷ true ∷ []) (1 ∷ 2 ∷ 3 ∷ 2 ∷ 3 ∷ []) }
+{}
+
+/// A null row's elements are left out.
+pub fn null_elements_go()
+    ensures { let sparse : ListLayout ℕ = layout (0 ∷ 1 ∷ 2 ∷ []) (1 ∷ 2 ∷ 2 ∷ []) (true ∷ false ∷ true ∷ [])
+        (1 ∷ 2 ∷ 3 ∷ 4 ∷ [])
+        in canonical (rows_of sparse)
+        ≡ layout (0 ∷ 1 ∷ 1 ∷ []) (1 ∷ 0 ∷ 2 ∷ []) (true ∷ false ∷ true ∷ []) (1 ∷ 3 ∷ 4 ∷ []) }
+{}
+
+/// Null rows at the end start where the last list ends.
+pub fn last_nulls_start_at_the_end()
+    ensures { let sparse : ListLayout ℕ = layout (0 ∷ 2 ∷ 0 ∷ 0 ∷ []) (2 ∷ 2 ∷ 0 ∷ 0 ∷ [])
+        (true ∷ true ∷ false ∷ false ∷ []) (1 ∷ 2 ∷ 3 ∷ 4 ∷ [])
+        in canonical (rows_of sparse)
+        ≡ layout (0 ∷ 2 ∷ 4 ∷ 4 ∷ []) (2 ∷ 2 ∷ 0 ∷ 0 ∷ []) (true ∷ true ∷ false ∷ false ∷ [])
+        (1 ∷ 2 ∷ 3 ∷ 4 ∷ []) }
+{}

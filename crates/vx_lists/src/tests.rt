@@ -1,0 +1,160 @@
+use super::*;
+use std::alloc::Global;
+use std::test::Fail;
+use vx_base::{BitBuffer, Buffer, DType, NativePType, PType, VortexError};
+use vx_tree::{ArrayRef, Layout, Validity};
+
+fn ints<T: NativePType>(alloc: Global, items: &[T]) -> Result<ArrayRef, VortexError> {
+    let bytes = Buffer::copy_from(alloc, items)?.into_byte_buffer(alloc)?;
+    let ptype = T::PTYPE;
+    let validity = Validity::NonNullable;
+    ArrayRef::from_parts(
+        alloc,
+        Layout::Primitive {
+            ptype,
+            bytes,
+            validity,
+        },
+    )
+}
+
+fn bools(alloc: Global, items: &[bool]) -> Result<ArrayRef, VortexError> {
+    let bits = BitBuffer::from_bools(alloc, items)?;
+    let validity = Validity::NonNullable;
+    ArrayRef::from_parts(alloc, Layout::Bool { bits, validity })
+}
+
+fn view<T: NativePType>(
+    alloc: Global,
+    elements: &[i32],
+    offsets: &[T],
+    sizes: &[T],
+    validity: Validity,
+) -> Result<ListViewArray, VortexError> {
+    let elements = ints(alloc, elements)?;
+    let offsets = ints(alloc, offsets)?;
+    let sizes = ints(alloc, sizes)?;
+    ListViewArray::try_new(alloc, elements, offsets, sizes, validity)
+}
+
+// Whether the lists start and have as many elements as is wanted.
+fn has_ranges(view: &ListViewArray, wanted: &[(usize, usize)]) -> bool {
+    if view.len() != wanted.len() {
+        return false;
+    }
+    for (i, (offset, size)) in wanted.iter().enumerate() {
+        if view.offset_at(i) != *offset || view.size_at(i) != *size {
+            return false;
+        }
+    }
+    true
+}
+
+// Whether these are the numbers of an array.
+fn has_numbers(array: &ArrayRef, wanted: &[i128]) -> bool {
+    if !array.dtype().is_int() || array.len() != wanted.len() {
+        return false;
+    }
+    for (i, number) in wanted.iter().enumerate() {
+        if array.int_at(i) != Some(*number) {
+            return false;
+        }
+    }
+    true
+}
+
+// Whether the numbers of an array are of a type.
+fn has_type(array: &ArrayRef, ptype: PType) -> bool {
+    match array.dtype() {
+        DType::Primitive(own, _) => *own == ptype,
+        _ => false,
+    }
+}
+
+// Whether rebuilding gives a flagged view of these ranges over these elements.
+fn rebuilds_to(
+    alloc: Global,
+    lists: &ListViewArray,
+    ranges: &[(usize, usize)],
+    elements: &[i128],
+) -> Result<bool, VortexError> {
+    let rebuilt = lists.rebuild(alloc, ListViewRebuildMode::MakeZeroCopyToList)?;
+    let flagged = rebuilt.is_zero_copy_to_list();
+    Ok(flagged && has_ranges(&rebuilt, ranges) && has_numbers(rebuilt.elements(), elements))
+}
+
+#[test]
+fn overlapping_lists_part(rt: HostRuntime) -> Result<(), Fail> {
+    let alloc = rt.alloc();
+    let lists = view::<u32>(alloc, &[1, 2, 3], &[0, 1], &[3, 2], Validity::NonNullable)?;
+    assert!(rt; rebuilds_to(alloc, &lists, &[(0, 3), (3, 2)], &[1, 2, 3, 2, 3])?);
+    Ok(())
+}
+
+#[test]
+fn null_elements_go(rt: HostRuntime) -> Result<(), Fail> {
+    let alloc = rt.alloc();
+    let validity = Validity::Array(bools(alloc, &[true, false, true])?);
+    let lists = view::<u32>(alloc, &[1, 2, 3, 4], &[0, 1, 2], &[1, 2, 2], validity)?;
+    assert!(rt; rebuilds_to(alloc, &lists, &[(0, 1), (1, 0), (1, 2)], &[1, 3, 4])?);
+    Ok(())
+}
+
+#[test]
+fn no_rows_keep_the_elements(rt: HostRuntime) -> Result<(), Fail> {
+    let alloc = rt.alloc();
+    let lists = view::<u32>(alloc, &[1, 2, 3], &[], &[], Validity::NonNullable)?;
+    assert!(rt; lists.is_empty() && rebuilds_to(alloc, &lists, &[], &[1, 2, 3])?);
+    Ok(())
+}
+
+#[test]
+fn small_offsets_grow(rt: HostRuntime) -> Result<(), Fail> {
+    let alloc = rt.alloc();
+    let lists = view::<u8>(
+        alloc,
+        &[0; 150],
+        &[0, 0],
+        &[150, 150],
+        Validity::NonNullable,
+    )?;
+    let rebuilt = lists.rebuild_by_take(alloc)?;
+    assert!(rt; has_ranges(&rebuilt, &[(0, 150), (150, 150)]) && rebuilt.is_consecutive());
+    assert!(rt; has_type(rebuilt.offsets(), PType::U32) && has_type(rebuilt.sizes(), PType::U8));
+    Ok(())
+}
+
+#[test]
+fn negative_offsets_are_refused(rt: HostRuntime) -> Result<(), Fail> {
+    let refused = view::<i8>(rt.alloc(), &[7; 255], &[-1], &[0], Validity::NonNullable);
+    assert!(rt; matches!(refused, Err(VortexError::Negative { row: 0 })));
+    Ok(())
+}
+
+#[test]
+fn a_flagged_view_stays(rt: HostRuntime) -> Result<(), Fail> {
+    let alloc = rt.alloc();
+    let lists = view::<i64>(alloc, &[5, 6], &[1, 0], &[1, 1], Validity::AllValid)?;
+    let once = lists.rebuild_by_take(alloc)?.try_clone(alloc)?;
+    assert!(rt; rebuilds_to(alloc, &once, &[(0, 1), (1, 1)], &[6, 5])?);
+    Ok(())
+}
+
+#[test]
+fn list_elements_are_a_slice(rt: HostRuntime) -> Result<(), Fail> {
+    let alloc = rt.alloc();
+    let lists = view::<u16>(alloc, &[1, 2, 3], &[0, 1], &[3, 2], Validity::NonNullable)?;
+    assert!(rt; lists.len() == 2);
+    assert!(rt; has_numbers(&lists.list_elements_at(alloc, 1)?, &[2, 3]));
+    Ok(())
+}
+
+#[test]
+fn another_layout_comes_back(rt: HostRuntime) -> Result<(), Fail> {
+    let alloc = rt.alloc();
+    let lists = view::<u32>(alloc, &[1], &[0], &[1], Validity::NonNullable)?;
+    assert!(rt; matches!(lists.dtype(), DType::List(_, _)) && lists.as_array().len() == 1);
+    assert!(rt; ListViewArray::try_from_array(lists.into_array()).is_ok());
+    assert!(rt; ListViewArray::try_from_array(bools(alloc, &[true])?).is_err());
+    Ok(())
+}

@@ -1,0 +1,49 @@
+// The parts of an array as text.
+
+ghost use Rattle.vx_tree.specs.Formed.{IsCounts};
+
+use crate::show::show_array;
+use std::alloc::Global;
+use vx_base::VortexError;
+use vx_tree::{ArrayRef, Layout};
+
+/// Adds the parts of an array to a text, by its layout.
+pub(crate) fn show_parts(
+    alloc: Global,
+    array: &ArrayRef,
+    text: &mut String,
+) -> Result<(), VortexError> {
+    let len = array.len();
+    match array.layout() {
+        Layout::Bool { .. } => write!(text, "bool {len}")?,
+        Layout::Primitive { ptype, .. } => {
+            let ptype = *ptype;
+            write!(text, "primitive {ptype} {len}")?;
+        }
+        Layout::ListView {
+            elements,
+            offsets,
+            sizes,
+            flag,
+            ..
+        } => {
+            text.push_str("listview offsets ")?;
+            show_counts(alloc, offsets, text)?;
+            text.push_str(" sizes ")?;
+            show_counts(alloc, sizes, text)?;
+            let count = elements.len();
+            let flag = *flag;
+            write!(text, " elements {count} flag {flag}")?;
+        }
+    }
+    Ok(())
+}
+
+/// Adds the integer type of an array of counts, and its rows.
+fn show_counts(alloc: Global, counts: &ArrayRef, text: &mut String) -> Result<(), VortexError>
+    requires { IsCounts counts.now }
+{
+    let ptype = counts.dtype().as_ptype();
+    write!(text, "{ptype} ")?;
+    show_array(alloc, counts, text)
+}

@@ -1,0 +1,147 @@
+// The arrays that a script has made, and the commands on them.
+
+use crate::command::{Command, RebuildMode};
+use crate::faults::LineFault;
+use crate::leaves::{boolean_array, integer_array};
+use crate::lexemes::{RegisterWord, ValidityWord};
+use crate::parts::show_parts;
+use crate::show::show_array;
+use std::alloc::Global;
+use vx_base::VortexError;
+use vx_lists::{ListViewArray, ListViewRebuildMode};
+use vx_tree::{ArrayRef, Validity};
+
+/// The arrays that a script has made, by the numbers of their registers.
+pub(crate) struct Registers {
+    arrays: Vec<ArrayRef>,
+}
+
+impl Drop for Registers {
+    // The last array first: an array shares those before it, so lists of lists of lists go level
+    // by level and not in one deep recursion.
+    fn drop(self) {
+        let Registers { mut arrays } = self;
+        while let Some(array) = arrays.pop() {
+            drop(array);
+        }
+    }
+}
+
+impl Registers {
+    /// No arrays.
+    pub(crate) fn new(alloc: Global) -> Registers {
+        Registers {
+            arrays: Vec::new(alloc),
+        }
+    }
+
+    /// Runs one command: makes the next register, or answers the line to print, which ends in a
+    /// line feed.
+    ///
+    /// Refuses `NoRegister` where an operand is not made yet, then what the call refuses.
+    pub(crate) fn run(
+        &mut self,
+        alloc: Global,
+        command: &Command,
+    ) -> Result<Option<String>, LineFault> {
+        let array = match command {
+            Command::Integers {
+                nullability,
+                values,
+            } => integer_array(alloc, *nullability, values)?,
+            Command::Booleans {
+                nullability,
+                values,
+            } => boolean_array(alloc, *nullability, values)?,
+            Command::ListView {
+                elements,
+                offsets,
+                sizes,
+                validity,
+            } => self.list_view(alloc, *elements, *offsets, *sizes, *validity)?,
+            Command::Rebuild { array, mode } => self.rebuild(alloc, *array, *mode)?,
+            Command::Show { array } => return Ok(Some(self.show(alloc, *array)?)),
+            Command::Parts { array } => return Ok(Some(self.parts(alloc, *array)?)),
+        };
+        self.arrays.push(array)?;
+        Ok(None)
+    }
+
+    /// The array of a register. Refuses `NoRegister` where it is not made yet.
+    fn get(&self, register: RegisterWord) -> Result<&ArrayRef, LineFault> {
+        register
+            .number()
+            .and_then(|number| self.arrays.get(number))
+            .ok_or(LineFault::NoRegister)
+    }
+
+    /// A list view over three registers.
+    fn list_view(
+        &self,
+        alloc: Global,
+        elements: RegisterWord,
+        offsets: RegisterWord,
+        sizes: RegisterWord,
+        validity: ValidityWord,
+    ) -> Result<ArrayRef, LineFault> {
+        let elements = self.get(elements)?;
+        let offsets = self.get(offsets)?;
+        let sizes = self.get(sizes)?;
+        let validity = self.validity(alloc, validity)?;
+        let list_view = ListViewArray::try_new(
+            alloc,
+            elements.try_clone(alloc)?,
+            offsets.try_clone(alloc)?,
+            sizes.try_clone(alloc)?,
+            validity,
+        )?;
+        Ok(list_view.into_array())
+    }
+
+    /// The validity that a word names.
+    fn validity(&self, alloc: Global, validity: ValidityWord) -> Result<Validity, LineFault> {
+        Ok(match validity {
+            ValidityWord::NonNull => Validity::NonNullable,
+            ValidityWord::AllValid => Validity::AllValid,
+            ValidityWord::AllInvalid => Validity::AllInvalid,
+            ValidityWord::Register(register) => {
+                Validity::Array(self.get(register)?.try_clone(alloc)?)
+            }
+        })
+    }
+
+    /// A list view rebuilt. Refuses `MismatchedTypes` where the register is no list view.
+    fn rebuild(
+        &self,
+        alloc: Global,
+        array: RegisterWord,
+        mode: RebuildMode,
+    ) -> Result<ArrayRef, LineFault> {
+        let array = self.get(array)?.try_clone(alloc)?;
+        let Ok(list_view) = ListViewArray::try_from_array(array) else {
+            return Err(LineFault::Refused(VortexError::MismatchedTypes));
+        };
+        let mode = match mode {
+            RebuildMode::ZeroCopyToList => ListViewRebuildMode::MakeZeroCopyToList,
+        };
+        Ok(list_view.rebuild(alloc, mode)?.into_array())
+    }
+
+    /// The rows of a register, and a line feed.
+    fn show(&self, alloc: Global, array: RegisterWord) -> Result<String, LineFault> {
+        let array = self.get(array)?;
+        let mut line = String::new(alloc);
+        show_array(alloc, array, &mut line)?;
+        line.push('\n')?;
+        Ok(line)
+    }
+
+    /// The parts of a register, and a line feed.
+    fn parts(&self, alloc: Global, array: RegisterWord) -> Result<String, LineFault> {
+        let array = self.get(array)?;
+        let mut line = String::new(alloc);
+        show_parts(alloc, array, &mut line)?;
+        line.push('\n')?;
+        Ok(line)
+    }
+}
