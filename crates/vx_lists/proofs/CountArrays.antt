@@ -1,19 +1,19 @@
 -- Arrays of counts by their numbers.
-use Rattle.std.proofs.Common.{◌≡◌, ℕ, zero, suc, ◌+◌, ◌*◌, ◌/◌, ◌<◌, ◌≤◌, Bool, true, false, List, [], ◌∷◌, length, take, drop, map, get_or, Some, refl, sym, ◌∙◌, ap, subst, arith}
+use Rattle.std.proofs.Common.{◌≡◌, ℕ, zero, suc, ◌+◌, ◌*◌, ◌/◌, ◌<◌, true, List, [], ◌∷◌, length, take, drop, map, get_or, refl, sym, ◌∙◌, ap, subst, arith}
 use Rattle.std.specs.Prelude.{ℤ, pos, negsuc, ◌≤ℤ◌}
-use Rattle.std.specs.List.{All, range_with_len}
+use Rattle.std.specs.List.{All}
 use Rattle.std.proofs.lemmas.Int.{ints}
 use Rattle.std.proofs.lemmas.List.{length-map, get_or-map, get_or-drop, get_or_default}
 use Rattle.std.proofs.lemmas.List.FromFn.{fill_by_all}
 use Rattle.vx_base.proofs.NumberBytes.{holds-number_of}
-use Rattle.vx_base.proofs.NumberLists.{width_pos, whole, length_numbers, get_numbers}
-use Rattle.vx_base.specs.Integers.{byte_width, number_at, number_of, numbers, Holds}
-use Rattle.vx_base.specs.Rows.{Row, null, whole as whole_row, count_in, number_in}
+use Rattle.vx_base.proofs.NumberLists.{length_numbers, get_numbers}
+use Rattle.vx_base.specs.Integers.{byte_width, number_at, numbers, Holds}
+use Rattle.vx_base.specs.Rows.{null, whole as whole_row, count_in}
 use Rattle.vx_base.specs.Kinds.{Kind, booleans, integers, texts, binaries, lists, fixed_lists, records, is_integers, is_plain_integers, integer_type}
 use Rattle.vx_base.specs.declared.ptypes.PType.{PType}
 use Rattle.vx_tree.specs.Tree.{Tree, primitive, Valid, non_nullable, all_valid, all_invalid, by_array}
-use Rattle.vx_tree.specs.Meaning.{tree_len, kind_of, row_at, rows, number_nth}
-use Rattle.vx_tree.specs.Formed.{IsCounts, WellFormed}
+use Rattle.vx_tree.specs.Meaning.{kind_of, row_at, rows, number_nth}
+use Rattle.vx_tree.specs.Formed.{IsCounts}
 use Rattle.vx_lists.specs.ListViews.{counts_in, IsCountArray}
 
 -- plain integers are integers

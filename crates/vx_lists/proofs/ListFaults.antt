@@ -1,6 +1,6 @@
 -- What it means that no fault stands in the parts of a list view, and which fault is the first.
 use Rattle.std.proofs.Common.{◌≡◌, ℕ, zero, suc, ◌+◌, ◌^◌, ◌<◌, ◌≤◌, Bool, true, false, cond, eqb, leb, ltb, below_more, Option, Some, None, refl, sym, ◌∙◌, ap, subst, add-one, ⊎_elim, Result, Ok, Err, to_z, of_z, rules, arith}
-use Rattle.std.specs.Prelude.{ℤ, pos, negsuc, ◌<ℤ◌, IsSome, IfSome, unwrap_or, OnOk}
+use Rattle.std.specs.Prelude.{ℤ, pos, negsuc, IsSome, IfSome, unwrap_or, OnOk}
 use Rattle.std.specs.Int.{w128}
 use Rattle.std.proofs.lemmas.Int.{ints, to_z-of_z}
 use Rattle.std.proofs.lemmas.Bool.{eqb-true, leb-true, cases_lt, false≢true}
@@ -8,14 +8,14 @@ use Rattle.vx_base.specs.declared.errors.VortexError.{VortexError}
 use Rattle.vx_base.specs.declared.ptypes.PType.{PType}
 use Rattle.vx_base.specs.declared.ptypes.PType.TheVariants.{U8, U16, U32, U64, I8, I16, I32, I64}
 use Rattle.vx_base.specs.Integers.{Holds}
-use Rattle.vx_base.specs.Refusals.{Refusal, refusal_of, mismatched_types, or_else, first_fault}
+use Rattle.vx_base.specs.Refusals.{Refusal, or_else, first_fault}
 use Rattle.vx_base.specs.Rows.{Row, null, boolean, whole, bytes, text, items, record_of, number_in, count_in}
 use Rattle.vx_base.specs.Kinds.{Kind, booleans, integers, texts, binaries, lists, fixed_lists, records, is_plain_booleans, is_plain_integers}
 use Rattle.vx_tree.specs.Tree.{Tree, list_view, Valid, non_nullable, all_valid, all_invalid, by_array}
 use Rattle.vx_tree.specs.Meaning.{tree_len, kind_of, row_at}
-use Rattle.vx_tree.specs.Formed.{IsCounts, IsListView, ValidFits, WellFormed}
+use Rattle.vx_tree.specs.Formed.{IsCounts, ValidFits, WellFormed}
 use Rattle.vx_tree.specs.Faults.{valid_type_fault, valid_len_fault}
-use Rattle.vx_lists.specs.ListViewFaults.{Names, list_row_fault, count_type_fault, whole_at, sizes_len_fault, list_parts_fault, list_rows_fault, list_view_fault}
+use Rattle.vx_lists.specs.ListViewFaults.{Names, list_row_fault, count_type_fault, whole_at, sizes_len_fault, list_parts_fault, list_rows_fault}
 
 -- ---- first faults
 

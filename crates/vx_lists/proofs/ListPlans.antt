@@ -1,18 +1,16 @@
 -- The numbers of a list view, and the plan that they give.
-use Rattle.std.proofs.Common.{◌≡◌, ℕ, ◌+◌, ◌^◌, ◌<◌, ◌≤◌, Bool, true, false, List, length, map, get_or, Option, Some, None, refl, sym, ◌∙◌, ap, subst, Result, Ok, Err, arith}
+use Rattle.std.proofs.Common.{◌≡◌, ℕ, ◌^◌, ◌<◌, Bool, true, List, length, get_or, Option, None, sym, ◌∙◌, ap, subst, Result, Ok, Err, arith}
 use Rattle.std.specs.Prelude.{pos, ◌≤ℤ◌, int_le, IsTrue, OnOk}
 use Rattle.std.specs.List.{All}
 use Rattle.std.proofs.lemmas.Float.{T_from_true}
 use lib.Signed.{le_z_yes}
-use Rattle.vx_base.specs.declared.errors.VortexError.{VortexError}
 use Rattle.vx_base.specs.declared.ptypes.PType.{PType}
 use Rattle.vx_base.specs.Integers.{Holds, greatest}
 use Rattle.vx_base.specs.Kinds.{Kind, integer_type}
 use Rattle.vx_base.specs.Refusals.{or_else}
-use Rattle.vx_base.specs.Rows.{count_in}
 use Rattle.vx_tree.specs.Tree.{Tree, list_view, Valid}
-use Rattle.vx_tree.specs.Meaning.{tree_len, kind_of, row_at, valid_mask}
-use Rattle.vx_tree.specs.Formed.{IsListView, IsConsecutive, WellFormed}
+use Rattle.vx_tree.specs.Meaning.{tree_len, kind_of, valid_mask}
+use Rattle.vx_tree.specs.Formed.{IsConsecutive, WellFormed}
 use Rattle.vx_tree.specs.Faults.{take_overflow}
 use Rattle.vx_tree.specs.Operations.{IsTaken, AreWithin, AreThere}
 use Rattle.vx_tree.specs.Shapes.{never_null}

@@ -1,11 +1,11 @@
 -- Rows laid end to end, one row after another.
-use Rattle.std.proofs.Common.{◌≡◌, ℕ, zero, suc, ◌+◌, ◌*◌, ◌-◌, ◌^◌, ◌<◌, ◌≤◌, Bool, true, false, cond, List, [], ◌∷◌, ◌++◌, length, take, drop, map, get_or, sum, Option, Some, None, refl, sym, ◌∙◌, ap, subst, add-zero, zero-add, arith}
+use Rattle.std.proofs.Common.{◌≡◌, ℕ, zero, suc, ◌+◌, ◌*◌, ◌-◌, ◌^◌, ◌<◌, ◌≤◌, Bool, true, false, cond, List, [], ◌∷◌, ◌++◌, length, take, map, get_or, sum, Option, Some, None, refl, sym, ◌∙◌, ap, add-zero, zero-add, arith}
 use Rattle.std.specs.List.{flat_map, range_with_len}
 use Rattle.std.proofs.lemmas.List.{append-nil, append_assoc, map_push, map-append, length-map, take_more, take_all}
 use Rattle.std.proofs.lemmas.List.Concat.{flat_map-append}
 use Rattle.std.proofs.lemmas.List.FromFn.{length-range_with_len, map-range_with_len_more}
 use Rattle.std.proofs.lemmas.List.Sums.{sum_by_more}
-use Rattle.vx_lists.specs.ListLayout.{items_of, size_of, starts_from, canonical, position_rows, valid_sizes, valid_total, IsPlan}
+use Rattle.vx_lists.specs.ListLayout.{items_of, size_of, starts_from, position_rows, valid_sizes, valid_total, IsPlan}
 use Rattle.vx_lists.proofs.CanonicalRows.{sum-cons, length-flat_map-items_of}
 
 -- ---- the total of the valid sizes

@@ -1,25 +1,25 @@
 -- A list view that is made by a plan is the rebuilt one.
-use Rattle.std.proofs.Common.{◌≡◌, ℕ, zero, suc, ◌+◌, ◌<◌, ◌≤◌, Bool, true, false, cond, List, [], ◌∷◌, ◌++◌, length, map, get_or, sum, Option, Some, None, refl, sym, ◌∙◌, ap, subst, zero-add, arith}
-use Rattle.std.specs.Prelude.{slice_index_or, IfSome, IsSome}
+use Rattle.std.proofs.Common.{◌≡◌, ℕ, suc, ◌+◌, ◌<◌, ◌≤◌, Bool, true, false, List, [], ◌∷◌, length, map, get_or, sum, Option, Some, None, refl, sym, ◌∙◌, ap, subst, arith}
+use Rattle.std.specs.Prelude.{IfSome, IsSome}
 use Rattle.std.specs.List.{All, flat_map, range_with_len}
 use Rattle.std.proofs.lemmas.List.{length-map, get_or-map}
 use Rattle.std.proofs.lemmas.List.Elements.{All-nil, All-append, All-map, All-get_or}
 use Rattle.std.proofs.lemmas.List.FromFn.{fill_by_all, length-range_with_len, get_or-range_with_len}
 use Rattle.vx_base.specs.declared.ptypes.PType.{PType}
-use Rattle.vx_base.specs.Rows.{Row, null, count_in}
+use Rattle.vx_base.specs.Rows.{Row, null}
 use Rattle.vx_base.specs.Kinds.{Kind, booleans, integers, texts, binaries, lists, fixed_lists, records, is_plain_integers, integer_type, or_nullable}
 use Rattle.vx_tree.specs.Tree.{Tree, list_view, Valid}
 use Rattle.vx_tree.specs.Meaning.{tree_len, kind_of, row_at, rows, valid_mask, nullable, picked}
 use Rattle.vx_tree.specs.Shapes.{never_null}
-use Rattle.vx_tree.specs.Formed.{IsListView, IsCounts, ValidFits, WellFormed}
+use Rattle.vx_tree.specs.Formed.{IsListView, ValidFits, WellFormed}
 use Rattle.vx_tree.specs.Operations.{IsTaken, AreWithin, AreThere, position_at}
-use Rattle.vx_lists.specs.ListLayout.{ListLayout, layout, rows_of, IsWellFormed, IsTidy, items_of, size_of, starts_from, canonical, position_rows, valid_sizes, valid_total, IsPlan}
-use Rattle.vx_lists.specs.ListViews.{counts_in, list_layout_of, list_rows, rebuilt_type, offsets_of, sizes_of, IsCountArray, IsRebuilt}
+use Rattle.vx_lists.specs.ListLayout.{ListLayout, layout, rows_of, IsWellFormed, IsTidy, items_of, size_of, canonical, position_rows, valid_total, IsPlan}
+use Rattle.vx_lists.specs.ListViews.{counts_in, list_layout_of, list_rows, rebuilt_type, IsCountArray, IsRebuilt}
 use Rattle.vx_lists.proofs.CanonicalRows.{canonical_well_formed, rows_of-canonical, length-flat_map-items_of, length-starts_from}
 use Rattle.vx_lists.proofs.TidyLayouts.{canonical_tidy}
 use Rattle.vx_lists.proofs.PlannedNumbers.{planned_is_canonical, map-size_of-position_rows, element_at}
 use Rattle.vx_lists.proofs.PlannedRows.{length-valid_sizes}
-use Rattle.vx_lists.proofs.ViewLayouts.{length-rows, get_or-rows, length-counts_in, get_or-counts_in, length-valid_mask, layout_well_formed, rows_of-list_layout_of, same_rows_by_lists}
+use Rattle.vx_lists.proofs.ViewLayouts.{length-rows, get_or-rows, length-counts_in, get_or-counts_in, layout_well_formed, rows_of-list_layout_of, same_rows_by_lists}
 
 -- ---- the positions of a plan
 

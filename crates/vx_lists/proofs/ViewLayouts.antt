@@ -1,5 +1,5 @@
 -- What a list view stands for is what its layout of offsets, sizes, mask and elements has.
-use Rattle.std.proofs.Common.{◌≡◌, ℕ, zero, suc, ◌+◌, ◌<◌, ◌≤◌, Bool, true, false, cond, List, [], ◌∷◌, length, take, drop, map, get_or, Option, Some, None, refl, sym, ◌∙◌, ap, subst, add-zero, zero-add, add-one, arith}
+use Rattle.std.proofs.Common.{◌≡◌, ℕ, zero, suc, ◌+◌, ◌<◌, ◌≤◌, Bool, true, false, cond, List, [], ◌∷◌, length, take, drop, map, get_or, Option, Some, None, refl, sym, ◌∙◌, ap, zero-add, add-one, arith}
 use Rattle.std.specs.List.{range_with_len}
 use Rattle.std.proofs.lemmas.List.{length-map, take-map, drop-map, get_or-map}
 use Rattle.std.proofs.lemmas.Simd.{map-map}
@@ -9,7 +9,7 @@ use Rattle.vx_base.specs.Rows.{Row, null, items, Rows, no_rows, row, list_from, 
 use Rattle.vx_tree.specs.Tree.{Tree, list_view, Valid}
 use Rattle.vx_tree.specs.Meaning.{tree_len, row_at, rows, rows_range, is_valid_at, valid_mask}
 use Rattle.vx_tree.specs.Formed.{IsListView}
-use Rattle.vx_lists.specs.ListLayout.{ListLayout, layout, list_at, lists_at, rows_of, IsWellFormed}
+use Rattle.vx_lists.specs.ListLayout.{list_at, lists_at, rows_of, IsWellFormed}
 use Rattle.vx_lists.specs.ListViews.{counts_in, list_layout_of, list_rows}
 use Rattle.vx_lists.proofs.MappedLayouts.{take-drop-range_with_len}
 

@@ -3,3 +3,4 @@ pub mod Indices
 pub mod Sliced
 pub mod Taken
 pub mod Fitting
+pub mod Worked

@@ -72,18 +72,28 @@ empty_lists = fixed_list (small_numbers []) 0 non_nullable 3
 abbrev pub empty_list_rows : List Row
 empty_list_rows = items no_rows ∷ items no_rows ∷ items no_rows ∷ []
 
+-- the numbers 1 to 4
+abbrev pub one_to_four : Tree
+one_to_four = small_numbers (1 ∷ 2 ∷ 3 ∷ 4 ∷ [])
+
 -- two lists of two elements, the first of them null
 abbrev pub pairs : Tree
-pairs = fixed_list (small_numbers (1 ∷ 2 ∷ 3 ∷ 4 ∷ [])) 2 (valid_where (false ∷ true ∷ [])) 2
+pairs = fixed_list one_to_four 2 (valid_where (false ∷ true ∷ [])) 2
 
 abbrev pub pair_rows : List Row
 pair_rows = null ∷ pair 3 4 ∷ []
 
+-- 2, 0, 1 as offsets
+abbrev pub scattered_offsets : Tree
+scattered_offsets = primitive U32 (2 ∷ 0 ∷ 0 ∷ 0 ∷ 0 ∷ 0 ∷ 0 ∷ 0 ∷ 1 ∷ 0 ∷ 0 ∷ 0 ∷ []) non_nullable
+
+-- 2, 1, 2 as sizes
+abbrev pub mixed_sizes : Tree
+mixed_sizes = primitive U32 (2 ∷ 0 ∷ 0 ∷ 0 ∷ 1 ∷ 0 ∷ 0 ∷ 0 ∷ 2 ∷ 0 ∷ 0 ∷ 0 ∷ []) non_nullable
+
 -- lists out of order, that overlap
 abbrev pub overlapping_lists : Tree
-overlapping_lists =
-    list_view (small_numbers (1 ∷ 2 ∷ 3 ∷ 4 ∷ [])) (primitive U32 (2 ∷ 0 ∷ 0 ∷ 0 ∷ 0 ∷ 0 ∷ 0 ∷ 0 ∷ 1 ∷ 0 ∷ 0 ∷ 0 ∷ []) non_nullable)
-    (primitive U32 (2 ∷ 0 ∷ 0 ∷ 0 ∷ 1 ∷ 0 ∷ 0 ∷ 0 ∷ 2 ∷ 0 ∷ 0 ∷ 0 ∷ []) non_nullable) non_nullable false
+overlapping_lists = list_view one_to_four scattered_offsets mixed_sizes non_nullable false
 
 abbrev pub overlapping_rows : List Row
 overlapping_rows = pair 3 4 ∷ items (row (count 1) no_rows) ∷ pair 2 3 ∷ []
@@ -118,8 +128,12 @@ view_of_thirteen = 13 ∷ 0 ∷ 0 ∷ 0 ∷ 97 ∷ 32 ∷ 108 ∷ 111 ∷ 1 ∷ 
 abbrev pub two_buffers : List (List ℕ)
 two_buffers = codes "unread" ∷ codes "..a longer text." ∷ []
 
+-- the view of a null row
+abbrev pub null_view : List ℕ
+null_view = 0 ∷ 0 ∷ 0 ∷ 0 ∷ 0 ∷ 0 ∷ 0 ∷ 0 ∷ 0 ∷ 0 ∷ 0 ∷ 0 ∷ 0 ∷ 0 ∷ 0 ∷ 0 ∷ []
+
 abbrev pub some_texts : Tree
-some_texts = view_array (view_of_abc ∷ view_of_thirteen ∷ view_of_abc ∷ []) two_buffers true (valid_where (true ∷ true ∷ false ∷ []))
+some_texts = view_array (view_of_abc ∷ view_of_thirteen ∷ null_view ∷ []) two_buffers true (valid_where (true ∷ true ∷ false ∷ []))
 
 abbrev pub text_rows : List Row
 text_rows = text (codes "abc") ∷ text (codes "a longer text") ∷ null ∷ []

@@ -2,7 +2,7 @@
 
 ghost use Rattle.std.specs.Prelude.{◌≡◌, ◌-◌, ◌^◌, Some, None};
 ghost use Rattle.vx_base.specs.Refusals.{out_of_bounds, negative, overflow, mismatched_types};
-ghost use Rattle.vx_tree.specs.Fitting.{RowsFit};
+ghost use Rattle.vx_tree.specs.Fitting.{AllFormed, RowsFit};
 ghost use Rattle.vx_tree.specs.Faults.{slice_fault, take_fault, take_overflow};
 ghost use Rattle.vx_tree.specs.Meaning.{rows};
 ghost use Rattle.vx_tree.specs.Operations.{picks};
@@ -26,6 +26,15 @@ pub fn rows_of_worked_arrays()
     ensures records { rows some_records ≡ record_rows }
     ensures texts { rows some_texts ≡ text_rows }
     ensures bytes { rows some_bytes ≡ bytes_rows }
+{}
+
+/// Such arrays are well formed at every depth, so that the law of their rows is of some use.
+pub fn worked_arrays_are_formed()
+    ensures numbers { AllFormed signed_numbers }
+    ensures dictionary { AllFormed dictionary_with_nulls }
+    ensures fixed_lists { AllFormed pairs }
+    ensures list_view { AllFormed overlapping_lists }
+    ensures records { AllFormed some_records }
 {}
 
 /// The rows that small arrays are to give when taken, and the first fault of those that may not

@@ -11,4 +11,6 @@ mod tests;
 mod validity;
 
 pub use crate::array::{ArrayRef, Layout, Validity};
-pub use crate::laws::{faults_of_worked_arrays, rows_fit_their_kind, rows_of_worked_arrays};
+pub use crate::laws::{
+    faults_of_worked_arrays, rows_fit_their_kind, rows_of_worked_arrays, worked_arrays_are_formed,
+};

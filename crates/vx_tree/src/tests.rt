@@ -5,7 +5,10 @@ ghost use Rattle.vx_tree.specs.Formed.{WellFormed};
 ghost use Rattle.vx_tree.specs.Parts.{valid_of};
 ghost use Rattle.vx_tree.specs.Tree.{bools, primitive, non_nullable, by_array};
 
-use crate::{ArrayRef, Layout, Validity};
+use crate::{
+    ArrayRef, Layout, Validity, faults_of_worked_arrays, rows_fit_their_kind,
+    rows_of_worked_arrays, worked_arrays_are_formed,
+};
 use std::alloc::Global;
 use std::process::Abort;
 use vx_base::{BitBuffer, ByteBuffer, Nullability, PType, VortexError};
@@ -328,4 +331,14 @@ fn mask_of_nulls(rt: HostRuntime) -> Result<(), VortexError> {
     let mask = Validity::AllInvalid.execute_mask(rt.alloc(), 4)?;
     assert!(rt; mask.len() == 4 && mask.all_false());
     Ok(())
+}
+
+// ---- laws
+
+#[test]
+fn laws() {
+    rows_fit_their_kind();
+    rows_of_worked_arrays();
+    worked_arrays_are_formed();
+    faults_of_worked_arrays();
 }

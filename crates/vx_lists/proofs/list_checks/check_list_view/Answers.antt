@@ -1,5 +1,4 @@
-use Rattle.std.proofs.Common.{◌≡◌, None, sym, ◌∙◌, ap}
-use Rattle.vx_tree.specs.Meaning.{tree_len}
+use Rattle.std.proofs.Common.{sym, ◌∙◌, ap}
 use Rattle.vx_tree.specs.Parts.{valid_of}
 use Rattle.vx_lists.specs.ListViewFaults.{list_rows_fault}
 use Rattle.vx_lists.proofs.ListFaults.{parts_checked, list_view_formed, OnOk-three}

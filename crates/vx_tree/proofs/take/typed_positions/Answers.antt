@@ -1,4 +1,4 @@
-use Rattle.std.proofs.Common.{◌∙◌, inr, arith}
+use Rattle.std.proofs.Common.{inr, arith}
 use Rattle.std.proofs.lemmas.Result.{err_from_is_err_and}
 use Rattle.vx_base.specs.Refusals.{refusal_of}
 use Rattle.vx_tree.specs.Operations.{masked_numbers}

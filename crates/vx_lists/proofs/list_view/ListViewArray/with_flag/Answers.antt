@@ -1,6 +1,6 @@
-use Rattle.std.proofs.Common.{◌≡◌, sym, ap, subst}
+use Rattle.std.proofs.Common.{subst}
 use Rattle.vx_tree.specs.Parts.{valid_of}
-use Rattle.vx_tree.specs.Tree.{Tree, list_view, Valid}
+use Rattle.vx_tree.specs.Tree.{Tree, list_view}
 use Rattle.vx_tree.specs.Formed.{IsConsecutive, WellFormed}
 use Rattle.vx_lists.specs.ListViews.{offsets_of, sizes_of}
 use Rattle.vx_lists.proofs.ListPlans.{flag_formed}
