@@ -31,7 +31,6 @@ pub fn check_views(
     requires { length mask.now ≡ length views.now }
     ensures accepted { OnOk result (views_fault check_utf8 mask.now buffers.now views.now ≡ None) }
     ensures refused { IfErr result (IsMemoryOr (views_fault check_utf8 mask.now buffers.now views.now)) }
-    ensures no_memory { IfErr result (λ e. e ≢ Memory) }
 
     // Each valid view then resolves, begins as it says, and is text where text is asked.
     ensures sound { OnOk result (AreSound check_utf8 mask.now buffers.now views.now) }
