@@ -1,16 +1,16 @@
 -- The numbers of bytes that were picked number by number.
-use Rattle.std.proofs.Common.{ℕ, suc, ◌+◌, ◌-◌, ◌*◌, ◌/◌, ◌<◌, ◌≤◌, ◌≡◌, List, [], ◌∷◌, ◌++◌, length, get_or, drop, map, replicate, refl, sym, ◌∙◌, ap, arith, IfSome, Some, None, Option}
+use Rattle.std.proofs.Common.{ℕ, ◌+◌, ◌-◌, ◌*◌, ◌/◌, ◌<◌, ◌≤◌, ◌≡◌, List, [], ◌∷◌, ◌++◌, length, get_or, drop, map, refl, sym, ◌∙◌, ap, arith}
 use Rattle.std.specs.Prelude.{ℤ, pos, slice_range}
 use Rattle.std.specs.List.{All, flat_map}
 use Rattle.std.proofs.Math.Nat.{mul-le-mul_right}
 use Rattle.std.proofs.Math.Seq.{take-append_seam, drop-append_seam}
-use Rattle.std.proofs.lemmas.List.{take-append-drop, take_all, drop_more, length-append, length-replicate, length-drop}
+use Rattle.std.proofs.lemmas.List.{take-append-drop, take_all, drop_more, length-append, length-drop}
+use Rattle.std.proofs.lemmas.List.Elements.{All-tail}
 use Rattle.vx_base.proofs.ListParts.{length_part}
 use Rattle.vx_base.proofs.NumberLists.{width_pos, whole, length_numbers, numbers_none, numbers_part, numbers_between}
 use Rattle.vx_base.specs.Integers.{byte_width, numbers}
-use Rattle.vx_base.specs.Picks.{picked_number, picked_bytes}
+use Rattle.vx_base.specs.Selections.{number_of_position, bytes_of_position}
 use Rattle.vx_base.specs.declared.ptypes.PType.{PType}
-use Rattle.vx_base.specs.declared.ptypes.PType.TheVariants.{U8, U16, U32, U64, I8, I16, I32, I64}
 
 -- the first of two lists, and the second
 left_part : (all xs ys : List ℕ) (from to : ℕ) → all ≡ xs ++ ys → from ≡ 0 → to ≡ length xs → slice_range all from to ≡ xs
@@ -51,57 +51,37 @@ numbers_one t bs k h =
     let part : slice_range (numbers t bs) k (k + 1) ≡ get_or (numbers t bs) k (pos 0) ∷ [] = rw (size, drop_more (numbers t bs) k (pos 0) (omega (arith, length_numbers t bs))) refl in
     rw end (numbers_part t bs k 1 within ∙ part)
 
-pub numbers_zero : (t : PType) → numbers t (replicate (byte_width t) 0) ≡ pos 0 ∷ []
-unfolding numbers
-numbers_zero U8 = refl
-numbers_zero U16 = refl
-numbers_zero U32 = refl
-numbers_zero U64 = refl
-numbers_zero I8 = refl
-numbers_zero I16 = refl
-numbers_zero I32 = refl
-numbers_zero I64 = refl
-
 -- ---- picked numbers
 
 -- a position has a number
-abbrev pub HasNumber : PType → List ℕ → Option ℕ → Type 0
-HasNumber t bs p = IfSome p (λ k. k < length bs / byte_width t)
+abbrev pub HasNumber : PType → List ℕ → ℕ → Type 0
+HasNumber t bs k = k < length bs / byte_width t
 
 -- a picked number has as many bytes as its type says
-length_picked : (t : PType) (bs : List ℕ) (p : Option ℕ) → HasNumber t bs p → length (picked_bytes (byte_width t) bs p) ≡ 1 * byte_width t
-length_picked t bs None h = length-replicate (byte_width t) 0 ∙ omega arith
-length_picked t bs (Some k) h =
+length_picked : (t : PType) (bs : List ℕ) (k : ℕ) → HasNumber t bs k → length (bytes_of_position (byte_width t) bs k) ≡ 1 * byte_width t
+length_picked t bs k h =
     let room : (k + 1) * byte_width t ≤ length bs / byte_width t * byte_width t = mul-le-mul_right (byte_width t) (omega arith) in
     let within : (k + 1) * byte_width t ≤ length bs = omega (arith, width_pos t) in
     length_part bs (k * byte_width t) (k * byte_width t + byte_width t) (omega arith) (omega arith) ∙ omega arith
 
-numbers_picked : (t : PType) (bs : List ℕ) (p : Option ℕ) → HasNumber t bs p → numbers t (picked_bytes (byte_width t) bs p) ≡ picked_number (numbers t bs) p ∷ []
-numbers_picked t bs None h = numbers_zero t
-numbers_picked t bs (Some k) h = numbers_one t bs k h
-
--- the positions after the first have numbers too
-later : {X : Type 0} (P : X → Type 0) (x : X) (xs : List X) → All P (x ∷ xs) → All P xs
-later P x xs all = λ k d h. all (suc k) d (omega arith)
-
-pub length_gathered : (t : PType) (bs : List ℕ) (ps : List (Option ℕ)) → All (HasNumber t bs) ps
-    → length (flat_map (picked_bytes (byte_width t) bs) ps) ≡ length ps * byte_width t
+pub length_gathered : (t : PType) (bs : List ℕ) (ps : List ℕ) → All (HasNumber t bs) ps
+    → length (flat_map (bytes_of_position (byte_width t) bs) ps) ≡ length ps * byte_width t
 length_gathered t bs [] all = omega arith
 length_gathered t bs (p ∷ ps) all =
-    omega (arith, length-append (picked_bytes (byte_width t) bs p) (flat_map (picked_bytes (byte_width t) bs) ps), length_picked t bs p (all 0 p (omega arith)), length_gathered t bs ps (later (HasNumber t bs) p ps all))
+    omega (arith, length-append (bytes_of_position (byte_width t) bs p) (flat_map (bytes_of_position (byte_width t) bs) ps), length_picked t bs p (all 0 p (omega arith)), length_gathered t bs ps (All-tail (HasNumber t bs) p ps all))
 
 -- what was picked byte by byte is what was picked number by number
-pub numbers_gathered : (t : PType) (bs : List ℕ) (ps : List (Option ℕ)) → All (HasNumber t bs) ps
-    → numbers t (flat_map (picked_bytes (byte_width t) bs) ps) ≡ map (picked_number (numbers t bs)) ps
+pub numbers_gathered : (t : PType) (bs : List ℕ) (ps : List ℕ) → All (HasNumber t bs) ps
+    → numbers t (flat_map (bytes_of_position (byte_width t) bs) ps) ≡ map (number_of_position (numbers t bs)) ps
 numbers_gathered t bs [] all = numbers_none t
 numbers_gathered t bs (p ∷ ps) all =
-    let rest = later (HasNumber t bs) p ps all in
-    numbers_append t (picked_bytes (byte_width t) bs p) (flat_map (picked_bytes (byte_width t) bs) ps) 1 (length ps) (length_picked t bs p (all 0 p (omega arith))) (length_gathered t bs ps rest)
-    ∙ rw (numbers_picked t bs p (all 0 p (omega arith)), numbers_gathered t bs ps rest) refl
+    let rest = All-tail (HasNumber t bs) p ps all in
+    numbers_append t (bytes_of_position (byte_width t) bs p) (flat_map (bytes_of_position (byte_width t) bs) ps) 1 (length ps) (length_picked t bs p (all 0 p (omega arith))) (length_gathered t bs ps rest)
+    ∙ rw (numbers_one t bs p (all 0 p (omega arith)), numbers_gathered t bs ps rest) refl
 
 -- the same where the width is known by itself
-pub gathered : (width : ℕ) (t : PType) (bs : List ℕ) (ps : List (Option ℕ)) (items : List ℕ) → byte_width t ≡ width → All (HasNumber t bs) ps
-    → items ≡ flat_map (picked_bytes width bs) ps → (numbers t items ≡ map (picked_number (numbers t bs)) ps) × (length items ≡ length ps * byte_width t)
+pub gathered : (width : ℕ) (t : PType) (bs : List ℕ) (ps : List ℕ) (items : List ℕ) → byte_width t ≡ width → All (HasNumber t bs) ps
+    → items ≡ flat_map (bytes_of_position width bs) ps → (numbers t items ≡ map (number_of_position (numbers t bs)) ps) × (length items ≡ length ps * byte_width t)
 gathered width t bs ps items wide all e =
-    let here : items ≡ flat_map (picked_bytes (byte_width t) bs) ps = e ∙ ap (λ (n : ℕ). flat_map (picked_bytes n bs) ps) (sym wide) in
+    let here : items ≡ flat_map (bytes_of_position (byte_width t) bs) ps = e ∙ ap (λ (n : ℕ). flat_map (bytes_of_position n bs) ps) (sym wide) in
     (ap (numbers t) here ∙ numbers_gathered t bs ps all, ap length here ∙ length_gathered t bs ps all)

@@ -7,3 +7,4 @@ pub mod SameBits
 pub mod MaskCounts
 pub mod Positions
 pub mod Gathered
+pub mod Runs

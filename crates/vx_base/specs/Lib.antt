@@ -1,9 +1,12 @@
 pub mod Integers
 pub mod Bits
-pub mod Picks
+pub mod Selections
+pub mod Picked
 pub mod Masks
 pub mod Lends
 pub mod Refusals
 pub mod Rows
 pub mod Kinds
 pub mod DTypes
+pub mod Codes
+pub mod Scalars

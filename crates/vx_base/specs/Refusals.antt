@@ -1,5 +1,5 @@
 -- What a refusal says, and which of several faults is answered.
-use Rattle.std.specs.Prelude.{◌≡◌, ◌<◌, ◌⊎◌, ℕ, zero, suc, List, codes, Option, Some, None}
+use Rattle.std.specs.Prelude.{◌≡◌, ◌<◌, ◌⊎◌, ℕ, zero, suc, List, codes, Option, Some, None, IsSome, Result, MatchResult}
 use Rattle.vx_base.specs.declared.errors.VortexError.{VortexError}
 use Rattle.vx_base.specs.declared.errors.VortexError.TheVariants.{Memory, MismatchedTypes, LengthMismatch, NullabilityMismatch, OutOfBounds, Negative, Overflow, NotImplemented, HasNulls, UnknownField, EmptyInput, DifferingDtypes, NotUtf8, BadBuffer, BadStart, BadEnd, BadPrefix, LimitTooLarge, ValueTooLong, LengthsNotExact, FallingOffsets, PatchOutOfRange, DegenerateElements}
 
@@ -57,6 +57,22 @@ refusal_of DegenerateElements = Some degenerate_elements
 -- an error is want of memory, or names just that fault
 abbrev pub IsMemoryOr : Option Refusal → VortexError → Type 0
 IsMemoryOr fault e = (e ≡ Memory) ⊎ (fault ≡ refusal_of e)
+
+-- an error names just that fault
+abbrev pub Names : Option Refusal → VortexError → Type 0
+Names fault e = IsSome (refusal_of e) × (fault ≡ refusal_of e)
+
+-- a call answers Ok only where there is no fault, and else this fault, or want of memory in place of either
+abbrev pub Refuses : {A : Type 0} → Result A VortexError → Option Refusal → Type 0
+Refuses r fault = MatchResult r (λ _. fault ≡ None) (IsMemoryOr fault)
+
+-- a call gives what P says, or memory was refused
+abbrev pub Gives : {A : Type 0} → Result A VortexError → (A → Type 0) → Type 0
+Gives r P = MatchResult r P (λ e. e ≡ Memory)
+
+-- a call that takes no memory answers Ok just where there is no fault, and else this fault
+abbrev pub Tests : {A : Type 0} → Result A VortexError → Option Refusal → Type 0
+Tests r fault = MatchResult r (λ _. fault ≡ None) (Names fault)
 
 -- the first of two faults that stands
 abbrev pub or_else : Option Refusal → Option Refusal → Option Refusal

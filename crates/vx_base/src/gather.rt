@@ -1,9 +1,9 @@
-// Numbers and booleans, picked by their positions.
+// Numbers and booleans of the rows that are picked.
 
-ghost use Rattle.std.specs.Prelude.{◌≡◌, ◌<◌, ◌≤◌, ◌*◌, ◌/◌, ◌+◌, length, map, IfOk, IfSome, IsOkUnless};
+ghost use Rattle.std.specs.Prelude.{◌≡◌, ◌<◌, ◌≤◌, ◌*◌, ◌/◌, ◌+◌, ◌++◌, length, map, IfOk, IsOkUnless};
 ghost use Rattle.std.specs.List.{All, flat_map};
 ghost use Rattle.vx_base.specs.Integers.{byte_width, numbers};
-ghost use Rattle.vx_base.specs.Picks.{picked_number, picked_bit, picked_bytes};
+ghost use Rattle.vx_base.specs.Selections.{run_positions, number_of_position, bit_of_position, bytes_of_position};
 ghost use Rattle.vx_base.specs.declared.errors.VortexError.TheVariants.{Memory};
 
 use crate::bit_buffer::BitBuffer;
@@ -11,68 +11,166 @@ use crate::bit_buffer_mut::BitBufferMut;
 use crate::byte_buffer::ByteBuffer;
 use crate::errors::VortexError;
 use crate::ptypes::PType;
+use crate::selection::{Picks, Selection};
 use std::alloc::Global;
 
-/// The bytes of the numbers at these positions, in their order, with 0 for each missing position.
-/// Asks that each position has a number. Fails only for want of memory.
+/// The bytes of the numbers that are picked, in their order. Asks that each position has a number.
+/// Fails only for want of memory.
 pub fn gather_numbers(
     alloc: Global,
     ptype: PType,
     bytes: &[u8],
-    positions: &[Option<usize>],
+    selection: &Selection,
 ) -> Result<ByteBuffer, VortexError>
-    requires { All (λ p. IfSome p (λ k. k < length bytes.now / byte_width ptype)) positions.now }
-    ensures ok { IfOk result (λ b. numbers ptype b ≡ map (picked_number (numbers ptype bytes.now)) positions.now) }
-    ensures len { IfOk result (λ b. length b ≡ length positions.now * byte_width ptype) }
+    requires { All (λ k. k < length bytes.now / byte_width ptype) selection.now }
+    ensures ok { IfOk result (λ b. numbers ptype b ≡ map (number_of_position (numbers ptype bytes.now)) selection.now) }
+    ensures len { IfOk result (λ b. length b ≡ length selection.now * byte_width ptype) }
     ensures err { IsOkUnless result Memory }
 {
     let picked = match ptype {
-        PType::U8 | PType::I8 => gather_width::<1>(alloc, bytes, positions)?,
-        PType::U16 | PType::I16 => gather_width::<2>(alloc, bytes, positions)?,
-        PType::U32 | PType::I32 => gather_width::<4>(alloc, bytes, positions)?,
-        PType::U64 | PType::I64 => gather_width::<8>(alloc, bytes, positions)?,
+        PType::U8 | PType::I8 => gather_width::<1>(alloc, bytes, selection)?,
+        PType::U16 | PType::I16 => gather_width::<2>(alloc, bytes, selection)?,
+        PType::U32 | PType::I32 => gather_width::<4>(alloc, bytes, selection)?,
+        PType::U64 | PType::I64 => gather_width::<8>(alloc, bytes, selection)?,
     };
     ByteBuffer::from_vec(alloc, picked)
 }
 
-// The bytes of the numbers at these positions, where a number takes WIDTH bytes.
+// The same, where a number takes WIDTH bytes.
 fn gather_width<const WIDTH: usize>(
     alloc: Global,
     bytes: &[u8],
-    positions: &[Option<usize>],
+    selection: &Selection,
 ) -> Result<Vec<u8>, VortexError>
-    requires { All (λ p. IfSome p (λ k. k * WIDTH + WIDTH ≤ length bytes.now)) positions.now }
-    ensures ok { IfOk result (λ picked. picked.items ≡ flat_map (picked_bytes WIDTH bytes.now) positions.now) }
+    requires { All (λ k. k * WIDTH + WIDTH ≤ length bytes.now) selection.now }
+    ensures ok { IfOk result (λ picked. picked.items ≡ flat_map (bytes_of_position WIDTH bytes.now) selection.now) }
     ensures err { IsOkUnless result Memory }
 {
-    let mut picked = Vec::with_capacity(alloc, positions.len().saturating_mul(WIDTH))?;
+    let capacity = selection.len().saturating_mul(WIDTH);
+    match selection.picks() {
+        Picks::Positions(positions) => bytes_at::<WIDTH>(alloc, bytes, positions, capacity),
+        Picks::Runs(runs) => bytes_of_runs::<WIDTH>(alloc, bytes, runs, capacity),
+    }
+}
+
+// One number at a time.
+fn bytes_at<const WIDTH: usize>(
+    alloc: Global,
+    bytes: &[u8],
+    positions: &[usize],
+    capacity: usize,
+) -> Result<Vec<u8>, VortexError>
+    requires { All (λ k. k * WIDTH + WIDTH ≤ length bytes.now) positions.now }
+    ensures ok { IfOk result (λ picked. picked.items ≡ flat_map (bytes_of_position WIDTH bytes.now) positions.now) }
+    ensures err { IsOkUnless result Memory }
+{
+    let mut picked = Vec::with_capacity(alloc, capacity)?;
     for position in positions {
-        match position {
-            Some(k) => picked.extend_from_slice(&bytes[*k * WIDTH..*k * WIDTH + WIDTH])?,
-            None => picked.extend_from_slice(&[0; WIDTH])?,
-        }
+        let start = *position * WIDTH;
+        picked.extend_from_slice(&bytes[start..start + WIDTH])?;
     }
     Ok(picked)
 }
 
-/// The booleans at these positions, in their order, with false for each missing position. Asks
-/// that each position has a boolean. Fails only for want of memory.
+// One run at a time.
+fn bytes_of_runs<const WIDTH: usize>(
+    alloc: Global,
+    bytes: &[u8],
+    runs: &[(usize, usize)],
+    capacity: usize,
+) -> Result<Vec<u8>, VortexError>
+    requires { All (λ k. k * WIDTH + WIDTH ≤ length bytes.now) (flat_map run_positions runs.now) }
+    ensures ok { IfOk result (λ picked. picked.items ≡ flat_map (bytes_of_position WIDTH bytes.now) (flat_map run_positions runs.now)) }
+    ensures err { IsOkUnless result Memory }
+{
+    let mut picked = Vec::with_capacity(alloc, capacity)?;
+    for run in runs {
+        let (start, end) = *run;
+        extend_run::<WIDTH>(&mut picked, bytes, start, end)?;
+    }
+    Ok(picked)
+}
+
+// Appends the numbers from `start` up to `end`, none where there is none between.
+#[inline]
+fn extend_run<const WIDTH: usize>(
+    picked: &mut Vec<u8>,
+    bytes: &[u8],
+    start: usize,
+    end: usize,
+) -> Result<(), VortexError>
+    requires { All (λ k. k * WIDTH + WIDTH ≤ length bytes.now) (run_positions (start, end)) }
+    ensures ok { IfOk result (λ _. picked.new.items ≡ picked.old.items ++ flat_map (bytes_of_position WIDTH bytes.now) (run_positions (start, end))) }
+    ensures err { IsOkUnless result Memory }
+{
+    if start < end {
+        picked.extend_from_slice(&bytes[start * WIDTH..end * WIDTH])?;
+    }
+    Ok(())
+}
+
+/// The booleans that are picked, in their order. Asks that each position has a boolean. Fails only
+/// for want of memory.
 pub fn gather_bits(
     alloc: Global,
     bits: &BitBuffer,
-    positions: &[Option<usize>],
+    selection: &Selection,
 ) -> Result<BitBuffer, VortexError>
-    requires { All (λ p. IfSome p (λ k. k < length bits.now)) positions.now }
-    ensures ok { IfOk result (λ b. b ≡ map (picked_bit bits.now) positions.now) }
+    requires { All (λ k. k < length bits.now) selection.now }
+    ensures ok { IfOk result (λ b. b ≡ map (bit_of_position bits.now) selection.now) }
+    ensures err { IsOkUnless result Memory }
+{
+    match selection.picks() {
+        Picks::Positions(positions) => bits_at(alloc, bits, positions),
+        Picks::Runs(runs) => bits_of_runs(alloc, bits, runs, selection.len()),
+    }
+}
+
+// One boolean at a time.
+fn bits_at(alloc: Global, bits: &BitBuffer, positions: &[usize]) -> Result<BitBuffer, VortexError>
+    requires { All (λ k. k < length bits.now) positions.now }
+    ensures ok { IfOk result (λ b. b ≡ map (bit_of_position bits.now) positions.now) }
     ensures err { IsOkUnless result Memory }
 {
     let mut picked = BitBufferMut::with_capacity(alloc, positions.len())?;
     for position in positions {
-        let bit = match position {
-            Some(k) => bits.value(*k),
-            None => false,
-        };
-        picked.append(bit)?;
+        picked.append(bits.value(*position))?;
     }
     picked.freeze()
+}
+
+// One run at a time.
+fn bits_of_runs(
+    alloc: Global,
+    bits: &BitBuffer,
+    runs: &[(usize, usize)],
+    capacity: usize,
+) -> Result<BitBuffer, VortexError>
+    requires { All (λ k. k < length bits.now) (flat_map run_positions runs.now) }
+    ensures ok { IfOk result (λ b. b ≡ map (bit_of_position bits.now) (flat_map run_positions runs.now)) }
+    ensures err { IsOkUnless result Memory }
+{
+    let mut picked = BitBufferMut::with_capacity(alloc, capacity)?;
+    for run in runs {
+        let (start, end) = *run;
+        append_run(&mut picked, bits, start, end)?;
+    }
+    picked.freeze()
+}
+
+// Appends the booleans from `start` up to `end`.
+fn append_run(
+    picked: &mut BitBufferMut,
+    bits: &BitBuffer,
+    start: usize,
+    end: usize,
+) -> Result<(), VortexError>
+    requires { All (λ k. k < length bits.now) (run_positions (start, end)) }
+    ensures ok { IfOk result (λ _. picked.new ≡ picked.old ++ map (bit_of_position bits.now) (run_positions (start, end))) }
+    ensures err { IsOkUnless result Memory }
+{
+    for position in start..end {
+        picked.append(bits.value(position))?;
+    }
+    Ok(())
 }

@@ -16,6 +16,8 @@ mod native;
 mod nullability;
 mod numbers;
 mod ptypes;
+mod scalar;
+mod selection;
 #[cfg(test)]
 mod tests;
 
@@ -34,3 +36,5 @@ pub use crate::native::{NativePType, get_then_put, put_then_get};
 pub use crate::nullability::Nullability;
 pub use crate::numbers::{int_at, int_of, number_count, put_int};
 pub use crate::ptypes::PType;
+pub use crate::scalar::Scalar;
+pub use crate::selection::Selection;

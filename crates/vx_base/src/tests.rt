@@ -2,8 +2,8 @@
 
 use crate::{
     BitBuffer, BitBufferMut, Buffer, BufferMut, ByteBuffer, DType, Mask, NativePType, Nullability,
-    PType, VortexError, first_fault_is_least, gather_bits, gather_numbers, get_then_put, int_at,
-    int_of, number_count, put_int, put_then_get, read_counts, slice_numbers, write_counts,
+    PType, Selection, VortexError, first_fault_is_least, gather_bits, gather_numbers, get_then_put,
+    int_at, int_of, number_count, put_int, put_then_get, read_counts, slice_numbers, write_counts,
 };
 
 // ---- integer types
@@ -301,9 +301,9 @@ fn picked_numbers(rt: HostRuntime) -> Result<(), VortexError> {
         rt.alloc(),
         PType::U16,
         &[1, 0, 0, 2],
-        &[Some(1), None, Some(0)],
+        &Selection::at_positions(&[1, 0]),
     )?;
-    assert!(rt; picked.as_slice() == [0, 2, 0, 0, 1, 0].as_slice());
+    assert!(rt; picked.as_slice() == [0, 2, 1, 0].as_slice());
     Ok(())
 }
 
@@ -382,8 +382,12 @@ fn filled_bits(rt: HostRuntime) -> Result<(), VortexError> {
 #[test]
 fn picked_bits(rt: HostRuntime) -> Result<(), VortexError> {
     let bits = BitBuffer::from_bools(rt.alloc(), &[false, true])?;
-    let picked = gather_bits(rt.alloc(), &bits, &[Some(1), None, Some(0)])?;
-    assert!(rt; picked == BitBuffer::from_bools(rt.alloc(), &[true, false, false])?);
+    let picked = gather_bits(
+        rt.alloc(),
+        &bits,
+        &Selection::of_runs(&[(1, 2), (7, 7), (0, 2)], 3),
+    )?;
+    assert!(rt; picked == BitBuffer::from_bools(rt.alloc(), &[true, false, true])?);
     Ok(())
 }
 

@@ -1,7 +1,7 @@
 use Rattle.std.proofs.Common.{◌*◌, ◌≡◌, ◌⊎◌, length, map, ap, ◌∙◌, inl, inr, sym, refl}
 use Rattle.std.proofs.lemmas.Result.{IfOk-weaker}
 use Rattle.vx_base.specs.Integers.{byte_width, numbers}
-use Rattle.vx_base.specs.Picks.{picked_number}
+use Rattle.vx_base.specs.Selections.{number_of_position}
 use Rattle.vx_base.specs.declared.ptypes.PType.{PType}
 use Rattle.vx_base.proofs.Gathered.{gathered}
 use Rattle.vx_base.proofs.gather.gather_numbers.Goals as goal
@@ -13,11 +13,11 @@ one_of t a b same (inl e) = ap byte_width e
 one_of t a b same (inr e) = ap byte_width e ∙ sym same
 
 -- what was picked, at each width
-picked : (c : goal.After-from_vec) → (numbers c.args.ptype c.match-ptype.picked.items ≡ map (picked_number (numbers c.args.ptype c.args.bytes.now)) c.args.positions.now) × (length c.match-ptype.picked.items ≡ length c.args.positions.now * byte_width c.args.ptype)
+picked : (c : goal.After-from_vec) → (numbers c.args.ptype c.match-ptype.picked.items ≡ map (number_of_position (numbers c.args.ptype c.args.bytes.now)) c.args.selection.now) × (length c.match-ptype.picked.items ≡ length c.args.selection.now * byte_width c.args.ptype)
 picked c =
     let t = c.args.ptype in
     let bs = c.args.bytes.now in
-    let ps = c.args.positions.now in
+    let ps = c.args.selection.now in
     let items = c.match-ptype.picked.items in
     elim c.match-ptype.branch [
       | in-U8+in_ok-picked-in-U8 w ↦ gathered 1 t bs ps items (one_of t _ _ refl w.in-U8.is) c.requires (rw w.picked-is w.in_ok-picked-in-U8.ensures.ok)
@@ -31,11 +31,11 @@ returns-clause-ok c =
     let t = c.args.ptype in
     let items = c.match-ptype.picked.items in
     let all = picked c in
-    IfOk-weaker c.from_vec.result (λ b. b ≡ items) (λ b. numbers t b ≡ map (picked_number (numbers t c.args.bytes.now)) c.args.positions.now) (λ b e. ap (numbers t) e ∙ all.0) c.from_vec.ensures.ok
+    IfOk-weaker c.from_vec.result (λ b. b ≡ items) (λ b. numbers t b ≡ map (number_of_position (numbers t c.args.bytes.now)) c.args.selection.now) (λ b e. ap (numbers t) e ∙ all.0) c.from_vec.ensures.ok
 
 pub returns-clause-len : goal.returns-clause-len
 returns-clause-len c =
     let t = c.args.ptype in
     let items = c.match-ptype.picked.items in
     let all = picked c in
-    IfOk-weaker c.from_vec.result (λ b. b ≡ items) (λ b. length b ≡ length c.args.positions.now * byte_width t) (λ b e. ap length e ∙ all.1) c.from_vec.ensures.ok
+    IfOk-weaker c.from_vec.result (λ b. b ≡ items) (λ b. length b ≡ length c.args.selection.now * byte_width t) (λ b e. ap length e ∙ all.1) c.from_vec.ensures.ok

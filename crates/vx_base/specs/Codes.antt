@@ -1,7 +1,7 @@
 -- How the logic stores integer types, rows and kinds.
 use Rattle.std.specs.Prelude.{◌≡◌, ℕ, ℤ, pos, negsuc, refl}
 use Rattle.std.proofs.Common.{ap, arith}
-use base.Stored.{Gv, gnil, gnum, gcons, num, coded_ℕ, coded_bool, coded_list}
+use base.Stored.{Gv, gnil, gnum, gcons, num, Coded, coded_ℕ, coded_bool, coded_list}
 use Rattle.vx_base.specs.declared.ptypes.PType.{PType}
 use Rattle.vx_base.specs.declared.ptypes.PType.TheVariants.{U8, U16, U32, U64, I8, I16, I32, I64}
 use Rattle.vx_base.specs.Rows.{Row, null, boolean, whole, bytes, text, items, record_of, Rows, no_rows, row, Fields, no_fields, field}
@@ -134,3 +134,11 @@ mutual
   code_kinds-inj no_kinds no_kinds p = refl
   code_kinds-inj (kind k ks) (kind h hs) p = λ i. kind (code_kind-inj k h (ap first p) i) (code_kinds-inj ks hs (ap rest p) i)
   code_kinds-inj _ _ p = cc
+
+-- ---- as codes
+
+abbrev pub coded_row : Coded Row
+coded_row = record { code = code_row; inj = code_row-inj }
+
+abbrev pub coded_kind : Coded Kind
+coded_kind = record { code = code_kind; inj = code_kind-inj }

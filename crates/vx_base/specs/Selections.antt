@@ -1,0 +1,23 @@
+-- Rows that are picked by runs of them.
+use Rattle.std.specs.Prelude.{◌-◌, ◌+◌, ◌*◌, ℕ, ℤ, pos, Bool, false, List, slice_range, slice_index_or}
+use Rattle.std.specs.List.{range_with_len}
+
+-- the positions of a run, from its start up to its end
+abbrev pub run_positions : ℕ × ℕ → List ℕ
+run_positions run = range_with_len run.0 (run.1 - run.0)
+
+-- the number at a position
+abbrev pub number_of_position : List ℤ → ℕ → ℤ
+number_of_position numbers k = slice_index_or numbers k (pos 0)
+
+-- the boolean at a position
+abbrev pub bit_of_position : List Bool → ℕ → Bool
+bit_of_position bits k = slice_index_or bits k false
+
+-- the bytes of the number at a position
+abbrev pub bytes_of_position : ℕ → List ℕ → ℕ → List ℕ
+bytes_of_position width bytes k = slice_range bytes (k * width) (k * width + width)
+
+-- the positions of the elements of list k, where a list has size elements
+abbrev pub list_positions : ℕ → ℕ → List ℕ
+list_positions size k = range_with_len (k * size) size
