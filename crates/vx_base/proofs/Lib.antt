@@ -7,4 +7,6 @@ pub mod SameBits
 pub mod MaskCounts
 pub mod Positions
 pub mod Gathered
+pub mod Packing
+pub mod Filling
 pub mod Runs

@@ -110,7 +110,7 @@ count_le bits n = omega (arith, count_by-le-length (λ (b : Bool). b) (take n bi
 -- ---- `&` of two runs of bits, a byte at a time
 
 -- a bit of the byte from a place on
-bit_of-byte_from : (bs : List ℕ) (place i : ℕ) → i < 8 → eqb (bit_at (byte_from bs place) i) 1 ≡ bit_of bs (place + i)
+pub bit_of-byte_from : (bs : List ℕ) (place i : ℕ) → i < 8 → eqb (bit_at (byte_from bs place) i) 1 ≡ bit_of bs (place + i)
 bit_of-byte_from bs place i h =
     ap (λ (n : ℕ). eqb n 1) (bit_mask_l (unpacked bs place 8) i ∙ ap (λ (b : Bool). cond b 1 0) (get_unpacked bs place 8 i false h)) ∙ by_bool (bit_of bs (place + i))
   where
@@ -119,7 +119,7 @@ bit_of-byte_from bs place i h =
     by_bool false = refl
 
 -- a bit of `x & y`
-bit_of-and : (x y i : ℕ) → eqb (bit_at (bit_and x y) i) 1 ≡ (eqb (bit_at x i) 1 && eqb (bit_at y i) 1)
+pub bit_of-and : (x y i : ℕ) → eqb (bit_at (bit_and x y) i) 1 ≡ (eqb (bit_at x i) 1 && eqb (bit_at y i) 1)
 bit_of-and x y i = ap (λ (n : ℕ). eqb n 1) (bit_at_and x y i) ∙ by_bits (bit_at x i) (bit_at y i) (bit_at-lt x i) (bit_at-lt y i)
   where
     by_bits : (a b : ℕ) → a < 2 → b < 2 → eqb (min a b) 1 ≡ (eqb a 1 && eqb b 1)

@@ -1,14 +1,14 @@
 // A shared run of booleans, packed eight to a byte.
 #![tactic(auto, using(crate::proofs::PackedBits::length_unpacked, crate::proofs::PackedBits::unpacked_none, crate::proofs::PackedBits::get_unpacked))]
 
-ghost use Rattle.std.specs.Prelude.{◌≡◌, ◌≤◌, ◌<◌, ◌+◌, ◌*◌, ◌/◌, ◌^◌, ◌↔◌, Bool, [], length, take, slice_range, count_by, slice_index, IsTrue, IfOk, IsOkUnless};
+ghost use Rattle.std.specs.Prelude.{ℕ, ◌&&◌, ◌≡◌, ◌≤◌, ◌<◌, ◌+◌, ◌*◌, ◌/◌, ◌^◌, ◌↔◌, Bool, [], length, take, slice_range, count_by, slice_index, IsTrue, IfOk, IsOkUnless};
 ghost use Rattle.std.specs.Bool.{beq};
 ghost use Rattle.std.specs.Cmp.{bool_eq_equiv, partial_equiv_from_equiv};
 ghost use Rattle.std.specs.Cmp.Lexicographic.{pointwise, lists_equiv};
-ghost use Rattle.vx_base.specs.Bits.{unpacked, bool_at, both, byte_from};
+ghost use Rattle.vx_base.specs.Bits.{bit_of, unpacked, bool_at, both, byte_from, byte_of};
 ghost use Rattle.vx_base.specs.declared.errors.VortexError.TheVariants.{Memory};
 
-use crate::bit_buffer_mut::BitBufferMut;
+use crate::bit_buffer_mut::put_bit;
 use crate::byte_buffer::ByteBuffer;
 use crate::errors::VortexError;
 use std::alloc::Global;
@@ -55,6 +55,120 @@ fn byte_from(bytes: &[u8], place: usize) -> u8
     low >> shift | byte_or_zero(bytes, place / 8 + 1) << (8 - shift)
 }
 
+// The byte that these booleans make, the first of them its least significant bit.
+#[inline]
+pub(crate) fn byte_of(bits: [bool; 8]) -> u8
+    ensures { result ≡ byte_of bits }
+{
+    bits[0] as u8
+        + 2 * bits[1] as u8
+        + 4 * bits[2] as u8
+        + 8 * bits[3] as u8
+        + 16 * bits[4] as u8
+        + 32 * bits[5] as u8
+        + 64 * bits[6] as u8
+        + 128 * bits[7] as u8
+}
+
+// Writes these booleans, eight to a byte.
+fn pack(bools: &[bool], out: &mut [u8])
+    requires { length bools.now ≤ 8 * length out.old }
+    ensures len { length out.new ≡ length out.old }
+    ensures bits { unpacked out.new 0 (length bools.now) ≡ bools.now }
+{
+    let whole = bools.len() / 8;
+    for j in 0..whole {
+        let at = 8 * j;
+        out[j] = byte_of([
+            bools[at],
+            bools[at + 1],
+            bools[at + 2],
+            bools[at + 3],
+            bools[at + 4],
+            bools[at + 5],
+            bools[at + 6],
+            bools[at + 7],
+        ]);
+    }
+    for i in 8 * whole..bools.len() {
+        put_bit(out, i, bools[i]);
+    }
+}
+
+// How many of the bits of the first `words` words of 64 bits are set.
+fn count_words(bytes: &[u8], words: usize) -> usize
+    requires within { 8 * words ≤ length bytes.now }
+    requires fits { 64 * words < 2 ^ 64 }
+    ensures value { result ≡ count_by (λ b. b) (unpacked bytes.now 0 (64 * words)) }
+    ensures bound { result ≤ 64 * words }
+{
+    let mut count = 0;
+    for j in 0..words {
+        let at = 8 * j;
+        let word = u64::from_le_bytes([
+            bytes[at],
+            bytes[at + 1],
+            bytes[at + 2],
+            bytes[at + 3],
+            bytes[at + 4],
+            bytes[at + 5],
+            bytes[at + 6],
+            bytes[at + 7],
+        ]);
+        count += word.count_ones() as usize;
+    }
+    count
+}
+
+// Whether the first `count` bytes of two are the same.
+fn same_whole(left: &[u8], right: &[u8], count: usize) -> bool
+    requires left { count ≤ length left.now }
+    requires right { count ≤ length right.now }
+    ensures { IsTrue result ↔ (unpacked left.now 0 (8 * count) ≡ unpacked right.now 0 (8 * count)) }
+{
+    left[..count] == right[..count]
+}
+
+// Writes the bits that are set in both, of two runs that begin a byte.
+fn and_whole(left: &[u8], right: &[u8], out: &mut [u8])
+    requires left { length out.old ≤ length left.now }
+    requires right { length out.old ≤ length right.now }
+    ensures len { length out.new ≡ length out.old }
+    ensures bits { (k : ℕ) → k < 8 * length out.old → bit_of out.new k ≡ (bit_of left.now (0 + k) && bit_of right.now (0 + k)) }
+{
+    for (j, byte) in out.iter_mut().enumerate() {
+        *byte = left[j] & right[j];
+    }
+}
+
+// Writes the bits that are set in both, of the runs from these places on.
+fn and_bytes(left: &[u8], from: usize, right: &[u8], at: usize, out: &mut [u8])
+    requires left { from ≡ 0 → length out.old ≤ length left.now }
+    requires right { at ≡ 0 → length out.old ≤ length right.now }
+    requires from { from + 8 * length out.old < 2 ^ 64 + 8 }
+    requires at { at + 8 * length out.old < 2 ^ 64 + 8 }
+    ensures len { length out.new ≡ length out.old }
+    ensures bits { (k : ℕ) → k < 8 * length out.old → bit_of out.new k ≡ (bit_of left.now (from + k) && bit_of right.now (at + k)) }
+{
+    if from == 0 && at == 0 {
+        and_whole(left, right, out);
+        return;
+    }
+    and_joined(left, from, right, at, out);
+}
+
+// The same a byte at a time, each joined from two.
+fn and_joined(left: &[u8], from: usize, right: &[u8], at: usize, out: &mut [u8])
+    requires from { from + 8 * length out.old < 2 ^ 64 + 8 }
+    requires at { at + 8 * length out.old < 2 ^ 64 + 8 }
+    ensures len { length out.new ≡ length out.old }
+    ensures bits { (k : ℕ) → k < 8 * length out.old → bit_of out.new k ≡ (bit_of left.now (from + k) && bit_of right.now (at + k)) }
+{
+    for (j, byte) in out.iter_mut().enumerate() {
+        *byte = byte_from(left, from + 8 * j) & byte_from(right, at + 8 * j);
+    }
+}
+
 impl BitBuffer {
     // The `len` bits of these bytes from bit `offset` of the first byte on.
     pub(crate) fn from_parts(bytes: ByteBuffer, offset: usize, len: usize) -> BitBuffer
@@ -89,11 +203,9 @@ impl BitBuffer {
         ensures ok { IfOk result (λ b. b ≡ bools.now) }
         ensures err { IsOkUnless result Memory }
     {
-        let mut bits = BitBufferMut::with_capacity(alloc, bools.len())?;
-        for value in bools {
-            bits.append(*value)?;
-        }
-        bits.freeze()
+        let mut bytes = vec![in alloc; 0u8; bools.len().div_ceil(8)]?;
+        pack(bools, &mut bytes);
+        Ok(BitBuffer::from_parts(ByteBuffer::from_vec(alloc, bytes)?, 0, bools.len()))
     }
 
     /// How many booleans there are.
@@ -161,9 +273,10 @@ impl BitBuffer {
         ensures { result ≡ count_by (λ b. b) self.now }
     {
         let source = self.bytes.as_slice();
+        let words = if self.offset == 0 { self.len / 64 } else { 0 };
         let whole = self.len / 8;
-        let mut count = 0;
-        for j in 0..whole {
+        let mut count = count_words(source, words);
+        for j in 8 * words..whole {
             count += byte_from(source, self.offset + 8 * j).count_ones() as usize;
         }
         for i in 8 * whole..self.len {
@@ -183,12 +296,8 @@ impl BitBuffer {
     {
         let mine = self.bytes.as_slice();
         let theirs = other.bytes.as_slice();
-        let mut bytes = Vec::new(alloc);
-        for j in 0..self.len.div_ceil(8) {
-            let left = byte_from(mine, self.offset + 8 * j);
-            let right = byte_from(theirs, other.offset + 8 * j);
-            bytes.push(left & right)?;
-        }
+        let mut bytes = vec![in alloc; 0u8; self.len.div_ceil(8)]?;
+        and_bytes(mine, self.offset, theirs, other.offset, &mut bytes);
         Ok(BitBuffer::from_parts(ByteBuffer::from_vec(alloc, bytes)?, 0, self.len))
     }
 
@@ -208,6 +317,9 @@ impl BitBuffer {
     {
         let mine = self.bytes.as_slice();
         let theirs = other.bytes.as_slice();
+        if self.offset == 0 && other.offset == 0 {
+            return same_whole(mine, theirs, self.len / 8);
+        }
         for j in 0..self.len / 8 {
             if byte_from(mine, self.offset + 8 * j) != byte_from(theirs, other.offset + 8 * j) {
                 return false;

@@ -2,7 +2,7 @@
 #![tactic(auto, using(crate::proofs::PackedBits::length_unpacked, crate::proofs::PackedBits::unpacked_none, crate::proofs::PackedBits::get_unpacked))]
 
 ghost use Rattle.std.specs.Prelude.{◌≡◌, ◌≢◌, ◌≤◌, ◌<◌, ◌+◌, ◌-◌, ◌/◌, ◌*◌, ◌^◌, ℕ, Bool, true, [], ◌∷◌, ◌++◌, length, take, drop, replicate, slice_set, IfOk, OnOk, OnErr, IsOkUnless};
-ghost use Rattle.vx_base.specs.Bits.{bit_of};
+ghost use Rattle.vx_base.specs.Bits.{bit_of, Filled};
 ghost use Rattle.vx_base.specs.declared.errors.VortexError.TheVariants.{Memory};
 
 use crate::bit_buffer::BitBuffer;
@@ -34,7 +34,7 @@ impl Model for BitBufferMut {
 
 // Writes bit `k` of the bytes.
 #[inline]
-fn put_bit(bytes: &mut [u8], k: usize, value: bool)
+pub(crate) fn put_bit(bytes: &mut [u8], k: usize, value: bool)
     requires { k / 8 < length bytes.old }
     ensures written { bit_of bytes.new k ≡ value }
     ensures others { (j : ℕ) → j ≢ k → bit_of bytes.new j ≡ bit_of bytes.old j }
@@ -45,6 +45,50 @@ fn put_bit(bytes: &mut [u8], k: usize, value: bool)
     } else {
         bytes[k / 8] &= !mask;
     }
+}
+
+// Writes the bits from `start` up to, but not at, `end`, one by one.
+fn put_bits(bytes: &mut [u8], start: usize, end: usize, value: bool)
+    requires start_le_end { start ≤ end }
+    requires within { end ≤ 8 * length bytes.old }
+    ensures len { length bytes.new ≡ length bytes.old }
+    ensures filled { Filled bytes.old bytes.new start end value }
+{
+    for k in start..end {
+        put_bit(bytes, k, value);
+    }
+}
+
+// Writes all bits of the bytes from `first` up to, but not at, `last`.
+fn fill_bytes(bytes: &mut [u8], first: usize, last: usize, value: bool)
+    requires first_le_last { first ≤ last }
+    requires within { last ≤ length bytes.old }
+    ensures len { length bytes.new ≡ length bytes.old }
+    ensures filled { Filled bytes.old bytes.new (8 * first) (8 * last) value }
+{
+    let byte = if value { 255 } else { 0 };
+    for j in first..last {
+        bytes[j] = byte;
+    }
+}
+
+// Writes the bits from `start` up to, but not at, `end`, the whole bytes between at once.
+fn fill_bits(bytes: &mut [u8], start: usize, end: usize, value: bool)
+    requires start_le_end { start ≤ end }
+    requires within { end ≤ 8 * length bytes.old }
+    requires fits { end < 2 ^ 64 - 8 }
+    ensures len { length bytes.new ≡ length bytes.old }
+    ensures filled { Filled bytes.old bytes.new start end value }
+{
+    let first = start.div_ceil(8);
+    let last = end / 8;
+    if last <= first {
+        put_bits(bytes, start, end, value);
+        return;
+    }
+    put_bits(bytes, start, 8 * first, value);
+    fill_bytes(bytes, first, last, value);
+    put_bits(bytes, 8 * last, end, value);
 }
 
 // Adds a byte if bit `len` has none.
@@ -100,6 +144,24 @@ impl BitBufferMut {
         Ok(())
     }
 
+    /// Adds a boolean `count` times at the end. Fails only for want of memory, also where there
+    /// would be more than 2^63 booleans, and then the booleans are what they were.
+    pub fn append_n(&mut self, value: bool, count: usize) -> Result<(), VortexError>
+        ensures ok { OnOk result (self.new ≡ self.old ++ replicate count value) }
+        ensures err { OnErr result (self.new ≡ self.old) }
+        ensures memory { IsOkUnless result Memory }
+    {
+        if count > 8 * MAX_BYTES - self.len {
+            return Err(VortexError::Memory);
+        }
+        let end = self.len + count;
+        let room = end.div_ceil(8).max(self.bytes.len());
+        self.bytes.resize(room, 0)?;
+        fill_bits(&mut self.bytes, self.len, end, value);
+        self.len = end;
+        Ok(())
+    }
+
     // Replaces the boolean at place `i`.
     #[tactic(auto, using(crate::proofs::PackedBits::unpacked_set, crate::proofs::PackedBits::length_unpacked))]
     fn replace(&mut self, i: usize, value: bool)
@@ -124,9 +186,7 @@ impl BitBufferMut {
         requires in_bounds { end ≤ length self.old }
         ensures { self.new ≡ take start self.old ++ replicate (end - start) value ++ drop end self.old }
     {
-        for i in start..end {
-            self.replace(i, value);
-        }
+        fill_bits(&mut self.bytes, start, end, value);
     }
 
     /// The booleans, to be shared, with no copy of them. Fails only for want of memory.

@@ -1,6 +1,6 @@
 // A shared list of numbers of one type.
 
-ghost use Rattle.std.specs.Prelude.{◌≡◌, ◌≤◌, ◌<◌, ◌*◌, ◌↔◌, [], length, map, slice_get, slice_range, Some, IsTrue, IfOk, IsOkUnless};
+ghost use Rattle.std.specs.Prelude.{◌≡◌, ◌≤◌, ◌<◌, ◌*◌, ◌/◌, ◌↔◌, [], length, map, slice_get, slice_range, Some, IsTrue, IfOk, IsOkUnless};
 ghost use Rattle.vx_base.specs.Integers.{byte_width, numbers};
 ghost use Rattle.vx_base.specs.declared.errors.VortexError.TheVariants.{Memory};
 
@@ -11,6 +11,29 @@ use std::alloc::Global;
 use std::marker::Model;
 use std::ops::Range;
 use std::rc::Rc;
+
+// Reads the numbers that these bytes hold, one number after another.
+fn get_numbers<T: NativePType>(bytes: &[u8], out: &mut [T])
+    requires { length out.old ≡ length bytes.now / byte_width T.PTYPE }
+    ensures { map T.value out.new ≡ numbers T.PTYPE bytes.now }
+{
+    let width = T::PTYPE.byte_width();
+    for (i, item) in out.iter_mut().enumerate() {
+        *item = T::get_le(&bytes[i * width..i * width + width]);
+    }
+}
+
+// Writes the bytes of these numbers, one number after another.
+fn put_numbers<T: NativePType>(items: &[T], out: &mut [u8])
+    requires { length out.old ≡ length items.now * byte_width T.PTYPE }
+    ensures len { length out.new ≡ length out.old }
+    ensures numbers { numbers T.PTYPE out.new ≡ map T.value items.now }
+{
+    let width = T::PTYPE.byte_width();
+    for (i, item) in items.iter().enumerate() {
+        item.put_le(&mut out[i * width..i * width + width]);
+    }
+}
 
 /// Numbers of one type that are cut and shared with no copy.
 #[derive(Drop)]
@@ -130,11 +153,8 @@ impl<T: NativePType> Buffer<T> {
     {
         let width = T::PTYPE.byte_width();
         let source = bytes.as_slice();
-        let mut items = Vec::new(alloc);
-        for i in 0..source.len() / width {
-            let start = i * width;
-            items.push(T::get_le(&source[start..start + width]))?;
-        }
+        let mut items = vec![in alloc; T::zero(); source.len() / width]?;
+        get_numbers(source, &mut items);
         Buffer::from_vec(alloc, items)
     }
 
@@ -145,14 +165,11 @@ impl<T: NativePType> Buffer<T> {
         ensures len { IfOk result (λ b. length b ≡ length self.now * byte_width T.PTYPE) }
         ensures err { IsOkUnless result Memory }
     {
-        let width = T::PTYPE.byte_width();
-        let mut bytes = Vec::new(alloc);
-        let mut scratch = [0u8; 8];
-        for item in self.as_slice() {
-            let part = &mut scratch[..width];
-            item.put_le(part);
-            bytes.extend_from_slice(part)?;
-        }
+        let Some(size) = self.len().checked_mul(T::PTYPE.byte_width()) else {
+            return Err(VortexError::Memory);
+        };
+        let mut bytes = vec![in alloc; 0u8; size]?;
+        put_numbers(self.as_slice(), &mut bytes);
         ByteBuffer::from_vec(alloc, bytes)
     }
 }

@@ -1,6 +1,6 @@
 // Positions and sizes, as bytes of an integer type.
 
-ghost use Rattle.std.specs.Prelude.{◌≡◌, ◌≤ℤ◌, ◌*◌, pos, length, map, IfOk, IsOkUnless};
+ghost use Rattle.std.specs.Prelude.{◌≡◌, ◌≤ℤ◌, ◌*◌, ◌/◌, pos, length, map, IfOk, IsOkUnless};
 ghost use Rattle.std.specs.List.{All};
 ghost use Rattle.vx_base.specs.Integers.{byte_width, numbers, Holds};
 ghost use Rattle.vx_base.specs.declared.errors.VortexError.TheVariants.{Memory};
@@ -36,13 +36,8 @@ fn read_native<T: NativePType>(alloc: Global, bytes: &[u8]) -> Result<Vec<usize>
     ensures ok { IfOk result (λ counts. map pos counts.items ≡ numbers T.PTYPE bytes.now) }
     ensures err { IsOkUnless result Memory }
 {
-    let width = T::PTYPE.byte_width();
-    let mut counts = Vec::with_capacity(alloc, bytes.len() / width)?;
-    for i in 0..bytes.len() / width {
-        let start = i * width;
-        let number = T::get_le(&bytes[start..start + width]).as_i128();
-        counts.push(number as usize)?;
-    }
+    let mut counts = vec![in alloc; 0usize; bytes.len() / T::PTYPE.byte_width()]?;
+    get_counts::<T>(bytes, &mut counts);
     Ok(counts)
 }
 
@@ -76,13 +71,36 @@ fn write_native<T: NativePType>(alloc: Global, counts: &[usize]) -> Result<ByteB
     ensures len { IfOk result (λ b. length b ≡ length counts.now * byte_width T.PTYPE) }
     ensures err { IsOkUnless result Memory }
 {
-    let width = T::PTYPE.byte_width();
-    let mut bytes = Vec::with_capacity(alloc, counts.len().saturating_mul(width))?;
-    let mut scratch = [0u8; 8];
-    for count in counts {
-        let part = &mut scratch[..width];
-        put_int(*count as i128, T::PTYPE, part);
-        bytes.extend_from_slice(part)?;
-    }
+    let mut bytes = vec![in alloc; 0u8; counts.len() * T::PTYPE.byte_width()]?;
+    put_counts::<T>(counts, &mut bytes);
     ByteBuffer::from_vec(alloc, bytes)
+}
+
+// Reads the numbers that these bytes hold as positions.
+fn get_counts<T: NativePType>(bytes: &[u8], out: &mut [usize])
+    requires positions { All (λ z. pos 0 ≤ℤ z) (numbers T.PTYPE bytes.now) }
+    requires room { length out.old ≡ length bytes.now / byte_width T.PTYPE }
+    ensures { map pos out.new ≡ numbers T.PTYPE bytes.now }
+{
+    let width = T::PTYPE.byte_width();
+    for (i, count) in out.iter_mut().enumerate() {
+        *count = T::get_le(&bytes[i * width..i * width + width]).as_i128() as usize;
+    }
+}
+
+// Writes the bytes of these positions, one number after another.
+fn put_counts<T: NativePType>(counts: &[usize], out: &mut [u8])
+    requires holds { All (λ n. Holds T.PTYPE (pos n)) counts.now }
+    requires room { length out.old ≡ length counts.now * byte_width T.PTYPE }
+    ensures len { length out.new ≡ length out.old }
+    ensures numbers { numbers T.PTYPE out.new ≡ map pos counts.now }
+{
+    let width = T::PTYPE.byte_width();
+    for (i, count) in counts.iter().enumerate() {
+        put_int(
+            *count as i128,
+            T::PTYPE,
+            &mut out[i * width..i * width + width],
+        );
+    }
 }

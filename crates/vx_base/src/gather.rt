@@ -2,12 +2,13 @@
 
 ghost use Rattle.std.specs.Prelude.{◌≡◌, ◌<◌, ◌≤◌, ◌*◌, ◌/◌, ◌+◌, ◌++◌, length, map, IfOk, IsOkUnless};
 ghost use Rattle.std.specs.List.{All, flat_map};
+ghost use Rattle.vx_base.specs.Bits.{unpacked};
 ghost use Rattle.vx_base.specs.Integers.{byte_width, numbers};
 ghost use Rattle.vx_base.specs.Selections.{run_positions, number_of_position, bit_of_position, bytes_of_position};
 ghost use Rattle.vx_base.specs.declared.errors.VortexError.TheVariants.{Memory};
 
-use crate::bit_buffer::BitBuffer;
-use crate::bit_buffer_mut::BitBufferMut;
+use crate::bit_buffer::{BitBuffer, byte_of};
+use crate::bit_buffer_mut::{BitBufferMut, put_bit};
 use crate::byte_buffer::ByteBuffer;
 use crate::errors::VortexError;
 use crate::ptypes::PType;
@@ -42,14 +43,17 @@ fn gather_width<const WIDTH: usize>(
     bytes: &[u8],
     selection: &Selection,
 ) -> Result<Vec<u8>, VortexError>
-    requires { All (λ k. k * WIDTH + WIDTH ≤ length bytes.now) selection.now }
+    requires width { WIDTH ≤ 8 }
+    requires within { All (λ k. k * WIDTH + WIDTH ≤ length bytes.now) selection.now }
     ensures ok { IfOk result (λ picked. picked.items ≡ flat_map (bytes_of_position WIDTH bytes.now) selection.now) }
     ensures err { IsOkUnless result Memory }
 {
-    let capacity = selection.len().saturating_mul(WIDTH);
     match selection.picks() {
-        Picks::Positions(positions) => bytes_at::<WIDTH>(alloc, bytes, positions, capacity),
-        Picks::Runs(runs) => bytes_of_runs::<WIDTH>(alloc, bytes, runs, capacity),
+        Picks::Positions(positions) => bytes_at::<WIDTH>(alloc, bytes, positions),
+        Picks::Runs(runs) => {
+            let capacity = selection.len().saturating_mul(WIDTH);
+            bytes_of_runs::<WIDTH>(alloc, bytes, runs, capacity)
+        }
     }
 }
 
@@ -58,18 +62,27 @@ fn bytes_at<const WIDTH: usize>(
     alloc: Global,
     bytes: &[u8],
     positions: &[usize],
-    capacity: usize,
 ) -> Result<Vec<u8>, VortexError>
-    requires { All (λ k. k * WIDTH + WIDTH ≤ length bytes.now) positions.now }
+    requires width { WIDTH ≤ 8 }
+    requires within { All (λ k. k * WIDTH + WIDTH ≤ length bytes.now) positions.now }
     ensures ok { IfOk result (λ picked. picked.items ≡ flat_map (bytes_of_position WIDTH bytes.now) positions.now) }
     ensures err { IsOkUnless result Memory }
 {
-    let mut picked = Vec::with_capacity(alloc, capacity)?;
-    for position in positions {
-        let start = *position * WIDTH;
-        picked.extend_from_slice(&bytes[start..start + WIDTH])?;
-    }
+    let mut picked = vec![in alloc; 0u8; positions.len() * WIDTH]?;
+    put_numbers_at::<WIDTH>(bytes, positions, &mut picked);
     Ok(picked)
+}
+
+// Writes the numbers at these positions.
+#[inline(never)]
+fn put_numbers_at<const WIDTH: usize>(bytes: &[u8], positions: &[usize], out: &mut [u8])
+    requires within { All (λ k. k * WIDTH + WIDTH ≤ length bytes.now) positions.now }
+    requires room { length out.old ≡ length positions.now * WIDTH }
+    ensures { out.new ≡ flat_map (bytes_of_position WIDTH bytes.now) positions.now }
+{
+    for (i, k) in positions.iter().enumerate() {
+        out[i * WIDTH..i * WIDTH + WIDTH].copy_from_slice(&bytes[*k * WIDTH..*k * WIDTH + WIDTH]);
+    }
 }
 
 // One run at a time.
@@ -132,11 +145,36 @@ fn bits_at(alloc: Global, bits: &BitBuffer, positions: &[usize]) -> Result<BitBu
     ensures ok { IfOk result (λ b. b ≡ map (bit_of_position bits.now) positions.now) }
     ensures err { IsOkUnless result Memory }
 {
-    let mut picked = BitBufferMut::with_capacity(alloc, positions.len())?;
-    for position in positions {
-        picked.append(bits.value(*position))?;
+    let mut bytes = vec![in alloc; 0u8; positions.len().div_ceil(8)]?;
+    put_bits_at(bits, positions, &mut bytes);
+    Ok(BitBuffer::from_parts(ByteBuffer::from_vec(alloc, bytes)?, 0, positions.len()))
+}
+
+// Writes the booleans at these positions, eight to a byte.
+#[inline(never)]
+fn put_bits_at(bits: &BitBuffer, positions: &[usize], out: &mut [u8])
+    requires within { All (λ k. k < length bits.now) positions.now }
+    requires room { length positions.now ≤ 8 * length out.old }
+    ensures len { length out.new ≡ length out.old }
+    ensures bits { unpacked out.new 0 (length positions.now) ≡ map (bit_of_position bits.now) positions.now }
+{
+    let whole = positions.len() / 8;
+    for j in 0..whole {
+        let at = 8 * j;
+        out[j] = byte_of([
+            bits.value(positions[at]),
+            bits.value(positions[at + 1]),
+            bits.value(positions[at + 2]),
+            bits.value(positions[at + 3]),
+            bits.value(positions[at + 4]),
+            bits.value(positions[at + 5]),
+            bits.value(positions[at + 6]),
+            bits.value(positions[at + 7]),
+        ]);
     }
-    picked.freeze()
+    for i in 8 * whole..positions.len() {
+        put_bit(out, i, bits.value(positions[i]));
+    }
 }
 
 // One run at a time.

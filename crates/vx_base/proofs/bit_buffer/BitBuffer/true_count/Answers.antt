@@ -1,11 +1,25 @@
-use Rattle.std.proofs.Common.{ℕ, List, ◌≡◌, ◌≤◌, ◌+◌, ◌*◌, length, count_by, sym, ap, ◌∙◌, arith}
+use Rattle.std.proofs.Common.{◌⊎◌, inl, inr, ℕ, List, ◌≡◌, ◌≤◌, ◌+◌, ◌*◌, length, count_by, sym, ap, ◌∙◌, arith}
 use Rattle.std.specs.Prelude.{count_ones}
 use Rattle.std.proofs.lemmas.List.{take_all}
 use Rattle.std.proofs.lemmas.Nat.{ones-le}
 use Rattle.vx_base.specs.Bits.{byte_from}
 use Rattle.vx_base.proofs.PackedBits.{length_unpacked}
 use Rattle.vx_base.proofs.PackedBytes.{count_more}
+use Rattle.vx_base.proofs.Packing.{words_front}
 use Rattle.vx_base.proofs.bit_buffer.BitBuffer.true_count.Goals as goal
+use Rattle.vx_base.proofs.bit_buffer.BitBuffer.true_count.Goals.{then-self-eq0, else-self-eq0}
+
+pub loop-j-init : goal.loop-j-init
+loop-j-init c =
+    let s = c.self.inside in
+    let few : ((s.offset ≡ 0) ⊎ (c.if-self-eq0.words ≡ 0)) × (64 * c.if-self-eq0.words ≤ s.len) = elim c.if-self-eq0.branch [
+      | then-self-eq0 w ↦ (inl w.if-self-eq0.true, omega arith)
+      | else-self-eq0 w ↦ (inr w.words-is, omega arith)
+    ] in
+    let front = words_front c.as_slice-source.result.now c.args.self.now s.offset s.len c.if-self-eq0.words (rw c.as_slice-source.ensures c.self.view_is) few.0 few.1 in (
+      omega arith,
+      c.count_words-count.ensures.value ∙ ap (count_by (λ b. b)) front,
+    )
 
 pub loop-j-preserved : goal.loop-j-preserved
 loop-j-preserved c =

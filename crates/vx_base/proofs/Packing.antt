@@ -1,0 +1,226 @@
+-- Booleans that are packed eight to a byte.
+use Rattle.std.proofs.Common.{ℕ, zero, suc, ◌+◌, ◌*◌, ◌/◌, ◌%◌, ◌^◌, ◌<◌, ◌≤◌, ◌≡◌, ◌≢◌, ◌⊎◌, ◌-◌, Bool, true, false, cond, eqb, List, [], ◌∷◌, length, get_or, set, take, drop, refl, sym, ◌∙◌, ap, zero-add, inl, inr, arith}
+use Rattle.std.specs.Int.{bit_at, w64, from_le_bytes}
+use Rattle.std.specs.Prelude.{bit_and, ◌&&◌, count_by, count_ones}
+use lib.Count.{ones_cat}
+use Rattle.std.proofs.lemmas.Bool.{cases_lt}
+use Rattle.std.proofs.lemmas.Simd.{bit_mask_l}
+use Rattle.std.proofs.lemmas.List.{get_or-take, take_all, length-take-le, get_or_default, get_or-set_same, get_or-set_other, same_lists}
+use lib.Lanes.{mask_l}
+use mir.Val.{bool_byte}
+use Rattle.vx_base.specs.Bits.{bit_of, byte_from, unpacked, bool_at}
+use Rattle.vx_base.proofs.PackedBytes.{bit_of-and, bit_of-byte_from, byte_from-whole, count_more}
+use Rattle.vx_base.proofs.PackedBits.{get_unpacked, length_unpacked, unpacked_none, unpacked_part, unpacked-same}
+use Rattle.vx_base.proofs.SameBits.{byte_of_part, same_byte}
+
+byte_of_bool : (b : Bool) → bool_byte b ≡ cond b 1 0
+byte_of_bool true = refl
+byte_of_bool false = refl
+
+-- eight booleans as one number
+pub eight : (bs : List Bool) → length bs ≡ 8
+    → bool_byte (get_or bs 0 false) + 2 * bool_byte (get_or bs 1 false) + 4 * bool_byte (get_or bs 2 false) + 8 * bool_byte (get_or bs 3 false)
+    + 16 * bool_byte (get_or bs 4 false) + 32 * bool_byte (get_or bs 5 false) + 64 * bool_byte (get_or bs 6 false) + 128 * bool_byte (get_or bs 7 false) ≡ mask_l bs
+eight (a ∷ b ∷ c ∷ d ∷ e ∷ f ∷ g ∷ h ∷ []) long =
+    omega (arith, byte_of_bool a, byte_of_bool b, byte_of_bool c, byte_of_bool d, byte_of_bool e, byte_of_bool f, byte_of_bool g, byte_of_bool h)
+eight (a ∷ b ∷ c ∷ d ∷ e ∷ f ∷ g ∷ h ∷ i ∷ is) long = absurd (omega arith)
+eight [] long = absurd (omega arith)
+eight (a ∷ []) long = absurd (omega arith)
+eight (a ∷ b ∷ []) long = absurd (omega arith)
+eight (a ∷ b ∷ c ∷ []) long = absurd (omega arith)
+eight (a ∷ b ∷ c ∷ d ∷ []) long = absurd (omega arith)
+eight (a ∷ b ∷ c ∷ d ∷ e ∷ []) long = absurd (omega arith)
+eight (a ∷ b ∷ c ∷ d ∷ e ∷ f ∷ []) long = absurd (omega arith)
+eight (a ∷ b ∷ c ∷ d ∷ e ∷ f ∷ g ∷ []) long = absurd (omega arith)
+
+-- the byte of eight booleans from a place on
+abbrev pub eight_from : (ℕ → Bool) → ℕ → List Bool
+eight_from f n = f n ∷ f (n + 1) ∷ f (n + 2) ∷ f (n + 3) ∷ f (n + 4) ∷ f (n + 5) ∷ f (n + 6) ∷ f (n + 7) ∷ []
+
+eight_at : (f : ℕ → Bool) (n i : ℕ) → i < 8 → get_or (eight_from f n) i false ≡ f (n + i)
+eight_at f n zero h = ap f (omega arith)
+eight_at f n (suc zero) h = refl
+eight_at f n (suc (suc zero)) h = refl
+eight_at f n (suc (suc (suc zero))) h = refl
+eight_at f n (suc (suc (suc (suc zero)))) h = refl
+eight_at f n (suc (suc (suc (suc (suc zero))))) h = refl
+eight_at f n (suc (suc (suc (suc (suc (suc zero)))))) h = refl
+eight_at f n (suc (suc (suc (suc (suc (suc (suc zero))))))) h = refl
+eight_at f n (suc (suc (suc (suc (suc (suc (suc (suc i)))))))) h = absurd (omega arith)
+
+is_one : (b : Bool) → eqb (cond b 1 0) 1 ≡ b
+is_one true = refl
+is_one false = refl
+
+-- one byte more is written
+pub byte_put : (out : List ℕ) (f : ℕ → Bool) (j byte : ℕ) → j < length out → ((i : ℕ) → i < 8 → eqb (bit_at byte i) 1 ≡ f (8 * j + i)) → ((k : ℕ) → k < 8 * j → bit_of out k ≡ f k)
+    → (k : ℕ) → k < 8 * (j + 1) → bit_of (set out j byte) k ≡ f k
+byte_put out f j byte within each before k h = elim (cases_lt k (8 * j)) [
+  | inl small ↦
+      let apart : k / 8 ≢ j = omega arith in
+      rw get_or-set_other (before k small)
+  | inr here ↦
+      let place : k / 8 ≡ j = omega arith in
+      let low : k % 8 < 8 = omega arith in
+      let same : 8 * j + k % 8 ≡ k = omega arith in
+      rw (place, get_or-set_same) (each (k % 8) low ∙ ap f same)
+]
+
+-- a bit of a byte
+pub bit_of_byte : (bs : List ℕ) (j i : ℕ) → i < 8 → bit_of bs (8 * j + i) ≡ eqb (bit_at (get_or bs j 0) i) 1
+bit_of_byte bs j i h =
+    let place : (8 * j + i) / 8 ≡ j = omega arith in
+    let bit : (8 * j + i) % 8 ≡ i = omega arith in
+    rw (place, bit)
+
+-- one byte more of `&` of two runs that begin a byte, and of any two
+pub and_put : (ls rs out : List ℕ) (j : ℕ) → j < length out → ((k : ℕ) → k < 8 * j → bit_of out k ≡ (bit_of ls (0 + k) && bit_of rs (0 + k)))
+    → (k : ℕ) → k < 8 * (j + 1) → bit_of (set out j (bit_and (get_or ls j 0) (get_or rs j 0))) k ≡ (bit_of ls (0 + k) && bit_of rs (0 + k))
+and_put ls rs out j within before = byte_put out (λ k. bit_of ls (0 + k) && bit_of rs (0 + k)) j (bit_and (get_or ls j 0) (get_or rs j 0)) within
+    (λ i h. bit_of-and (get_or ls j 0) (get_or rs j 0) i ∙ rw (zero-add, bit_of_byte ls j i h, bit_of_byte rs j i h) refl) before
+
+pub and_put_joined : (ls rs out : List ℕ) (from at j : ℕ) → j < length out → ((k : ℕ) → k < 8 * j → bit_of out k ≡ (bit_of ls (from + k) && bit_of rs (at + k)))
+    → (k : ℕ) → k < 8 * (j + 1) → bit_of (set out j (bit_and (byte_from ls (from + 8 * j)) (byte_from rs (at + 8 * j)))) k ≡ (bit_of ls (from + k) && bit_of rs (at + k))
+and_put_joined ls rs out from at j within before = byte_put out (λ k. bit_of ls (from + k) && bit_of rs (at + k)) j (bit_and (byte_from ls (from + 8 * j)) (byte_from rs (at + 8 * j))) within
+    (λ i h. let left : from + 8 * j + i ≡ from + (8 * j + i) = omega arith in
+    let right : at + 8 * j + i ≡ at + (8 * j + i) = omega arith in
+    bit_of-and (byte_from ls (from + 8 * j)) (byte_from rs (at + 8 * j)) i ∙ rw (bit_of-byte_from ls (from + 8 * j) i h, bit_of-byte_from rs (at + 8 * j) i h, left, right) refl) before
+
+-- ---- set bits of words
+
+-- the ones of a number in two parts
+ones_of : (k a r n : ℕ) → r < 2 ^ k → n ≡ a * 2 ^ k + r → count_ones n ≡ count_ones a + count_ones r
+ones_of k a r n h e = ap count_ones e ∙ ones_cat k a r h
+
+-- the ones of eight bytes
+ones_word : (a b c d e f g h : ℕ) → a < 256 → b < 256 → c < 256 → d < 256 → e < 256 → f < 256 → g < 256 → h < 256
+    → count_ones (from_le_bytes w64 (a ∷ b ∷ c ∷ d ∷ e ∷ f ∷ g ∷ h ∷ []))
+    ≡ count_ones a + count_ones b + count_ones c + count_ones d + count_ones e + count_ones f + count_ones g + count_ones h
+ones_word a b c d e f g h la lb lc ld le lf lg lh =
+    let s1 = ones_of 8 b a (a + b * 2 ^ 8) (omega arith) (omega arith) in
+    let s2 = ones_of 16 c (a + b * 2 ^ 8) (a + b * 2 ^ 8 + c * 2 ^ 16) (omega arith) (omega arith) in
+    let s3 = ones_of 24 d (a + b * 2 ^ 8 + c * 2 ^ 16) (a + b * 2 ^ 8 + c * 2 ^ 16 + d * 2 ^ 24) (omega arith) (omega arith) in
+    let s4 = ones_of 32 e (a + b * 2 ^ 8 + c * 2 ^ 16 + d * 2 ^ 24) (a + b * 2 ^ 8 + c * 2 ^ 16 + d * 2 ^ 24 + e * 2 ^ 32) (omega arith) (omega arith) in
+    let s5 = ones_of 40 f (a + b * 2 ^ 8 + c * 2 ^ 16 + d * 2 ^ 24 + e * 2 ^ 32) (a + b * 2 ^ 8 + c * 2 ^ 16 + d * 2 ^ 24 + e * 2 ^ 32 + f * 2 ^ 40) (omega arith) (omega arith) in
+    let s6 = ones_of 48 g (a + b * 2 ^ 8 + c * 2 ^ 16 + d * 2 ^ 24 + e * 2 ^ 32 + f * 2 ^ 40) (a + b * 2 ^ 8 + c * 2 ^ 16 + d * 2 ^ 24 + e * 2 ^ 32 + f * 2 ^ 40 + g * 2 ^ 48) (omega arith) (omega arith) in
+    let s7 = ones_of 56 h (a + b * 2 ^ 8 + c * 2 ^ 16 + d * 2 ^ 24 + e * 2 ^ 32 + f * 2 ^ 40 + g * 2 ^ 48) (from_le_bytes w64 (a ∷ b ∷ c ∷ d ∷ e ∷ f ∷ g ∷ h ∷ [])) (omega arith) (omega arith) in
+    omega (arith, s1, s2, s3, s4, s5, s6, s7)
+
+-- one word more is counted
+pub count_word : (bs : List ℕ) (len j : ℕ) → 64 * j + 64 ≤ len → ((i : ℕ) → get_or bs i 0 < 256)
+    → count_by (λ b. b) (take (64 * (j + 1)) (unpacked bs 0 len)) ≡ count_by (λ b. b) (take (64 * j) (unpacked bs 0 len))
+    + count_ones (from_le_bytes w64 (get_or bs (8 * j) 0 ∷ get_or bs (8 * j + 1) 0 ∷ get_or bs (8 * j + 2) 0 ∷ get_or bs (8 * j + 3) 0 ∷ get_or bs (8 * j + 4) 0 ∷ get_or bs (8 * j + 5) 0 ∷ get_or bs (8 * j + 6) 0 ∷ get_or bs (8 * j + 7) 0 ∷ []))
+count_word bs len j h fit =
+    let word = ones_word (get_or bs (8 * j) 0) (get_or bs (8 * j + 1) 0) (get_or bs (8 * j + 2) 0) (get_or bs (8 * j + 3) 0) (get_or bs (8 * j + 4) 0) (get_or bs (8 * j + 5) 0) (get_or bs (8 * j + 6) 0) (get_or bs (8 * j + 7) 0)
+    (fit (8 * j)) (fit (8 * j + 1)) (fit (8 * j + 2)) (fit (8 * j + 3)) (fit (8 * j + 4)) (fit (8 * j + 5)) (fit (8 * j + 6)) (fit (8 * j + 7)) in
+    let s0 = step (8 * j) (64 * j) (64 * j + 8) (omega arith) (omega arith) (omega arith) in
+    let s1 = step (8 * j + 1) (64 * j + 8) (64 * j + 16) (omega arith) (omega arith) (omega arith) in
+    let s2 = step (8 * j + 2) (64 * j + 16) (64 * j + 24) (omega arith) (omega arith) (omega arith) in
+    let s3 = step (8 * j + 3) (64 * j + 24) (64 * j + 32) (omega arith) (omega arith) (omega arith) in
+    let s4 = step (8 * j + 4) (64 * j + 32) (64 * j + 40) (omega arith) (omega arith) (omega arith) in
+    let s5 = step (8 * j + 5) (64 * j + 40) (64 * j + 48) (omega arith) (omega arith) (omega arith) in
+    let s6 = step (8 * j + 6) (64 * j + 48) (64 * j + 56) (omega arith) (omega arith) (omega arith) in
+    let s7 = step (8 * j + 7) (64 * j + 56) (64 * (j + 1)) (omega arith) (omega arith) (omega arith) in
+    omega (arith, word, s0, s1, s2, s3, s4, s5, s6, s7)
+  where
+    step : (i n m : ℕ) → n ≡ 8 * i → m ≡ n + 8 → m ≤ len
+        → count_by (λ b. b) (take m (unpacked bs 0 len)) ≡ count_by (λ b. b) (take n (unpacked bs 0 len)) + count_ones (get_or bs i 0)
+    step i n m e f l =
+        let none : n % 8 ≡ 0 = omega arith in
+        let place : n / 8 ≡ i = omega arith in
+        let byte = byte_from-whole bs n fit none in
+        let more = count_more bs 0 len n (omega arith) in
+        rw (f, ← place, byte) (rw zero-add at more)
+
+-- the bits of whole words, where the run begins the first byte or there are none
+pub words_front : (bs : List ℕ) (bits : List Bool) (offset len words : ℕ) → unpacked bs offset len ≡ bits → (offset ≡ 0) ⊎ (words ≡ 0) → 64 * words ≤ len → unpacked bs 0 (64 * words) ≡ take (8 * (8 * words)) bits
+words_front bs bits offset len words e (inl zero_offset) h =
+    let size : 8 * (8 * words) ≡ 64 * words = omega arith in
+    let all : 64 * words - 0 ≡ 64 * words = omega arith in
+    let part = unpacked_part bs bs 0 len 0 0 (64 * words) (omega arith) h (λ j l. refl) in
+    rw (size, ← e, zero_offset) (rw all at part)
+words_front bs bits offset len words e (inr none) h = rw none (unpacked_none bs 0)
+
+-- one byte more is packed
+pub eight_packed : (out : List ℕ) (f : ℕ → Bool) (j byte : ℕ) → j < length out → byte ≡ mask_l (eight_from f (8 * j)) → ((k : ℕ) → k < 8 * j → bit_of out k ≡ f k)
+    → (k : ℕ) → k < 8 * (j + 1) → bit_of (set out j byte) k ≡ f k
+eight_packed out f j byte within e before k h = elim (cases_lt k (8 * j)) [
+  | inl small ↦
+      let apart : k / 8 ≢ j = omega arith in
+      rw get_or-set_other (before k small)
+  | inr here ↦
+      let place : k / 8 ≡ j = omega arith in
+      let low : k % 8 < 8 = omega arith in
+      let same : 8 * j + k % 8 ≡ k = omega arith in
+      rw (place, get_or-set_same, e) (ap (λ (n : ℕ). eqb n 1) (bit_mask_l (eight_from f (8 * j)) (k % 8)) ∙ is_one (get_or (eight_from f (8 * j)) (k % 8) false) ∙ eight_at f (8 * j) (k % 8) low ∙ ap f same)
+]
+
+-- one bit more is packed
+pub bit_packed : (out new : List ℕ) (f : ℕ → Bool) (i : ℕ) → bit_of new i ≡ f i → ((k : ℕ) → k ≢ i → bit_of new k ≡ bit_of out k) → ((k : ℕ) → k < i → bit_of out k ≡ f k)
+    → (k : ℕ) → k < i + 1 → bit_of new k ≡ f k
+bit_packed out new f i here others before k h = elim (cases_lt k i) [
+  | inl small ↦ others k (λ e. absurd (omega arith)) ∙ before k small
+  | inr large ↦
+      let same : k ≡ i = omega arith in
+      ap (bit_of new) same ∙ here ∙ sym (ap f same)
+]
+
+-- the bits are those that were packed
+pub packed_all : (out : List ℕ) (bits : List Bool) (len : ℕ) → length bits ≡ len → ((k : ℕ) → k < len → bit_of out k ≡ bool_at bits k) → unpacked out 0 len ≡ bits
+packed_all out bits len long h = same_lists _ _ (length_unpacked out 0 len ∙ sym long) each
+  where
+    each : (k : ℕ) (d : Bool) → k < length (unpacked out 0 len) → get_or (unpacked out 0 len) k d ≡ get_or bits k d
+    each k d l =
+        let small : k < len = omega (arith, length_unpacked out 0 len) in
+        get_unpacked out 0 len k d small ∙ ap (bit_of out) (zero-add k) ∙ h k small ∙ get_or_default bits k false d (omega arith)
+
+-- ---- two runs that begin a byte, whose whole bytes are the same
+
+-- each bit of the whole bytes
+pub same_bits : (bs cs : List ℕ) (len n : ℕ) → 8 * n ≤ len → take n bs ≡ take n cs → take (8 * n) (unpacked bs 0 len) ≡ take (8 * n) (unpacked cs 0 len)
+same_bits bs cs len n within e =
+    let all : 8 * n - 0 ≡ 8 * n = omega arith in
+    let left = unpacked_part bs bs 0 len 0 0 (8 * n) (omega arith) within (λ j l. refl) in
+    let right = unpacked_part cs cs 0 len 0 0 (8 * n) (omega arith) within (λ j l. refl) in
+    sym (rw all at left) ∙ unpacked-same bs cs 0 0 (8 * n) each ∙ rw all at right
+  where
+    each : (j : ℕ) → j < 8 * n → bit_of bs (0 + j) ≡ bit_of cs (0 + j)
+    each j l =
+        let within : j / 8 < n = omega arith in
+        rw zero-add (ap (λ (b : ℕ). eqb (bit_at b (j % 8)) 1) (sym (get_or-take n bs (j / 8) 0 within) ∙ ap (λ (xs : List ℕ). get_or xs (j / 8) 0) e ∙ get_or-take n cs (j / 8) 0 within))
+
+-- and each whole byte of the bits
+pub same_bytes : (bs cs : List ℕ) (len n : ℕ) → 8 * n ≤ len → n ≤ length bs → n ≤ length cs → ((i : ℕ) → get_or bs i 0 < 256) → ((i : ℕ) → get_or cs i 0 < 256)
+    → take (8 * n) (unpacked bs 0 len) ≡ take (8 * n) (unpacked cs 0 len) → take n bs ≡ take n cs
+same_bytes bs cs len n within left right fit fits e = same_lists _ _ (length-take-le n bs left ∙ sym (length-take-le n cs right)) each
+  where
+    byte : (xs : List ℕ) → ((i : ℕ) → get_or xs i 0 < 256) → (i : ℕ) → i < n → get_or xs i 0 ≡ mask_l (take 8 (drop (8 * i) (unpacked xs 0 len)))
+    byte xs small i l =
+        let place : 8 * i / 8 ≡ i = omega arith in
+        let none : 8 * i % 8 ≡ 0 = omega arith in
+        let part = byte_of_part xs 0 len (8 * i) (omega arith) in
+        (rw place at (byte_from-whole xs (8 * i) small none)) ∙ rw zero-add at part
+
+    each : (k : ℕ) (d : ℕ) → k < length (take n bs) → get_or (take n bs) k d ≡ get_or (take n cs) k d
+    each k d l =
+        let small : k < n = omega (arith, length-take-le n bs left) in
+        get_or-take n bs k d small ∙ get_or_default bs k d 0 (omega arith) ∙ byte bs fit k small ∙ same_byte (unpacked bs 0 len) (unpacked cs 0 len) k n small e
+        ∙ sym (get_or-take n cs k d small ∙ get_or_default cs k d 0 (omega arith) ∙ byte cs fits k small)
+
+-- both
+pub whole_same : (bs cs : List ℕ) (n : ℕ) → n ≤ length bs → n ≤ length cs → ((i : ℕ) → get_or bs i 0 < 256) → ((i : ℕ) → get_or cs i 0 < 256)
+    → (take n bs ≡ take n cs → unpacked bs 0 (8 * n) ≡ unpacked cs 0 (8 * n)) × (unpacked bs 0 (8 * n) ≡ unpacked cs 0 (8 * n) → take n bs ≡ take n cs)
+whole_same bs cs n left right fit fits =
+    let every : 8 * n ≤ 8 * n = omega arith in
+    let one = take_all (8 * n) (unpacked bs 0 (8 * n)) (omega (arith, length_unpacked bs 0 (8 * n))) in
+    let two = take_all (8 * n) (unpacked cs 0 (8 * n)) (omega (arith, length_unpacked cs 0 (8 * n))) in (
+      λ e. sym one ∙ same_bits bs cs (8 * n) n every e ∙ two,
+      λ e. same_bytes bs cs (8 * n) n every left right fit fits (ap (take (8 * n)) e),
+    )
+
+-- the bits of whole bytes, where the run begins the first byte
+pub bytes_front : (bs : List ℕ) (bits : List Bool) (offset len n : ℕ) → unpacked bs offset len ≡ bits → offset ≡ 0 → 8 * n ≤ len → unpacked bs 0 (8 * n) ≡ take (8 * n) bits
+bytes_front bs bits offset len n e none within =
+    let all : 8 * n - 0 ≡ 8 * n = omega arith in
+    let part = unpacked_part bs bs 0 len 0 0 (8 * n) (omega arith) within (λ j l. refl) in
+    rw (← e, none) (rw all at part)
