@@ -4,6 +4,7 @@ pub mod Padding
 pub mod Bytewise
 pub mod Places
 pub mod WordOrder
+pub mod AsciiViews
 pub mod Utf8Table
 pub mod Utf8Ranges
 pub mod FirstFaults

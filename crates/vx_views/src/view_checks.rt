@@ -1,14 +1,17 @@
 //! The check of views that come from outside.
 
-ghost use Rattle.std.specs.Prelude.{◌≡◌, ◌≢◌, ◌<◌, ◌↔◌, length, OnOk, IfOk, IfErr, None};
+ghost use Rattle.std.specs.Prelude.{◌≡◌, ◌≢◌, ◌<◌, ◌≤◌, ◌↔◌, length, OnOk, IfOk, IfErr, None, IsTrue, IsUtf8};
 ghost use Rattle.vx_base.specs.Refusals.{refusal_of, IsMemoryOr};
 ghost use Rattle.vx_base.specs.declared.errors.VortexError.TheVariants.{Memory};
 ghost use Rattle.vx_views.specs.Faulty.{views_fault, view_fault, place_fault, text_fault, AreSound};
-ghost use Rattle.vx_views.specs.Views.{view_size, view_value};
+ghost use Rattle.vx_views.specs.Views.{view_size, view_value, held_value};
 
 use crate::view::BinaryView;
 use std::alloc::Global;
 use vx_base::{ByteBuffer, Mask, VortexError};
+
+// The high bits of the bytes that may hold a value, in the 16 bytes of a view as one number.
+const INLINED_HIGH_BITS: u128 = 0x8080_8080_8080_8080_8080_8080_0000_0000;
 
 /// Whether each view of a valid row may stand there: the first faulty row refuses, with its number.
 ///
@@ -67,7 +70,7 @@ fn check_view(
     ensures no_memory { IfErr result (λ e. e ≢ Memory) }
 {
     if view.is_inlined() {
-        return check_text(view.bytes(&[]), row, check_utf8);
+        return check_inlined_text(view, row, check_utf8);
     }
     check_text(value_at(view, row, buffers)?, row, check_utf8)
 }
@@ -78,10 +81,39 @@ fn check_text(value: &[u8], row: usize, check_utf8: bool) -> Result<(), VortexEr
     ensures refused { IfErr result (λ e. text_fault check_utf8 value.now row ≡ refusal_of e) }
     ensures no_memory { IfErr result (λ e. e ≢ Memory) }
 {
-    if check_utf8 && !simdutf8::is_utf8(value) {
+    if check_utf8 && !is_text(value) {
         return Err(VortexError::NotUtf8 { row });
     }
     Ok(())
+}
+
+// The same for the value that stands in a view.
+fn check_inlined_text(view: &BinaryView, row: usize, check_utf8: bool) -> Result<(), VortexError>
+    requires { view_size view.now ≤ 12 }
+    ensures accepted { OnOk result (text_fault check_utf8 (held_value view.now) row ≡ None) }
+    ensures refused { IfErr result (λ e. text_fault check_utf8 (held_value view.now) row ≡ refusal_of e) }
+    ensures no_memory { IfErr result (λ e. e ≢ Memory) }
+{
+    if check_utf8 && !is_inlined_text(view) {
+        return Err(VortexError::NotUtf8 { row });
+    }
+    Ok(())
+}
+
+// Whether a value is text: bytes below 128 are told first, eight at a time.
+fn is_text(value: &[u8]) -> bool
+    ensures { IsTrue result ↔ IsUtf8 value.now }
+{
+    value.is_ascii() || simdutf8::is_utf8(value)
+}
+
+// Whether the value that stands in a view is text: bytes below 128 are told first, by their high bits.
+fn is_inlined_text(view: &BinaryView) -> bool
+    requires { view_size view.now ≤ 12 }
+    ensures { IsTrue result ↔ IsUtf8 (held_value view.now) }
+{
+    let _size = view.len();
+    view.as_u128() & INLINED_HIGH_BITS == 0 || simdutf8::is_utf8(view.bytes(&[]))
 }
 
 // The value that a view refers to, where the view says rightly where it stands and how it begins.
