@@ -12,7 +12,8 @@ use Rattle.vx_base.specs.declared.errors.VortexError.{VortexError}
 use Rattle.vx_base.specs.declared.errors.VortexError.TheVariants.{Memory}
 use Rattle.vx_views.proofs.FirstFaults.{or_else_second, or_else_none, names_a_fault, first_fault_found, first_fault_none, first_fault_of_none}
 use Rattle.vx_views.specs.Views.{view_size, view_prefix, view_block, view_offset, is_inline, buffer_at, view_value}
-use Rattle.vx_views.specs.Faulty.{place_fault, text_fault, view_fault, row_fault, views_fault, IsSound, AreSound}
+use Rattle.vx_views.specs.Faulty.{place_fault, text_fault, view_fault, row_fault, views_fault}
+use Rattle.vx_views.specs.Sound.{IsSoundView, AreSoundViews}
 
 -- ---- text
 
@@ -125,10 +126,10 @@ none_spared true fault none refers = absurd (cc)
 none_spared false fault none refers = none
 
 -- a view has no fault just where it is sound
-view_fault-IsSound : (check_utf8 : Bool) (buffers : List (List ℕ)) (view : List ℕ) (row : ℕ) → (view_fault check_utf8 buffers view row ≡ None) ↔ IsSound check_utf8 buffers view
-view_fault-IsSound check_utf8 buffers view row = (to, from)
+view_fault-IsSoundView : (check_utf8 : Bool) (buffers : List (List ℕ)) (view : List ℕ) (row : ℕ) → (view_fault check_utf8 buffers view row ≡ None) ↔ IsSoundView buffers check_utf8 view
+view_fault-IsSoundView check_utf8 buffers view row = (to, from)
   where
-    to : view_fault check_utf8 buffers view row ≡ None → IsSound check_utf8 buffers view
+    to : view_fault check_utf8 buffers view row ≡ None → IsSoundView buffers check_utf8 view
     to none =
         let parts = or_else_none (cond (is_inline view) None (place_fault buffers view row)) (text_fault check_utf8 (view_value buffers view) row) none in
         let placed : 12 < view_size view → IsPlaced buffers view =
@@ -136,27 +137,27 @@ view_fault-IsSound check_utf8 buffers view row = (to, from)
         record {
           resolves = λ refers. ((placed refers).there, (placed refers).end);
           begins = λ refers. (placed refers).begins;
-          text = λ on. text_fault-IsUtf8 (view_value buffers view) row (subst (λ (check : Bool). text_fault check (view_value buffers view) row ≡ None) on parts.1);
+          utf8 = λ on. text_fault-IsUtf8 (view_value buffers view) row (subst (λ (check : Bool). text_fault check (view_value buffers view) row ≡ None) on parts.1);
         }
 
-    from : IsSound check_utf8 buffers view → view_fault check_utf8 buffers view row ≡ None
+    from : IsSoundView buffers check_utf8 view → view_fault check_utf8 buffers view row ≡ None
     from sound =
         or_else_second (cond (is_inline view) None (place_fault buffers view row)) (text_fault check_utf8 (view_value buffers view) row) None
         (spared_none (is_inline view) (place_fault buffers view row) (λ off.
         let refers : 12 < view_size view = leb-false (view_size view) 12 off in
         place_fault-none buffers view row (record { there = (sound.resolves refers).0; start = omega (arith, (sound.resolves refers).1); end = (sound.resolves refers).1; begins = sound.begins refers })))
-        (elim (cases_Bool check_utf8) [ inl on ↦ text_fault_none check_utf8 (view_value buffers view) row (inr (sound.text on)) | inr off ↦ text_fault_none check_utf8 (view_value buffers view) row (inl off) ])
+        (elim (cases_Bool check_utf8) [ inl on ↦ text_fault_none check_utf8 (view_value buffers view) row (inr (sound.utf8 on)) | inr off ↦ text_fault_none check_utf8 (view_value buffers view) row (inl off) ])
 
-pub views_fault-AreSound : (check_utf8 : Bool) (mask : List Bool) (buffers views : List (List ℕ)) → (views_fault check_utf8 mask buffers views ≡ None) ↔ AreSound check_utf8 mask buffers views
+pub views_fault-AreSoundViews : (check_utf8 : Bool) (mask : List Bool) (buffers views : List (List ℕ)) → (views_fault check_utf8 mask buffers views ≡ None) ↔ AreSoundViews views mask buffers check_utf8
 unfolding views_fault
-views_fault-AreSound check_utf8 mask buffers views = (
+views_fault-AreSoundViews check_utf8 mask buffers views = (
   λ none row within valid.
       let here = first_fault_none (row_fault check_utf8 mask buffers views) (length views) row none within in
-      (view_fault-IsSound check_utf8 buffers (get_or views row []) row).0 (rw valid at here),
+      (view_fault-IsSoundView check_utf8 buffers (get_or views row []) row).0 (rw valid at here),
   λ sound.
       first_fault_of_none (row_fault check_utf8 mask buffers views) (length views) (λ row within.
       elim (cases_Bool (bool_at mask row)) [
-        | inl valid ↦ rw valid ((view_fault-IsSound check_utf8 buffers (get_or views row []) row).1 (sound row within valid))
+        | inl valid ↦ rw valid ((view_fault-IsSoundView check_utf8 buffers (get_or views row []) row).1 (sound row within valid))
         | inr null ↦ rw null
       ]),
 )

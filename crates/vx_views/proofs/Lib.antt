@@ -5,6 +5,7 @@ pub mod Bytewise
 pub mod Places
 pub mod WordOrder
 pub mod AsciiViews
+pub mod SoundViews
 pub mod Utf8Table
 pub mod Utf8Ranges
 pub mod FirstFaults

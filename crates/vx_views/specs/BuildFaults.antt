@@ -5,6 +5,7 @@ use Rattle.std.specs.List.{zip}
 use Rattle.vx_base.specs.Refusals.{Refusal, limit_too_large, negative, lengths_not_exact, value_too_long, overflow, empty_input, falling_offsets, out_of_bounds, refusal_of, or_else, first_fault}
 use Rattle.vx_base.specs.declared.errors.VortexError.{VortexError}
 use Rattle.vx_views.specs.Cut.{IsMaximalCut}
+use Rattle.vx_views.specs.declared.view.TheConstants.{MAX_BUFFER_LEN}
 
 -- the integer of a row
 abbrev pub number_at : List ℤ → ℕ → ℤ
@@ -32,7 +33,7 @@ used_part heap offsets = slice_range heap (first_offset offsets) (last_offset of
 
 -- the limit passes the greatest length of a buffer
 abbrev pub limit_fault : ℕ → Option Refusal
-limit_fault limit = if nat_le limit 2147483647 then None else Some limit_too_large
+limit_fault limit = if nat_le limit MAX_BUFFER_LEN then None else Some limit_too_large
 
 -- the integer of the row is negative
 abbrev pub negative_at : List ℤ → ℕ → Option Refusal

@@ -1,9 +1,9 @@
 -- Why a view may not stand at a valid row, and which of several faults is named.
-use Rattle.std.specs.Prelude.{◌≡◌, ℕ, ◌+◌, ◌<◌, Bool, true, not, ◌&&◌, nat_lt, nat_le, if◌then◌else◌, List, [], length, take, bytes_eq, slice_index_or, IsUtf8, Option, Some, None}
+use Rattle.std.specs.Prelude.{ℕ, ◌+◌, Bool, not, ◌&&◌, nat_lt, nat_le, if◌then◌else◌, List, [], length, take, bytes_eq, slice_index_or, Option, Some, None}
 use Rattle.std.specs.Str.{is_utf8}
 use Rattle.vx_base.specs.Bits.{bool_at}
 use Rattle.vx_base.specs.Refusals.{Refusal, not_utf8, bad_buffer, bad_start, bad_end, bad_prefix, or_else, first_fault}
-use Rattle.vx_views.specs.Views.{view_size, view_prefix, view_block, view_offset, is_inline, buffer_at, view_value, Resolves}
+use Rattle.vx_views.specs.Views.{view_size, view_prefix, view_block, view_offset, is_inline, buffer_at, view_value}
 
 -- what is wrong with where a view refers to: there is no such buffer, it does not reach to the value's start or not to
 -- its end, or the value there begins otherwise than the view says
@@ -33,14 +33,3 @@ row_fault check_utf8 mask buffers views row =
 -- the fault of the least faulty row
 unfoldable pub views_fault : Bool → List Bool → List (List ℕ) → List (List ℕ) → Option Refusal
 views_fault check_utf8 mask buffers views = first_fault (row_fault check_utf8 mask buffers views) (length views)
-
--- a view that may stand at a valid row: its value can be read, begins as the view says, and is text where text is asked
-pub record IsSound (check_utf8 : Bool) (buffers : List (List ℕ)) (view : List ℕ) : Type 0 where
-  pub resolves : Resolves buffers view
-  pub begins : 12 < view_size view → view_prefix view ≡ take 4 (view_value buffers view)
-  pub text : check_utf8 ≡ true → IsUtf8 (view_value buffers view)
-
--- each view of a valid row may stand there
-abbrev pub AreSound : Bool → List Bool → List (List ℕ) → List (List ℕ) → Type 0
-AreSound check_utf8 mask buffers views =
-    (row : ℕ) → row < length views → bool_at mask row ≡ true → IsSound check_utf8 buffers (slice_index_or views row [])

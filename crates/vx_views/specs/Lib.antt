@@ -1,6 +1,7 @@
 pub mod Order
 pub mod Views
 pub mod Utf8
+pub mod Sound
 pub mod Faulty
 pub mod Cut
 pub mod Places

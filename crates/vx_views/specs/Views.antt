@@ -2,6 +2,7 @@
 -- A view is a list of 16 bytes, and the buffers that it may refer to are a list of lists of bytes. Numbers stand with their lowest byte first.
 use Rattle.std.specs.Prelude.{◌≡◌, ℕ, ◌+◌, ◌-◌, ◌^◌, ◌<◌, ◌≤◌, min, Bool, if◌then◌else◌, List, [], ◌++◌, length, take, drop, replicate, nat_le, slice_range, slice_index, slice_index_or}
 use Rattle.std.specs.Int.{w32, w64, from_le_bytes, to_le_bytes, from_be_bytes}
+use Rattle.vx_views.specs.declared.view.TheConstants.{MAX_INLINED_SIZE}
 
 -- ---- what a view says
 
@@ -25,9 +26,9 @@ view_block view = number_le view 8
 abbrev pub view_offset : List ℕ → ℕ
 view_offset view = number_le view 12
 
--- a value of at most 12 bytes stands in the view itself
+-- a value of at most MAX_INLINED_SIZE bytes stands in the view itself
 abbrev pub is_inline : List ℕ → Bool
-is_inline view = nat_le (view_size view) 12
+is_inline view = nat_le (view_size view) MAX_INLINED_SIZE
 
 -- the buffer of a number, empty where there is none
 abbrev pub buffer_at : List (List ℕ) → ℕ → List ℕ
@@ -42,7 +43,7 @@ view_value buffers view =
 -- the buffer that a view refers to is there, and is long enough; an inlined view refers to none
 abbrev pub Resolves : List (List ℕ) → List ℕ → Type 0
 Resolves buffers view =
-    12 < view_size view →
+    MAX_INLINED_SIZE < view_size view →
     (view_block view < length buffers) × (view_offset view + view_size view ≤ length (buffer_at buffers (view_block view)))
 
 -- each element is a byte
@@ -64,14 +65,14 @@ padded len value = take len (value ++ replicate len 0)
 unfoldable pub ref_view : ℕ → List ℕ → ℕ → ℕ → List ℕ
 ref_view size prefix block offset = to_le_bytes w32 size ++ prefix ++ to_le_bytes w32 block ++ to_le_bytes w32 offset
 
--- the view that holds a value of at most 12 bytes
+-- the view that holds a value of at most MAX_INLINED_SIZE bytes
 unfoldable pub inlined_view : List ℕ → List ℕ
-inlined_view value = to_le_bytes w32 (length value) ++ padded 12 value
+inlined_view value = to_le_bytes w32 (length value) ++ padded MAX_INLINED_SIZE value
 
 -- the view of a value that stands in the buffer of a number, from an offset on
 abbrev pub view_of : List ℕ → ℕ → ℕ → List ℕ
 view_of value block offset =
-    if nat_le (length value) 12 then inlined_view value else ref_view (length value) (take 4 value) block offset
+    if nat_le (length value) MAX_INLINED_SIZE then inlined_view value else ref_view (length value) (take 4 value) block offset
 
 -- the value that an inlined view holds
 abbrev pub held_value : List ℕ → List ℕ
@@ -80,13 +81,13 @@ held_value view = slice_range view 4 (4 + view_size view)
 -- an inlined view, with zeroes after its value
 pub record IsZeroPadded (view : List ℕ) : Type 0 where
   pub formed : IsView view
-  pub inlined : view_size view ≤ 12
-  pub zeroes : slice_range view 4 16 ≡ padded 12 (held_value view)
+  pub inlined : view_size view ≤ MAX_INLINED_SIZE
+  pub zeroes : slice_range view 4 16 ≡ padded MAX_INLINED_SIZE (held_value view)
 
--- a value above 12 bytes stands in the buffer of a number, from an offset on
+-- a value above MAX_INLINED_SIZE bytes stands in the buffer of a number, from an offset on
 abbrev pub StandsAt : List (List ℕ) → List ℕ → ℕ → ℕ → Type 0
 StandsAt buffers value block offset =
-    12 < length value →
+    MAX_INLINED_SIZE < length value →
     (block < length buffers) × (offset + length value ≤ length (buffer_at buffers block))
     × (slice_range (buffer_at buffers block) offset (offset + length value) ≡ value)
 

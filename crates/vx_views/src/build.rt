@@ -22,7 +22,7 @@ fn cut_heap<L: Lengths>(
     heap: &ByteBuffer,
     lengths: &L,
 ) -> Result<Option<(Vec<ByteBuffer>, Vec<BinaryView>)>, VortexError>
-    requires { limit ≤ 2147483647 }
+    requires { limit ≤ MAX_BUFFER_LEN }
     ensures built { IfOk result (λ r. IfSome r (λ built.
         AreBuilt start limit heap.now (lengths_of (L.numbers lengths.now)) built.0.items built.1.items)) }
     ensures read_back { IfOk result (λ r. IfSome r (λ built.
@@ -120,7 +120,7 @@ fn cut_at_offsets<P: NativePType>(
     bytes: &ByteBuffer,
     offsets: &[P],
 ) -> Result<Option<(Vec<ByteBuffer>, Vec<BinaryView>)>, VortexError>
-    requires { limit ≤ 2147483647 }
+    requires { limit ≤ MAX_BUFFER_LEN }
     ensures built { IfOk result (λ r. IfSome r (λ made.
         AreBuilt start limit (used_part bytes.now (map P.value offsets.now)) (lengths_of (differences (map P.value offsets.now))) made.0.items made.1.items)) }
     ensures read_back { IfOk result (λ r. IfSome r (λ made.

@@ -69,7 +69,7 @@ impl BinaryView {
     /// The view that refers to a value of `size` bytes which begins with `prefix` and stands in the buffer numbered
     /// `buffer_index`, from `offset` on.
     pub fn new_ref(size: u32, prefix: [u8; 4], buffer_index: u32, offset: u32) -> BinaryView
-        requires { 12 < size }
+        requires { MAX_INLINED_SIZE < size }
         ensures { result ≡ ref_view size prefix buffer_index offset }
     {
         BinaryView::from(Ref {
@@ -83,7 +83,7 @@ impl BinaryView {
     /// The view that holds a value of at most 12 bytes.
     #[tactic(auto, unfolding(crate::specs::Views::inlined_view))]
     pub fn new_inlined(value: &[u8]) -> BinaryView
-        requires { length value.now ≤ 12 }
+        requires { length value.now ≤ MAX_INLINED_SIZE }
         ensures { result ≡ inlined_view value.now }
     {
         let size = value.len() as u32;
@@ -118,7 +118,7 @@ impl BinaryView {
 
     /// The parts of a view that holds its value.
     pub fn as_inlined(&self) -> Inlined
-        requires { view_size self.now ≤ 12 }
+        requires { view_size self.now ≤ MAX_INLINED_SIZE }
         ensures size { result.size ≡ view_size self.now }
         ensures bytes { result.bytes ≡ slice_range self.now 4 16 }
         ensures value { take result.size result.bytes ≡ held_value self.now }
@@ -132,7 +132,7 @@ impl BinaryView {
     /// The parts of a view that refers to its value.
     #[tactic(auto, unfolding(crate::specs::Views::number_le))]
     pub fn as_view(&self) -> Ref
-        requires { 12 < view_size self.now }
+        requires { MAX_INLINED_SIZE < view_size self.now }
         ensures { result ≡ record { size = view_size self.now; prefix = view_prefix self.now; buffer_index = view_block self.now; offset = view_offset self.now } }
     {
         Ref {
@@ -145,8 +145,8 @@ impl BinaryView {
 
     /// Puts these parts in the place of those of a view that refers to its value.
     pub fn set_view(&mut self, parts: Ref)
-        requires before { 12 < view_size self.old }
-        requires after { 12 < parts.size }
+        requires before { MAX_INLINED_SIZE < view_size self.old }
+        requires after { MAX_INLINED_SIZE < parts.size }
         ensures { self.new ≡ ref_view parts.size parts.prefix parts.buffer_index parts.offset }
     {
         *self = BinaryView::from(parts);
@@ -191,7 +191,7 @@ impl BinaryView {
     /// The bytes 4..12 of the value that the view holds, as a number whose order is that of the bytes.
     #[tactic(auto, unfolding(crate::specs::Views::view_order_tail))]
     pub fn order_tail(&self) -> u64
-        requires { view_size self.now ≤ 12 }
+        requires { view_size self.now ≤ MAX_INLINED_SIZE }
         ensures { result ≡ view_order_tail self.now }
     {
         u64::from_be_bytes(self.part(8))

@@ -3,8 +3,10 @@
 ghost use Rattle.std.specs.Prelude.{◌≡◌, ◌≢◌, ◌<◌, ◌≤◌, ◌↔◌, length, OnOk, IfOk, IfErr, None, IsTrue, IsUtf8};
 ghost use Rattle.vx_base.specs.Refusals.{refusal_of, IsMemoryOr};
 ghost use Rattle.vx_base.specs.declared.errors.VortexError.TheVariants.{Memory};
-ghost use Rattle.vx_views.specs.Faulty.{views_fault, view_fault, place_fault, text_fault, AreSound};
+ghost use Rattle.vx_views.specs.Faulty.{views_fault, view_fault, place_fault, text_fault};
+ghost use Rattle.vx_views.specs.Sound.{AreSoundViews};
 ghost use Rattle.vx_views.specs.Views.{view_size, view_value, held_value};
+ghost use Rattle.vx_views.specs.declared.view.TheConstants.{MAX_INLINED_SIZE};
 
 use crate::view::BinaryView;
 use std::alloc::Global;
@@ -36,7 +38,7 @@ pub fn check_views(
     ensures refused { IfErr result (IsMemoryOr (views_fault check_utf8 mask.now buffers.now views.now)) }
 
     // Each valid view then resolves, begins as it says, and is text where text is asked.
-    ensures sound { OnOk result (AreSound check_utf8 mask.now buffers.now views.now) }
+    ensures sound { OnOk result (AreSoundViews views.now mask.now buffers.now check_utf8) }
 {
     for (row, view) in views.iter().enumerate() {
         if mask.value(row) {
@@ -55,7 +57,7 @@ pub fn faultless_views_are_sound(
     check_utf8: bool,
 )
     ensures { (views_fault check_utf8 mask.now buffers.now views.now ≡ None)
-        ↔ AreSound check_utf8 mask.now buffers.now views.now }
+        ↔ AreSoundViews views.now mask.now buffers.now check_utf8 }
 {}
 
 // Whether the view of a valid row may stand there.
@@ -89,7 +91,7 @@ fn check_text(value: &[u8], row: usize, check_utf8: bool) -> Result<(), VortexEr
 
 // The same for the value that stands in a view.
 fn check_inlined_text(view: &BinaryView, row: usize, check_utf8: bool) -> Result<(), VortexError>
-    requires { view_size view.now ≤ 12 }
+    requires { view_size view.now ≤ MAX_INLINED_SIZE }
     ensures accepted { OnOk result (text_fault check_utf8 (held_value view.now) row ≡ None) }
     ensures refused { IfErr result (λ e. text_fault check_utf8 (held_value view.now) row ≡ refusal_of e) }
     ensures no_memory { IfErr result (λ e. e ≢ Memory) }
@@ -109,7 +111,7 @@ fn is_text(value: &[u8]) -> bool
 
 // Whether the value that stands in a view is text: bytes below 128 are told first, by their high bits.
 fn is_inlined_text(view: &BinaryView) -> bool
-    requires { view_size view.now ≤ 12 }
+    requires { view_size view.now ≤ MAX_INLINED_SIZE }
     ensures { IsTrue result ↔ IsUtf8 (held_value view.now) }
 {
     let _size = view.len();
@@ -122,7 +124,7 @@ fn value_at<'a>(
     row: usize,
     buffers: &'a [ByteBuffer],
 ) -> Result<&'a [u8], VortexError>
-    requires { 12 < view_size view.now }
+    requires { MAX_INLINED_SIZE < view_size view.now }
     ensures accepted { OnOk result (place_fault buffers.now view.now row ≡ None) }
     ensures value { IfOk result (λ v. v.now ≡ view_value buffers.now view.now) }
     ensures refused { IfErr result (λ e. place_fault buffers.now view.now row ≡ refusal_of e) }

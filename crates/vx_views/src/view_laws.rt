@@ -1,11 +1,13 @@
 //! What holds of all views and values. Each function does nothing: its contract is the law.
 
-ghost use Rattle.std.specs.Prelude.{◌≡◌, ℕ, ◌^◌, ◌<◌, ◌≤◌, ◌↔◌, List, IsTrue, length};
+ghost use Rattle.std.specs.Prelude.{◌≡◌, ℕ, ◌^◌, ◌<◌, ◌≤◌, ◌↔◌, List, IsTrue, length, slice_index_or, [], Bool};
 ghost use Rattle.std.specs.Cmp.Lexicographic.{slice_cmp};
 ghost use Rattle.std.specs.Ordering.{nat_cmp};
 ghost use Rattle.std.specs.declared.cmp.Ordering.TheVariants.{Less, Equal, Greater};
 ghost use Rattle.vx_views.specs.Order.{IsSmaller, bytewise, by_words};
-ghost use Rattle.vx_views.specs.Views.{AreBytes, IsZeroPadded, Resolves, StandsAt, head_of, order_prefix_of, order_tail_of, prefix_of, view_head, view_of, view_order_prefix, view_order_tail, view_prefix, view_value};
+ghost use Rattle.vx_views.specs.Sound.{IsSoundView};
+ghost use Rattle.vx_views.specs.Views.{AreBytes, IsView, IsZeroPadded, Resolves, StandsAt, head_of, order_prefix_of, order_tail_of, prefix_of, view_head, view_of, view_order_prefix, view_order_tail, view_prefix, view_size, view_value};
+ghost use Rattle.vx_views.specs.declared.view.TheConstants.{MAX_INLINED_SIZE};
 
 use crate::view::BinaryView;
 use std::hash::Hash;
@@ -28,7 +30,7 @@ pub fn padded_views_are_equal_as_their_values()
 
 /// The view of a short value holds it with zeroes after it.
 pub fn views_of_short_values_are_padded()
-    ensures { (value : List ℕ) (block offset : ℕ) → AreBytes value → length value ≤ 12 → IsZeroPadded (view_of value block offset) }
+    ensures { (value : List ℕ) (block offset : ℕ) → AreBytes value → length value ≤ MAX_INLINED_SIZE → IsZeroPadded (view_of value block offset) }
 {}
 
 /// Views of one value have one head, wherever the value stands.
@@ -42,7 +44,7 @@ pub fn words_of_views_are_words_of_values()
     ensures prefix { (value : List ℕ) (block offset : ℕ) → view_prefix (view_of value block offset) ≡ prefix_of value }
     ensures head { (value : List ℕ) (block offset : ℕ) → length value < 2 ^ 32 → view_head (view_of value block offset) ≡ head_of value }
     ensures order_prefix { (value : List ℕ) (block offset : ℕ) → view_order_prefix (view_of value block offset) ≡ order_prefix_of value }
-    ensures order_tail { (value : List ℕ) (block offset : ℕ) → length value ≤ 12 → view_order_tail (view_of value block offset) ≡ order_tail_of value }
+    ensures order_tail { (value : List ℕ) (block offset : ℕ) → length value ≤ MAX_INLINED_SIZE → view_order_tail (view_of value block offset) ≡ order_tail_of value }
 {}
 
 /// Inlined views with zeroes after their values are ordered by order prefix, order tail and length as the values are
@@ -76,4 +78,14 @@ pub fn view_of_a_value_reads_back()
         → StandsAt buffers value block offset → Resolves buffers (view_of value block offset) }
     ensures reads_back { (buffers : List (List ℕ)) (value : List ℕ) (block offset : ℕ) → length value < 2 ^ 32 → block < 2 ^ 32 → offset < 2 ^ 32
         → StandsAt buffers value block offset → view_value buffers (view_of value block offset) ≡ value }
+{}
+
+/// The value of a sound view has the length that the view says, which a `u32` holds, and it has only bytes where the
+/// buffers have.
+pub fn values_of_sound_views_are_short()
+    ensures length { (buffers : List (List ℕ)) (is_text : Bool) (view : List ℕ) → IsView view → IsSoundView buffers is_text view
+        → length (view_value buffers view) ≡ view_size view }
+    ensures short { (buffers : List (List ℕ)) (view : List ℕ) → IsView view → length (view_value buffers view) < 2 ^ 32 }
+    ensures bytes { (buffers : List (List ℕ)) (view : List ℕ) → IsView view
+        → ((block : ℕ) → AreBytes (slice_index_or buffers block [])) → AreBytes (view_value buffers view) }
 {}

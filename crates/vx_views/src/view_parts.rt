@@ -1,6 +1,7 @@
 //! The two forms of a view, taken apart: a value that it holds, or where the value stands.
 
 ghost use Rattle.std.specs.Prelude.{◌≡◌, ◌+◌, ◌<◌, ◌≤◌, slice_range, take};
+ghost use Rattle.vx_views.specs.declared.view.TheConstants.{MAX_INLINED_SIZE};
 
 use std::ops::Range;
 
@@ -17,7 +18,7 @@ pub struct Inlined {
 impl Inlined {
     /// The value.
     pub fn value(&self) -> &[u8]
-        requires { self.now.size ≤ 12 }
+        requires { self.now.size ≤ MAX_INLINED_SIZE }
         ensures { result.now ≡ take self.now.size self.now.bytes }
     {
         &self.bytes[..self.size as usize]

@@ -1,6 +1,6 @@
 use Rattle.std.proofs.Common.{arith, rules, inr, sym, ◌∙◌}
 use Rattle.std.proofs.lemmas.Result.{err_from_is_err_and}
-use Rattle.vx_views.proofs.FaultyViews.{views_fault_found, no_fault_at_valid, no_fault_at_null, no_fault_at_end, views_fault-AreSound}
+use Rattle.vx_views.proofs.FaultyViews.{views_fault_found, no_fault_at_valid, no_fault_at_null, no_fault_at_end, views_fault-AreSoundViews}
 use Rattle.vx_views.proofs.view_checks.check_views.Goals as goal
 use Rattle.vx_views.proofs.view_checks.check_views.Goals.{then-value+in_ok-check_view, else-value}
 
@@ -23,4 +23,4 @@ pub returns-clause-accepted : goal.returns-clause-accepted
 returns-clause-accepted c = no_fault_at_end c.args.check_utf8 c.args.mask.now c.args.buffers.now c.args.views.now c.loop-row.row c.loop-row.invariant (omega arith)
 
 pub returns-clause-sound : goal.returns-clause-sound
-returns-clause-sound c = (views_fault-AreSound c.args.check_utf8 c.args.mask.now c.args.buffers.now c.args.views.now).0 (returns-clause-accepted c)
+returns-clause-sound c = (views_fault-AreSoundViews c.args.check_utf8 c.args.mask.now c.args.buffers.now c.args.views.now).0 (returns-clause-accepted c)
