@@ -10,3 +10,4 @@ pub mod Gathered
 pub mod Packing
 pub mod Filling
 pub mod Runs
+pub mod StructKinds

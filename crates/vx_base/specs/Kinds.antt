@@ -20,6 +20,11 @@ mutual
     no_kinds : Kinds
     kind : Kind → Kinds → Kinds
 
+-- kinds, one after another
+abbrev pub kinds_from : List Kind → Kinds
+kinds_from [] = no_kinds
+kinds_from (k ∷ ks) = kind k (kinds_from ks)
+
 -- null may stand under it
 abbrev pub is_nullable_kind : Kind → Bool
 is_nullable_kind (booleans n) = n
@@ -69,6 +74,11 @@ is_integers (binaries n) = false
 is_integers (lists k n) = false
 is_integers (fixed_lists k size n) = false
 is_integers (records names ks n) = false
+
+-- a kind of records
+abbrev pub is_records : Kind → Bool
+is_records (records names ks n) = true
+is_records _ = false
 
 -- the kind of plain booleans, none of them null
 abbrev pub is_plain_booleans : Kind → Bool

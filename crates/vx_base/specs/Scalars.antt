@@ -1,5 +1,5 @@
 -- One row with its data type.
-use Rattle.std.specs.Prelude.{◌≡◌, refl}
+use Rattle.std.specs.Prelude.{refl}
 use Rattle.std.specs.Coded.{Coded, code_by, coded×}
 use Rattle.vx_base.specs.Rows.{Row, null, boolean, whole}
 use Rattle.vx_base.specs.Kinds.{Kind}

@@ -2,16 +2,18 @@
 
 ghost use Rattle.std.specs.Prelude.{◌≡◌, true, IfOk, IsOkUnless};
 ghost use Rattle.vx_base.specs.declared.errors.VortexError.TheVariants.{Memory};
-ghost use Rattle.vx_base.specs.Kinds.{is_nullable_kind, or_nullable, with_nullable, is_integers, is_plain_booleans, integer_type};
-ghost use Rattle.vx_base.specs.DTypes.{dtype_meaning, is_nullable};
+ghost use Rattle.vx_base.specs.Kinds.{is_nullable_kind, or_nullable, with_nullable, is_integers, is_plain_booleans, is_records, integer_type, records};
+ghost use Rattle.vx_base.specs.DTypes.{dtype_meaning, field_names, field_kinds, is_nullable};
 
 use crate::errors::VortexError;
 use crate::nullability::Nullability;
 use crate::ptypes::PType;
+use crate::struct_fields::StructFields;
 use std::alloc::Global;
 use std::rc::Rc;
 
 /// The data type of an array: the kind of its rows, and whether null may stand among them.
+#[cycle(dtype)]
 #[derive(Drop)]
 pub enum DType {
     /// Truth values.
@@ -26,6 +28,8 @@ pub enum DType {
     List(Rc<DType>, Nullability),
     /// Lists of a fixed number of rows of a data type.
     FixedSizeList(Rc<DType>, u32, Nullability),
+    /// Records of these fields.
+    Struct(StructFields, Nullability),
 }
 
 impl DType {
@@ -40,6 +44,7 @@ impl DType {
             DType::Binary(nullability) => *nullability,
             DType::List(_, nullability) => *nullability,
             DType::FixedSizeList(_, _, nullability) => *nullability,
+            DType::Struct(_, nullability) => *nullability,
         }
     }
 
@@ -57,14 +62,42 @@ impl DType {
     pub fn is_int(&self) -> bool
         ensures { result ≡ is_integers (dtype_meaning self.now) }
     {
-        matches!(self, DType::Primitive(_, _))
+        match self {
+            DType::Primitive(_, _) => true,
+            DType::Bool(_) | DType::Utf8(_) | DType::Binary(_) => false,
+            DType::List(_, _) | DType::FixedSizeList(_, _, _) | DType::Struct(_, _) => false,
+        }
     }
 
     /// Whether the rows are truth values and none may be null: the data type of a validity array.
     pub fn is_plain_bool(&self) -> bool
         ensures { result ≡ is_plain_booleans (dtype_meaning self.now) }
     {
-        matches!(self, DType::Bool(Nullability::NonNullable))
+        match self {
+            DType::Bool(nullability) => matches!(nullability, Nullability::NonNullable),
+            DType::Primitive(_, _) | DType::Utf8(_) | DType::Binary(_) => false,
+            DType::List(_, _) | DType::FixedSizeList(_, _, _) | DType::Struct(_, _) => false,
+        }
+    }
+
+    /// The data type of records of these fields.
+    pub fn new_struct(fields: StructFields, nullability: Nullability) -> DType
+        ensures { dtype_meaning result ≡ records (field_names fields) (field_kinds fields) (is_nullable nullability) }
+    {
+        DType::Struct(fields, nullability)
+    }
+
+    /// The fields of the rows. Asks that they are records.
+    pub fn as_struct_fields(&self) -> &StructFields
+        requires { is_records (dtype_meaning self.now) ≡ true }
+        ensures { dtype_meaning self.now ≡ records (field_names result.now) (field_kinds result.now) (is_nullable_kind (dtype_meaning self.now)) }
+    {
+        match self {
+            DType::Struct(fields, _) => fields,
+            DType::Bool(_) | DType::Primitive(_, _) | DType::Utf8(_) => unreachable!(),
+            DType::Binary(_) | DType::List(_, _) => unreachable!(),
+            DType::FixedSizeList(_, _, _) => unreachable!(),
+        }
     }
 
     /// The integer type of the rows. Asks that they are whole numbers.
@@ -74,7 +107,9 @@ impl DType {
     {
         match self {
             DType::Primitive(ptype, _) => *ptype,
-            _ => unreachable!(),
+            DType::Bool(_) | DType::Utf8(_) | DType::Binary(_) => unreachable!(),
+            DType::List(_, _) | DType::FixedSizeList(_, _, _) => unreachable!(),
+            DType::Struct(_, _) => unreachable!(),
         }
     }
 
@@ -89,6 +124,7 @@ impl DType {
             DType::Binary(_) => DType::Binary(nullability),
             DType::List(items, _) => DType::List(items, nullability),
             DType::FixedSizeList(items, size, _) => DType::FixedSizeList(items, size, nullability),
+            DType::Struct(fields, _) => DType::Struct(fields, nullability),
         }
     }
 
@@ -105,11 +141,12 @@ impl DType {
             DType::FixedSizeList(items, size, own) => {
                 DType::FixedSizeList(items, size, nullability.union(own))
             }
+            DType::Struct(fields, own) => DType::Struct(fields, nullability.union(own)),
         }
     }
 
     /// The same data type, its parts shared.
-    pub fn try_clone(&self, _alloc: Global) -> Result<DType, VortexError>
+    pub fn try_clone(&self, alloc: Global) -> Result<DType, VortexError>
         ensures ok { IfOk result (λ d. dtype_meaning d ≡ dtype_meaning self.now) }
         ensures err { IsOkUnless result Memory }
     {
@@ -121,6 +158,9 @@ impl DType {
             DType::List(items, nullability) => Ok(DType::List(items.clone()?, *nullability)),
             DType::FixedSizeList(items, size, nullability) => {
                 Ok(DType::FixedSizeList(items.clone()?, *size, *nullability))
+            }
+            DType::Struct(fields, nullability) => {
+                Ok(DType::Struct(fields.try_clone(alloc)?, *nullability))
             }
         }
     }

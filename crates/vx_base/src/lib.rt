@@ -9,6 +9,7 @@ mod byte_buffer;
 mod counts;
 mod dtypes;
 mod errors;
+mod field_names;
 mod gather;
 mod laws;
 mod mask;
@@ -18,6 +19,7 @@ mod numbers;
 mod ptypes;
 mod scalar;
 mod selection;
+mod struct_fields;
 #[cfg(test)]
 mod tests;
 
@@ -29,6 +31,7 @@ pub use crate::byte_buffer::{ByteBuffer, slice_numbers};
 pub use crate::counts::{read_counts, write_counts};
 pub use crate::dtypes::DType;
 pub use crate::errors::VortexError;
+pub use crate::field_names::{FieldName, FieldNames};
 pub use crate::gather::{gather_bits, gather_numbers};
 pub use crate::laws::first_fault_is_least;
 pub use crate::mask::Mask;
@@ -38,3 +41,4 @@ pub use crate::numbers::{int_at, int_of, number_count, put_int};
 pub use crate::ptypes::PType;
 pub use crate::scalar::Scalar;
 pub use crate::selection::Selection;
+pub use crate::struct_fields::StructFields;

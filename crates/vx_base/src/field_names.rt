@@ -1,0 +1,124 @@
+// The names of the fields of a record.
+
+ghost use Rattle.std.specs.Prelude.{◌≡◌, ◌<◌, List, length, map, slice_get, Some, IfOk, IsOkUnless};
+ghost use Rattle.std.specs.Borrow.{Bor};
+ghost use Rattle.vx_base.specs.declared.errors.VortexError.TheVariants.{Memory};
+
+use crate::buffer::Buffer;
+use crate::errors::VortexError;
+use std::alloc::Global;
+use std::marker::Model;
+use std::rc::RcStr;
+
+/// The name of a field: a text.
+#[derive(Drop)]
+pub struct FieldName {
+    text: RcStr,
+}
+
+impl Model for FieldName {
+    ghost use Rattle.std.specs.Prelude.{ℕ, List};
+    ghost use Rattle.std.specs.Rc.{rc_str_bytes};
+
+    ghost Value = { List ℕ };
+
+    ghost view = { λ n. rc_str_bytes n.text };
+}
+
+impl FieldName {
+    /// A name with a copy of this text. Fails only for want of memory.
+    pub fn try_new(alloc: Global, text: &str) -> Result<FieldName, VortexError>
+        ensures ok { IfOk result (λ n. n ≡ text.now) }
+        ensures err { IsOkUnless result Memory }
+    {
+        let text = RcStr::from_str(alloc, text)?;
+        Ok(FieldName { text })
+    }
+
+    /// The text, to be read.
+    pub fn as_str(&self) -> &str
+        ensures { result.now ≡ self.now }
+    {
+        self.text.as_str()
+    }
+
+    /// The same name, its text shared. Fails only for want of memory.
+    pub fn try_clone(&self, _alloc: Global) -> Result<FieldName, VortexError>
+        ensures ok { IfOk result (λ n. n ≡ self.now) }
+        ensures err { IsOkUnless result Memory }
+    {
+        let text = self.text.clone()?;
+        Ok(FieldName { text })
+    }
+}
+
+/// The names of the fields of a record, in order. A name may stand more than once.
+#[derive(Drop)]
+pub struct FieldNames {
+    names: Buffer<FieldName>,
+}
+
+impl Model for FieldNames {
+    ghost use Rattle.std.specs.Prelude.{ℕ, List};
+
+    ghost Value = { List (List ℕ) };
+
+    ghost view = { λ n. n.names };
+}
+
+impl FieldNames {
+    /// Names with copies of these texts, in order. Fails only for want of memory.
+    pub fn try_new(alloc: Global, texts: &[&str]) -> Result<FieldNames, VortexError>
+        ensures ok { IfOk result (λ n. n ≡ map (λ text. text.now) texts.now) }
+        ensures err { IsOkUnless result Memory }
+    {
+        let mut names = Vec::with_capacity(alloc, texts.len())?;
+        for text in texts {
+            names.push(FieldName::try_new(alloc, text)?)?;
+        }
+        FieldNames::from_names(alloc, names)
+    }
+
+    // These names.
+    pub(crate) fn from_names(
+        alloc: Global,
+        names: Vec<FieldName>,
+    ) -> Result<FieldNames, VortexError>
+        ensures ok { IfOk result (λ n. n ≡ names.items) }
+        ensures err { IsOkUnless result Memory }
+    {
+        let names = Buffer::from_vec(alloc, names)?;
+        Ok(FieldNames { names })
+    }
+
+    /// How many names there are.
+    pub fn len(&self) -> usize
+        ensures { result ≡ length self.now }
+    {
+        self.names.len()
+    }
+
+    /// The name of field `i`, counted from 0. Asks that there is one.
+    pub fn get(&self, i: usize) -> &FieldName
+        requires { i < length self.now }
+        ensures { slice_get self.now i ≡ Some result.now }
+    {
+        &self.names.as_slice()[i]
+    }
+
+    // The names, to be read.
+    pub(crate) fn as_slice(&self) -> &[FieldName]
+        ensures { result.now ≡ self.now }
+    {
+        self.names.as_slice()
+    }
+
+    /// The same names, shared. Fails only for want of memory.
+    pub fn try_clone(&self, alloc: Global) -> Result<FieldNames, VortexError>
+        ensures ok { IfOk result (λ n. n ≡ self.now) }
+        ensures err { IsOkUnless result Memory }
+    {
+        let names = self.names.try_clone(alloc)?;
+        Ok(FieldNames { names })
+    }
+}
