@@ -1,5 +1,6 @@
 -- The meaning of data types, and which rows they take.
 use Rattle.std.specs.Prelude.{◌≡◌, ◌≤◌, ◌^◌, refl, ℕ, Bool, true, false, IsTrue, List, [], ◌∷◌, ◌||◌, ◌-◌, ◌+◌, length, IsUtf8}
+use Rattle.vx_base.specs.Bytes.{AreBytes}
 use Rattle.vx_base.specs.Integers.{Holds}
 use Rattle.vx_base.specs.Rows.{Row, null, boolean, whole, bytes, text, items, record_of, Rows, no_rows, row, Fields, no_fields, field}
 use Rattle.vx_base.specs.declared.ptypes.PType.{PType}
@@ -57,23 +58,13 @@ with_nullable c (records names ks n) = records names ks c
 
 -- the integer type of a kind of integers (of another kind, U8)
 abbrev pub integer_type : Kind → PType
-integer_type (booleans n) = U8
 integer_type (integers t n) = t
-integer_type (texts n) = U8
-integer_type (binaries n) = U8
-integer_type (lists k n) = U8
-integer_type (fixed_lists k size n) = U8
-integer_type (records names ks n) = U8
+integer_type _ = U8
 
 -- a kind of integers
 abbrev pub is_integers : Kind → Bool
-is_integers (booleans n) = false
 is_integers (integers t n) = true
-is_integers (texts n) = false
-is_integers (binaries n) = false
-is_integers (lists k n) = false
-is_integers (fixed_lists k size n) = false
-is_integers (records names ks n) = false
+is_integers _ = false
 
 -- a kind of records
 abbrev pub is_records : Kind → Bool
@@ -82,25 +73,13 @@ is_records _ = false
 
 -- the kind of plain booleans, none of them null
 abbrev pub is_plain_booleans : Kind → Bool
-is_plain_booleans (booleans true) = false
 is_plain_booleans (booleans false) = true
-is_plain_booleans (integers t n) = false
-is_plain_booleans (texts n) = false
-is_plain_booleans (binaries n) = false
-is_plain_booleans (lists k n) = false
-is_plain_booleans (fixed_lists k size n) = false
-is_plain_booleans (records names ks n) = false
+is_plain_booleans _ = false
 
 -- the kind of plain integers, none of them null
 abbrev pub is_plain_integers : Kind → Bool
-is_plain_integers (booleans n) = false
-is_plain_integers (integers t true) = false
 is_plain_integers (integers t false) = true
-is_plain_integers (texts n) = false
-is_plain_integers (binaries n) = false
-is_plain_integers (lists k n) = false
-is_plain_integers (fixed_lists k size n) = false
-is_plain_integers (records names ks n) = false
+is_plain_integers _ = false
 
 -- how many rows a list row has
 abbrev pub row_count : Rows → ℕ
@@ -112,15 +91,15 @@ abbrev pub IsShort : List ℕ → Type 0
 IsShort bs = length bs ≤ 2 ^ 32 - 1
 
 -- a row fits a kind: it is of that kind, numbers lie in the range of their type, lists of a fixed size have that size,
--- records have the names in order, inner rows fit inner kinds, texts are UTF-8, texts and bytes are short, and null
--- stands only where it may
+-- records have the names in order, inner rows fit inner kinds, texts are UTF-8, byte lists are bytes, both are short,
+-- and null stands only where it may
 abbrev mutual
   pub Fits : Kind → Row → Type 0
   Fits k null = IsTrue (is_nullable_kind k)
   Fits (booleans n) (boolean b) = Unit {0}
   Fits (integers t n) (whole z) = Holds t z
   Fits (texts n) (text bs) = IsUtf8 bs × IsShort bs
-  Fits (binaries n) (bytes bs) = IsShort bs
+  Fits (binaries n) (bytes bs) = AreBytes bs × IsShort bs
   Fits (lists k n) (items rs) = AllFit k rs
   Fits (fixed_lists k size n) (items rs) = (row_count rs ≡ size) × AllFit k rs
   Fits (records names ks n) (record_of fs) = FieldsFit names ks fs

@@ -1,4 +1,5 @@
 pub mod Integers
+pub mod Bytes
 pub mod Bits
 pub mod Selections
 pub mod Picked

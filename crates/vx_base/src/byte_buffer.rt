@@ -1,6 +1,7 @@
 // A shared run of bytes.
 
 ghost use Rattle.std.specs.Prelude.{◌≡◌, ◌≤◌, ◌<◌, ◌^◌, ◌*◌, ◌-◌, ◌↔◌, [], length, slice_range, IsTrue, IfOk, IsOkUnless};
+ghost use Rattle.vx_base.specs.Bytes.{AreBytes};
 ghost use Rattle.vx_base.specs.Integers.{byte_width, numbers};
 ghost use Rattle.vx_base.specs.declared.errors.VortexError.TheVariants.{Memory};
 
@@ -73,9 +74,12 @@ impl ByteBuffer {
 
     /// The bytes, to be read.
     pub fn as_slice(&self) -> &[u8]
-        ensures { result.now ≡ self.now }
+        ensures value { result.now ≡ self.now }
+        ensures bytes { AreBytes result.now }
     {
-        self.bytes.as_slice()
+        let bytes = self.bytes.as_slice();
+        are_bytes(bytes);
+        bytes
     }
 
     /// The bytes of `range`, shared. Asks that the range starts at or before its end, and ends at
@@ -100,6 +104,14 @@ impl ByteBuffer {
             bytes: self.bytes.clone()?,
         })
     }
+}
+
+// Each item of a slice of bytes is a byte.
+#[inline]
+fn are_bytes(bytes: &[u8])
+    ensures { AreBytes bytes.now }
+{
+    let _ = bytes.len();
 }
 
 /// The bytes of the numbers of `range`, shared: the range counts numbers, not bytes. Asks that it

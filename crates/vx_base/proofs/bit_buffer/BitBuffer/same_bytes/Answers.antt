@@ -16,9 +16,9 @@ returns-then-byte_from c =
     let long : length xs ≡ s.len = rw (← c.self.view_is) (length_unpacked s.bytes s.offset s.len) in
     let wide : length ys ≡ o.len = rw (← c.other.view_is) (length_unpacked o.bytes o.offset o.len) in
     let left : c.byte_from.result ≡ mask_l (take 8 (drop (8 * j) xs)) =
-    rw (← c.self.view_is) (c.byte_from.ensures ∙ ap (λ (bytes : List ℕ). byte_from bytes (s.offset + 8 * j)) c.as_slice-mine.ensures ∙ byte_of_part s.bytes s.offset s.len (8 * j) (omega arith)) in
+    rw (← c.self.view_is) (c.byte_from.ensures ∙ ap (λ (bytes : List ℕ). byte_from bytes (s.offset + 8 * j)) c.as_slice-mine.ensures.value ∙ byte_of_part s.bytes s.offset s.len (8 * j) (omega arith)) in
     let right : c.byte_from-in-loop-j.result ≡ mask_l (take 8 (drop (8 * j) ys)) =
-    rw (← c.other.view_is) (c.byte_from-in-loop-j.ensures ∙ ap (λ (bytes : List ℕ). byte_from bytes (o.offset + 8 * j)) c.as_slice-theirs.ensures ∙ byte_of_part o.bytes o.offset o.len (8 * j) (omega arith)) in
+    rw (← c.other.view_is) (c.byte_from-in-loop-j.ensures ∙ ap (λ (bytes : List ℕ). byte_from bytes (o.offset + 8 * j)) c.as_slice-theirs.ensures.value ∙ byte_of_part o.bytes o.offset o.len (8 * j) (omega arith)) in
     (λ h. absurd (cc), λ e. absurd (c.if-byte_from.true (left ∙ same_byte xs ys j (length xs / 8) (omega arith) e ∙ sym right)))
 
 pub loop-j-preserved : goal.loop-j-preserved
@@ -31,9 +31,9 @@ loop-j-preserved c =
     let long : length xs ≡ s.len = rw (← c.self.view_is) (length_unpacked s.bytes s.offset s.len) in
     let wide : length ys ≡ o.len = rw (← c.other.view_is) (length_unpacked o.bytes o.offset o.len) in
     let left : c.byte_from.result ≡ mask_l (take 8 (drop (8 * j) xs)) =
-    rw (← c.self.view_is) (c.byte_from.ensures ∙ ap (λ (bytes : List ℕ). byte_from bytes (s.offset + 8 * j)) c.as_slice-mine.ensures ∙ byte_of_part s.bytes s.offset s.len (8 * j) (omega arith)) in
+    rw (← c.self.view_is) (c.byte_from.ensures ∙ ap (λ (bytes : List ℕ). byte_from bytes (s.offset + 8 * j)) c.as_slice-mine.ensures.value ∙ byte_of_part s.bytes s.offset s.len (8 * j) (omega arith)) in
     let right : c.byte_from-in-loop-j.result ≡ mask_l (take 8 (drop (8 * j) ys)) =
-    rw (← c.other.view_is) (c.byte_from-in-loop-j.ensures ∙ ap (λ (bytes : List ℕ). byte_from bytes (o.offset + 8 * j)) c.as_slice-theirs.ensures ∙ byte_of_part o.bytes o.offset o.len (8 * j) (omega arith)) in
+    rw (← c.other.view_is) (c.byte_from-in-loop-j.ensures ∙ ap (λ (bytes : List ℕ). byte_from bytes (o.offset + 8 * j)) c.as_slice-theirs.ensures.value ∙ byte_of_part o.bytes o.offset o.len (8 * j) (omega arith)) in
     same_more xs ys j (omega arith) (omega arith) c.loop-j.invariant (sym left ∙ c.if-byte_from.false ∙ right)
 
 pub returns-then-other-eq0 : goal.returns-then-other-eq0
@@ -44,6 +44,6 @@ returns-then-other-eq0 c =
     let ys = c.args.other.now in
     let long : length xs ≡ s.len = rw (← c.self.view_is) (length_unpacked s.bytes s.offset s.len) in
     let wide : length ys ≡ o.len = rw (← c.other.view_is) (length_unpacked o.bytes o.offset o.len) in
-    let left = bytes_front c.as_slice-mine.result.now xs s.offset s.len (s.len / 8) (rw c.as_slice-mine.ensures c.self.view_is) c.if-self-eq0.true (omega arith) in
-    let right = bytes_front c.as_slice-theirs.result.now ys o.offset o.len (s.len / 8) (rw c.as_slice-theirs.ensures c.other.view_is) c.if-other-eq0.true (omega arith) in
+    let left = bytes_front c.as_slice-mine.result.now xs s.offset s.len (s.len / 8) (rw c.as_slice-mine.ensures.value c.self.view_is) c.if-self-eq0.true (omega arith) in
+    let right = bytes_front c.as_slice-theirs.result.now ys o.offset o.len (s.len / 8) (rw c.as_slice-theirs.ensures.value c.other.view_is) c.if-other-eq0.true (omega arith) in
     rw long (rw (left, right) at c.same_whole.ensures)

@@ -16,7 +16,7 @@ loop-j-init c =
       | then-self-eq0 w ↦ (inl w.if-self-eq0.true, omega arith)
       | else-self-eq0 w ↦ (inr w.words-is, omega arith)
     ] in
-    let front = words_front c.as_slice-source.result.now c.args.self.now s.offset s.len c.if-self-eq0.words (rw c.as_slice-source.ensures c.self.view_is) few.0 few.1 in (
+    let front = words_front c.as_slice-source.result.now c.args.self.now s.offset s.len c.if-self-eq0.words (rw c.as_slice-source.ensures.value c.self.view_is) few.0 few.1 in (
       omega arith,
       c.count_words-count.ensures.value ∙ ap (count_by (λ b. b)) front,
     )
@@ -26,7 +26,7 @@ loop-j-preserved c =
     let s = c.self.inside in
     let room : 8 * c.loop-j.j + 8 ≤ s.len = omega arith in
     let next : 8 * (c.loop-j.j + 1) ≡ 8 * c.loop-j.j + 8 = omega arith in
-    let byte = c.byte_from.ensures ∙ ap (λ (bytes : List ℕ). byte_from bytes (s.offset + 8 * c.loop-j.j)) c.as_slice-source.ensures in
+    let byte = c.byte_from.ensures ∙ ap (λ (bytes : List ℕ). byte_from bytes (s.offset + 8 * c.loop-j.j)) c.as_slice-source.ensures.value in
     let more = rw (c.self.view_is, ← byte) at (count_more s.bytes s.offset s.len (8 * c.loop-j.j) room) in (
       omega (arith, ones-le 8 c.byte_from.result c.byte_from.type_inv),
       ap (λ (n : ℕ). n + count_ones c.byte_from.result) c.loop-j.invariant.1 ∙ rw next (sym more),
