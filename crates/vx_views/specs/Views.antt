@@ -1,8 +1,9 @@
 -- What the 16 bytes of a view stand for, and the words by which values are compared.
 -- A view is a list of 16 bytes, and the buffers that it may refer to are a list of lists of bytes. Numbers stand with their lowest byte first.
-use Rattle.std.specs.Prelude.{◌≡◌, ℕ, ◌+◌, ◌-◌, ◌^◌, ◌<◌, ◌≤◌, min, Bool, if◌then◌else◌, List, [], ◌++◌, length, take, drop, replicate, nat_le, slice_range, slice_index, slice_index_or}
+use Rattle.std.specs.Prelude.{◌≡◌, ℕ, ◌+◌, ◌-◌, ◌^◌, ◌<◌, ◌≤◌, min, Bool, if◌then◌else◌, List, [], ◌++◌, length, take, drop, replicate, nat_le, slice_range, slice_index_or}
 use Rattle.std.specs.Int.{w32, w64, from_le_bytes, to_le_bytes, from_be_bytes}
 use Rattle.vx_views.specs.declared.view.TheConstants.{MAX_INLINED_SIZE}
+pub use Rattle.vx_base.specs.Bytes.{AreBytes}
 
 -- ---- what a view says
 
@@ -45,10 +46,6 @@ abbrev pub Resolves : List (List ℕ) → List ℕ → Type 0
 Resolves buffers view =
     MAX_INLINED_SIZE < view_size view →
     (view_block view < length buffers) × (view_offset view + view_size view ≤ length (buffer_at buffers (view_block view)))
-
--- each element is a byte
-abbrev pub AreBytes : List ℕ → Type 0
-AreBytes bytes = (i : ℕ) → slice_index bytes i < 256
 
 -- 16 bytes
 pub record IsView (view : List ℕ) : Type 0 where
