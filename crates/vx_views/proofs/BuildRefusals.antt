@@ -5,15 +5,17 @@ use Rattle.std.specs.Result.{IsErrAnd}
 use Rattle.std.proofs.lemmas.Bool.{cases_lt, le-leb, lt-leb, leb-true}
 use Rattle.vx_base.specs.declared.errors.VortexError.{VortexError}
 use Rattle.vx_base.specs.declared.errors.VortexError.TheVariants.{Memory, LimitTooLarge, Overflow}
-use Rattle.vx_base.specs.Refusals.{Refusal, or_else, IsMemoryOr, limit_too_large, overflow, value_too_long}
+use Rattle.vx_base.specs.Refusals.{Refusal, or_else, refusal_of, IsMemoryOr, Names, Refuses, limit_too_large, overflow, value_too_long}
+use Rattle.vx_views.specs.declared.view.TheConstants.{MAX_BUFFER_LEN}
 use Rattle.vx_views.specs.Cut.{ArePieces, IsCut, IsMaximalCut}
-use Rattle.vx_views.specs.BuildFaults.{limit_fault, numbering_fault, number_at, lengths_of, differences, too_long_at, lengths_fault, offsets_fault, IsFault, IsPieceCount}
+use Rattle.vx_views.specs.BuildFaults.{limit_fault, numbering_fault, number_at, lengths_of, differences, too_long_at, lengths_fault, offsets_fault, IsPieceCount}
 use Rattle.vx_views.specs.Places.{AreBuilt}
-use Rattle.vx_views.proofs.OffsetFacts.{AreSoundOffsets-none}
+use Rattle.vx_views.proofs.OffsetFacts.{AreFaultlessOffsets-none}
 use Rattle.std.proofs.lemmas.List.Sums.{sum_by-take-le}
 use Rattle.vx_views.proofs.CutPieces.{sum_take_mono, longest_same, longest_ahead}
 use Rattle.vx_views.proofs.CutPlaces.{length-pieces_of}
-use Rattle.vx_views.proofs.NoFaults.{AreSound-none, first_fault-at, if-none, length_at, length-lengths_of}
+use Rattle.vx_views.proofs.FirstFaults.{or_else-first, or_else-second, first_fault-at, if-none}
+use Rattle.vx_views.proofs.NoFaults.{AreFaultless-none, length_at, length-lengths_of}
 use Rattle.vx_views.proofs.CutOpen.{sum_more, some_maximal}
 
 -- pieces cannot hold a value that is longer than the limit
@@ -57,71 +59,70 @@ piece_count limit lens =
     (λ (some : HasLong limit lens). (0, λ ends m. absurd (pieces_hold_not limit lens 0 ends (sum lens) some.row m.cut.pieces some.row_in some.long (omega arith) (sum_by-take-le (λ (x : ℕ). x) lens (some.row + 1)))))
     (short_or_long limit lens)
 
--- an error of building views, where `fault` is the first one of the lengths or offsets
+-- what is answered of building views, where `fault` is the first one of the lengths or offsets
+abbrev pub IsAnswer : {A : Type 0} → ℕ → ℕ → Option Refusal → List ℕ → Result A VortexError → Type 0
+IsAnswer start limit fault lens r = (pieces : ℕ) × (IsPieceCount limit lens pieces × Refuses r (or_else (limit_fault limit) (or_else fault (numbering_fault start pieces))))
+
 abbrev pub IsRefused : ℕ → ℕ → Option Refusal → List ℕ → VortexError → Type 0
 IsRefused start limit fault lens e = (pieces : ℕ) × (IsPieceCount limit lens pieces × IsMemoryOr (or_else (limit_fault limit) (or_else fault (numbering_fault start pieces))) e)
 
-limit-none : (limit : ℕ) → limit ≤ 2147483647 → limit_fault limit ≡ None
-limit-none limit h = ap (λ b. if b then None else Some limit_too_large) (le-leb limit 2147483647 h)
+limit-none : (limit : ℕ) → limit ≤ MAX_BUFFER_LEN → limit_fault limit ≡ None
+limit-none limit h = ap (λ b. if b then None else Some limit_too_large) (le-leb limit MAX_BUFFER_LEN h)
 
-or_else-some : (a b : Option Refusal) → IsSome a → or_else a b ≡ a
-or_else-some None b some = absurd (let same : false ≡ true = some in cc)
-or_else-some (Some r) b some = refl
+-- the fault of the numbering, where nothing before it has one
+last_fault : (start limit : ℕ) (fault : Option Refusal) (pieces : ℕ) (found : Option Refusal) → limit ≤ MAX_BUFFER_LEN → fault ≡ None → numbering_fault start pieces ≡ found → or_else (limit_fault limit) (or_else fault (numbering_fault start pieces)) ≡ found
+last_fault start limit fault pieces found h none is = or_else-second (limit_fault limit) (or_else fault (numbering_fault start pieces)) found (limit-none limit h) (or_else-second fault (numbering_fault start pieces) found none is)
 
-pub refused-memory : (start limit : ℕ) (fault : Option Refusal) (lens : List ℕ) (e : VortexError) → e ≡ Memory → IsRefused start limit fault lens e
-refused-memory start limit fault lens e same = let p = piece_count limit lens in (p.0, (p.1, inl same))
-
-pub refused-limit : (start limit : ℕ) (fault : Option Refusal) (lens : List ℕ) → 2147483647 < limit → IsRefused start limit fault lens LimitTooLarge
+pub refused-limit : (start limit : ℕ) (fault : Option Refusal) (lens : List ℕ) → MAX_BUFFER_LEN < limit → IsRefused start limit fault lens LimitTooLarge
 refused-limit start limit fault lens h =
     let p = piece_count limit lens in
-    let first : limit_fault limit ≡ Some limit_too_large = ap (λ b. if b then None else Some limit_too_large) (lt-leb limit 2147483647 h) in
-    (p.0, (p.1, inr (ap (λ f. or_else f (or_else fault (numbering_fault start p.0))) first)))
+    let first : limit_fault limit ≡ Some limit_too_large = ap (λ b. if b then None else Some limit_too_large) (lt-leb limit MAX_BUFFER_LEN h) in
+    (p.0, (p.1, inr (or_else-first (limit_fault limit) (or_else fault (numbering_fault start p.0)) (Some limit_too_large) first refl)))
 
-pub refused-fault : (start limit : ℕ) (fault : Option Refusal) (lens : List ℕ) (e : VortexError) → limit ≤ 2147483647 → IsFault fault e → IsRefused start limit fault lens e
-refused-fault start limit fault lens e h is =
-    let p = piece_count limit lens in
-    (p.0, (p.1, inr (ap (λ f. or_else f (or_else fault (numbering_fault start p.0))) (limit-none limit h) ∙ or_else-some fault (numbering_fault start p.0) is.0 ∙ is.1)))
-
-pub refused-numbers : (start limit : ℕ) (fault : Option Refusal) (lens : List ℕ) → limit ≤ 2147483647 → fault ≡ None → ((k : ℕ) → k < length lens → get_or lens k 0 ≤ limit) → ((ends : List ℕ) → IsCut limit lens ends → 2 ^ 32 < start + length ends) → IsRefused start limit fault lens Overflow
+pub refused-numbers : (start limit : ℕ) (fault : Option Refusal) (lens : List ℕ) → limit ≤ MAX_BUFFER_LEN → fault ≡ None → ((k : ℕ) → k < length lens → get_or lens k 0 ≤ limit) → ((ends : List ℕ) → IsCut limit lens ends → 2 ^ 32 < start + length ends)
+    → IsRefused start limit fault lens Overflow
 refused-numbers start limit fault lens h none short past =
     ⊎_elim
     (λ (small : All (λ n. n ≤ limit) lens).
     let m = some_maximal limit lens small in
     let over : numbering_fault start (length m.0) ≡ Some overflow = ap (λ b. if b then None else Some overflow) (lt-leb (start + length m.0) (2 ^ 32) (past m.0 m.1.cut)) in
-    refuses m.0 m.1 over)
+    (length m.0, (maximal_count limit lens m.0 m.1, inr (last_fault start limit fault (length m.0) (Some overflow) h none over))))
     (λ (some : HasLong limit lens). absurd (omega (arith, short some.row some.row_in, some.long)))
     (short_or_long limit lens)
-  where
-    refuses : (ends : List ℕ) → IsMaximalCut limit lens ends → numbering_fault start (length ends) ≡ Some overflow → IsRefused start limit fault lens Overflow
-    refuses ends m over = (length ends, (maximal_count limit lens ends m, inr (ap (λ f. or_else f (or_else fault (numbering_fault start (length ends)))) (limit-none limit h) ∙ ap (λ f. or_else f (numbering_fault start (length ends))) none ∙ over)))
 
-pub accepted : (start limit : ℕ) (fault : Option Refusal) (pieces : ℕ) → limit ≤ 2147483647 → fault ≡ None → start + pieces ≤ 2 ^ 32 → or_else (limit_fault limit) (or_else fault (numbering_fault start pieces)) ≡ None
-accepted start limit fault pieces h none few =
-    let named : numbering_fault start pieces ≡ None = ap (λ b. if b then None else Some overflow) (le-leb (start + pieces) (2 ^ 32) few) in
-    ap (λ f. or_else f (or_else fault (numbering_fault start pieces))) (limit-none limit h) ∙ ap (λ f. or_else f (numbering_fault start pieces)) none ∙ named
+-- of an error that a part answered
+pub answer-memory : {A : Type 0} {Q : VortexError → Type 0} (start limit : ℕ) (fault : Option Refusal) (lens : List ℕ) (r : Result A VortexError) → IsErrAnd r Q → ((e : VortexError) → Q e → e ≡ Memory) → IsAnswer start limit fault lens r
+answer-memory start limit fault lens (Ok x) h k = absurd h
+answer-memory start limit fault lens (Err e) h k = let p = piece_count limit lens in (p.0, (p.1, inl (k e h)))
+
+pub answer-fault : {A : Type 0} {Q : VortexError → Type 0} (start limit : ℕ) (fault : Option Refusal) (lens : List ℕ) (r : Result A VortexError) → limit ≤ MAX_BUFFER_LEN → IsErrAnd r Q → ((e : VortexError) → Q e → Names fault e) → IsAnswer start limit fault lens r
+answer-fault start limit fault lens (Ok x) small h k = absurd h
+answer-fault start limit fault lens (Err e) small h k =
+    let p = piece_count limit lens in
+    let names : Names fault e = k e h in
+    (p.0, (p.1, inr (or_else-second (limit_fault limit) (or_else fault (numbering_fault start p.0)) (refusal_of e) (limit-none limit small) (or_else-first fault (numbering_fault start p.0) (refusal_of e) names.1 names.0))))
+
+pub made-faultless : (start limit : ℕ) (fault : Option Refusal) (heap lens : List ℕ) (buffers views : List (List ℕ)) → limit ≤ MAX_BUFFER_LEN → fault ≡ None → AreBuilt start limit heap lens buffers views
+    → (pieces : ℕ) × (IsPieceCount limit lens pieces × (or_else (limit_fault limit) (or_else fault (numbering_fault start pieces)) ≡ None))
+made-faultless start limit fault heap lens buffers views h none built =
+    let named : numbering_fault start (length built.ends) ≡ None = ap (λ b. if b then None else Some overflow) (le-leb (start + length built.ends) (2 ^ 32) built.numbered) in
+    (length built.ends, (maximal_count limit lens built.ends built.cut, last_fault start limit fault (length built.ends) None h none named))
 
 -- the buffers that are built are no more than the pieces of any cut
 pub AreBuilt-fewest : (start limit : ℕ) (heap lens : List ℕ) (buffers views : List (List ℕ)) → AreBuilt start limit heap lens buffers views → (others : List ℕ) → IsCut limit lens others → length buffers ≤ length others
 AreBuilt-fewest start limit heap lens buffers views built others cut =
     omega (arith, ap length built.pieces, length-pieces_of heap 0 built.ends, longest_ahead limit lens built.ends others 0 0 (sum lens) (omega arith) (omega arith) built.cut.cut.pieces built.cut.longest cut.pieces)
 
-pub AreBuilt-numbered : (start limit : ℕ) (heap lens : List ℕ) (buffers views : List (List ℕ)) → AreBuilt start limit heap lens buffers views → start + length buffers ≤ 2 ^ 32
-AreBuilt-numbered start limit heap lens buffers views built = omega (arith, built.numbered, ap length built.pieces, length-pieces_of heap 0 built.ends)
-
 -- lengths without a fault are within the limit
 pub short_lengths : (limit heap_len : ℕ) (numbers : List ℤ) → lengths_fault limit heap_len numbers ≡ None → (k : ℕ) → k < length (lengths_of numbers) → get_or (lengths_of numbers) k 0 ≤ limit
 short_lengths limit heap_len numbers e k h =
     let k_in : k < length numbers = omega (arith, length-lengths_of numbers) in
-    omega (arith, length_at numbers k k_in, (AreSound-none limit heap_len numbers e).short k k_in)
-
-pub IfErr-weaker : {A E : Type 0} {Q : E → Type 0} (P : E → Type 0) (r : Result A E) → IsErrAnd r Q → ((e : E) → Q e → P e) → IfErr r P
-IfErr-weaker P (Ok x) h k = tt
-IfErr-weaker P (Err e) h k = k e h
+    omega (arith, length_at numbers k k_in, (AreFaultless-none limit heap_len numbers e).short k k_in)
 
 pub short_differences : (limit heap_len : ℕ) (offsets : List ℤ) → offsets_fault limit heap_len offsets ≡ None → (k : ℕ) → k < length (lengths_of (differences offsets)) → get_or (lengths_of (differences offsets)) k 0 ≤ limit
 short_differences limit heap_len offsets e k h =
     let k_in : k < length (differences offsets) = omega (arith, length-lengths_of (differences offsets)) in
-    let here = first_fault-at (too_long_at limit (differences offsets)) (length (differences offsets)) k (AreSoundOffsets-none limit heap_len offsets e).short k_in in
+    let here = first_fault-at (too_long_at limit (differences offsets)) (length (differences offsets)) k (AreFaultlessOffsets-none limit heap_len offsets e).short k_in in
     omega (arith, length_at (differences offsets) k k_in, leb-true (unsigned_abs (number_at (differences offsets) k)) limit (if-none (nat_le (unsigned_abs (number_at (differences offsets) k)) limit) (value_too_long k) here))
 
 -- the same of what a cut found

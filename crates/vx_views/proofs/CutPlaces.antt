@@ -8,7 +8,7 @@ use Rattle.vx_views.specs.Places.{pieces_of, place_of, value_at, piece_of, offse
 use Rattle.vx_views.proofs.CutPieces.{ArePieces-le}
 use Rattle.vx_views.proofs.CutOpen.{IsOpen, sum_more, IsOpen-keep, IsOpen-close, IsMaximalCut-from_open, IsMaximalCut-from_open_push}
 use Rattle.std.proofs.lemmas.List.Sums.{sum_by-take-le, sum_by-cons}
-use Rattle.vx_views.proofs.ReadsView.{ReadsAs, IsThere, view_of-inlined, view_of-reads}
+use Rattle.vx_views.proofs.Places.{ReadsAs, IsThere, view_of_short, view_of-reads}
 
 -- the view of the k-th value names where it stands: in one of the closed pieces, or in the open one, which is filled up to `at`
 pub record IsPlaced (start : ℕ) (heap lens ends : List ℕ) (at k : ℕ) (view : List ℕ) : Type 0 where
@@ -219,7 +219,7 @@ piece_of-is limit lens from (e ∷ es) to place (suc j) pieces h low high =
     let one : tick (nat_le e place) ≡ 1 = ap tick earlier in
     omega (arith, piece_of-cons e es place)
 
-slice_slice : (xs : List ℕ) (a b o n : ℕ) → a + o + n ≤ b → slice_range (slice_range xs a b) o (o + n) ≡ slice_range xs (a + o) (a + o + n)
+pub slice_slice : (xs : List ℕ) (a b o n : ℕ) → a + o + n ≤ b → slice_range (slice_range xs a b) o (o + n) ≡ slice_range xs (a + o) (a + o + n)
 slice_slice xs a b o n h =
     let wide : b - a ≡ o + (b - a - o) = omega arith in
     let inner : drop o (take (b - a) (drop a xs)) ≡ take (b - a - o) (drop o (drop a xs)) = ap (λ k. drop o (take k (drop a xs))) wide ∙ drop-take o (b - a - o) (drop a xs) in
@@ -242,7 +242,7 @@ pub record IsSettled (start : ℕ) (heap lens ends : List ℕ) (k : ℕ) (view :
   pub view_is : view ≡ view_of (value_at heap lens k) (start + piece) offset
   pub stands : 0 < get_or lens k 0 → StandsIn lens ends k piece offset
 
-length-value_at : (heap lens : List ℕ) (k : ℕ) → length heap ≡ sum lens → k < length lens → length (value_at heap lens k) ≡ get_or lens k 0
+pub length-value_at : (heap lens : List ℕ) (k : ℕ) → length heap ≡ sum lens → k < length lens → length (value_at heap lens k) ≡ get_or lens k 0
 length-value_at heap lens k whole k_in =
     let more = sum_more lens k k_in in
     let all = sum_by-take-le (λ (x : ℕ). x) lens (k + 1) in
@@ -260,8 +260,8 @@ IsSettled-at start limit heap lens ends k view whole pieces k_in w =
     let offset : offset_of ends (place_of lens k) ≡ w.offset = omega (arith, s.begins, ap (λ j. get_or (0 ∷ ends) j 0) piece) in
     ap (λ j. view_of (value_at heap lens k) (start + j) w.offset) (sym piece) ∙ ap (view_of (value_at heap lens k) (start + piece_of ends (place_of lens k))) (sym offset))
     (λ (short : length (value_at heap lens k) ≤ 12).
-    view_of-inlined (value_at heap lens k) (start + w.piece) w.offset short
-    ∙ sym (view_of-inlined (value_at heap lens k) (start + piece_of ends (place_of lens k)) (offset_of ends (place_of lens k)) short))
+    view_of_short (value_at heap lens k) (start + w.piece) w.offset short
+    ∙ sym (view_of_short (value_at heap lens k) (start + piece_of ends (place_of lens k)) (offset_of ends (place_of lens k)) short))
     (cases_lt 12 (length (value_at heap lens k)))
 
 piece_le : (limit : ℕ) (lens : List ℕ) (from : ℕ) (ends : List ℕ) (to j : ℕ) → ArePieces limit lens from ends to → j < length ends → (get_or ends j 0 ≤ get_or (from ∷ ends) j 0 + limit) × (get_or ends j 0 ≤ to)
@@ -344,7 +344,7 @@ IsSettled-empty start limit heap lens ends begin at k view pieces empty k_in w =
 -- what is promised of buffers and views
 pub record AreDone (start limit : ℕ) (heap lens : List ℕ) (buffers views : List (List ℕ)) : Type 0 where
   pub built : AreBuilt start limit heap lens buffers views
-  pub read_back : ReadBack start heap lens buffers views
+  pub read_back : ReadBack start (value_at heap lens) buffers views
 
 AreDone-settled : (start limit : ℕ) (heap lens ends : List ℕ) (buffers views : List (List ℕ)) → IsMaximalCut limit lens ends → buffers ≡ pieces_of heap 0 ends → start + length ends ≤ 2 ^ 32 → length views ≡ length lens → ((k : ℕ) → k < length lens → IsSettled start heap lens ends k (get_or views k []))
     → length heap ≡ sum lens → limit < 2 ^ 31 → AreDone start limit heap lens buffers views
@@ -362,8 +362,8 @@ AreDone-settled start limit heap lens ends buffers views maximal buffers_are num
         each = λ row row_in. IsSettled-at start limit heap lens ends row (get_or views row []) whole maximal.cut.pieces row_in (settled row row_in);
       };
       read_back = record {
-        resolve = λ before row there row_in. (reads before row there row_in).resolves;
-        read = λ before row there row_in. (reads before row there row_in).reads;
+        resolve = λ before row there row_in. (reads before row there (omega arith)).resolves;
+        read = λ before row there row_in. (reads before row there (omega arith)).reads;
       };
     }
 

@@ -6,7 +6,7 @@ use Rattle.vx_views.specs.Cut.{IsCut}
 use Rattle.vx_views.specs.BuildFaults.{number_at, lengths_of, lengths_fault}
 use Rattle.vx_views.proofs.CutOpen.{sum_more, more_pieces}
 use Rattle.vx_views.proofs.CutPlaces.{IsCutting}
-use Rattle.vx_views.proofs.NoFaults.{AreSound-none, length_at, length-lengths_of}
+use Rattle.vx_views.proofs.NoFaults.{AreFaultless-none, length_at, length-lengths_of}
 
 -- each cut has so many pieces that the last number passes u32
 abbrev pub PassNumbers : ℕ → ℕ → List ℤ → Type 0
@@ -14,14 +14,14 @@ PassNumbers start limit numbers = (ends : List ℕ) → IsCut limit (lengths_of 
 
 pub stop-negative : (start limit heap_len : ℕ) (numbers : List ℤ) (k : ℕ) → k < length numbers → IsTrue (is_negative (number_at numbers k)) → lengths_fault limit heap_len numbers ≡ None → PassNumbers start limit numbers
 stop-negative start limit heap_len numbers k h below e =
-    let natural : is_negative (number_at numbers k) ≡ false = (AreSound-none limit heap_len numbers e).natural k h in
+    let natural : is_negative (number_at numbers k) ≡ false = (AreFaultless-none limit heap_len numbers e).natural k h in
     let both : false ≡ true = sym natural ∙ below in
     absurd (cc)
 
 -- the value of the row is longer than the limit, or ends past the heap
 pub stop-fits_not : (start limit heap_len : ℕ) (numbers : List ℤ) (k at n : ℕ) → k < length numbers → number_at numbers k ≡ pos n → at ≡ sum (take k (lengths_of numbers)) → (n ≤ limit → at + n ≤ heap_len → ⊥) → lengths_fault limit heap_len numbers ≡ None → PassNumbers start limit numbers
 stop-fits_not start limit heap_len numbers k at n h same at_is fits_not e =
-    let sound = AreSound-none limit heap_len numbers e in
+    let sound = AreFaultless-none limit heap_len numbers e in
     let here : unsigned_abs (number_at numbers k) ≡ n = ap unsigned_abs same in
     let k_in : k < length (lengths_of numbers) = omega (arith, length-lengths_of numbers) in
     absurd (fits_not (omega (arith, sound.short k h)) (omega (arith, sound.exact, length_at numbers k h, sum_more (lengths_of numbers) k k_in, sum_by-take-le (λ (x : ℕ). x) (lengths_of numbers) (k + 1))))

@@ -1,16 +1,16 @@
 -- The first faulty view: what a check that goes row by row knows, and what a view without a fault is.
 use Rattle.std.proofs.Common.{◌≡◌, ℕ, ◌+◌, ◌<◌, ◌≤◌, ◌⊎◌, ◌↔◌, Bool, true, false, cond, ◌∙◌, sym, ap, subst, refl, inl, inr, List, [], length, get_or, take, add-one, arith, le-leb, lt-ltb, le-ltb}
-use Rattle.std.specs.Prelude.{Option, Some, None, IsSome, IsUtf8, bytes_eq}
+use Rattle.std.specs.Prelude.{Option, Some, None, IsUtf8, bytes_eq, count_by}
 use Rattle.std.specs.Str.{is_utf8}
 use Rattle.std.proofs.lemmas.Bool.{cases_lt, cases_Bool, lt-leb, leb-false}
-use Rattle.std.proofs.lemmas.List.{get_or_default}
+use Rattle.std.proofs.lemmas.List.{get_or_default, get_or-replicate}
+use Rattle.vx_base.proofs.MaskCounts.{all_true_from_count}
 use Rattle.std.proofs.lemmas.Slice.Eq.{bytes_eq-Decides}
 use Rattle.std.proofs.lemmas.Str.{IsUtf8-from_is_utf8, is_utf8-from_IsUtf8}
 use Rattle.vx_base.specs.Bits.{bool_at}
-use Rattle.vx_base.specs.Refusals.{Refusal, refusal_of, not_utf8, first_fault}
+use Rattle.vx_base.specs.Refusals.{Refusal, Names, refusal_of, not_utf8, first_fault}
 use Rattle.vx_base.specs.declared.errors.VortexError.{VortexError}
-use Rattle.vx_base.specs.declared.errors.VortexError.TheVariants.{Memory}
-use Rattle.vx_views.proofs.FirstFaults.{or_else_second, or_else_none, names_a_fault, first_fault_found, first_fault_none, first_fault_of_none}
+use Rattle.vx_views.proofs.FirstFaults.{or_else-second, or_else-none, first_fault-here, first_fault-at, first_fault-none, first_fault-next}
 use Rattle.vx_views.specs.Views.{view_size, view_prefix, view_block, view_offset, is_inline, buffer_at, view_value}
 use Rattle.vx_views.specs.Faulty.{place_fault, text_fault, view_fault, row_fault, views_fault}
 use Rattle.vx_views.specs.Sound.{IsSoundView, AreSoundViews}
@@ -31,6 +31,10 @@ text_fault_none true value row (inr text) = rw (is_utf8-from_IsUtf8 value text)
 
 -- ---- the row that a check looks at
 
+-- where all rows are valid, this one is
+pub all_true-at : (mask : List Bool) (row : ℕ) → count_by (λ b. b) mask ≡ length mask → row < length mask → bool_at mask row ≡ true
+all_true-at mask row all within = ap (λ (bits : List Bool). bool_at bits row) (all_true_from_count mask all) ∙ get_or-replicate (length mask) row true false within
+
 -- the view of the row is that one, and stands at a valid row
 pub record IsValidAt (mask : List Bool) (views : List (List ℕ)) (row : ℕ) (view : List ℕ) : Type 0 where
   pub within : row < length views
@@ -47,21 +51,16 @@ module _ (check_utf8 : Bool) (mask : List Bool) (buffers views : List (List ℕ)
       rw at.valid (ap (λ (v : List ℕ). view_fault check_utf8 buffers v row) same)
 
   pub views_fault_found : (row : ℕ) (view : List ℕ) (e : VortexError) → first_fault fault row ≡ None → IsValidAt mask views row view
-      → view_fault check_utf8 buffers view row ≡ refusal_of e → ¬ (e ≡ Memory) → views_fault check_utf8 mask buffers views ≡ refusal_of e
+      → Names (view_fault check_utf8 buffers view row) e → views_fault check_utf8 mask buffers views ≡ refusal_of e
   unfolding views_fault
-  views_fault_found row view e before at here other =
-      let same = row_fault_valid row view at ∙ here in
-      first_fault_found fault row (length views) before (subst IsSome (sym same) (names_a_fault e other)) at.within ∙ same
-
-  no_fault_more : (row : ℕ) → first_fault fault row ≡ None → fault row ≡ None → first_fault fault (row + 1) ≡ None
-  no_fault_more row before here = rw add-one (or_else_second (first_fault fault row) (fault row) None before here)
+  views_fault_found row view e before at names = first_fault-here fault (length views) row (refusal_of e) before (row_fault_valid row view at ∙ names.1) names.0 at.within
 
   pub no_fault_at_valid : (row : ℕ) (view : List ℕ) → first_fault fault row ≡ None → IsValidAt mask views row view → view_fault check_utf8 buffers view row ≡ None
       → first_fault fault (row + 1) ≡ None
-  no_fault_at_valid row view before at here = no_fault_more row before (row_fault_valid row view at ∙ here)
+  no_fault_at_valid row view before at here = first_fault-next fault row before (row_fault_valid row view at ∙ here)
 
   pub no_fault_at_null : (row : ℕ) → first_fault fault row ≡ None → bool_at mask row ≡ false → first_fault fault (row + 1) ≡ None
-  no_fault_at_null row before null = no_fault_more row before (rw null)
+  no_fault_at_null row before null = first_fault-next fault row before (rw null)
 
   pub no_fault_at_end : (row : ℕ) → first_fault fault row ≡ None → row ≡ length views → views_fault check_utf8 mask buffers views ≡ None
   unfolding views_fault
@@ -131,7 +130,7 @@ view_fault-IsSoundView check_utf8 buffers view row = (to, from)
   where
     to : view_fault check_utf8 buffers view row ≡ None → IsSoundView buffers check_utf8 view
     to none =
-        let parts = or_else_none (cond (is_inline view) None (place_fault buffers view row)) (text_fault check_utf8 (view_value buffers view) row) none in
+        let parts = or_else-none (cond (is_inline view) None (place_fault buffers view row)) (text_fault check_utf8 (view_value buffers view) row) none in
         let placed : 12 < view_size view → IsPlaced buffers view =
         λ refers. place_fault-IsPlaced buffers view row (none_spared (is_inline view) (place_fault buffers view row) parts.0 (lt-leb (view_size view) 12 refers)) in
         record {
@@ -142,7 +141,7 @@ view_fault-IsSoundView check_utf8 buffers view row = (to, from)
 
     from : IsSoundView buffers check_utf8 view → view_fault check_utf8 buffers view row ≡ None
     from sound =
-        or_else_second (cond (is_inline view) None (place_fault buffers view row)) (text_fault check_utf8 (view_value buffers view) row) None
+        or_else-second (cond (is_inline view) None (place_fault buffers view row)) (text_fault check_utf8 (view_value buffers view) row) None
         (spared_none (is_inline view) (place_fault buffers view row) (λ off.
         let refers : 12 < view_size view = leb-false (view_size view) 12 off in
         place_fault-none buffers view row (record { there = (sound.resolves refers).0; start = omega (arith, (sound.resolves refers).1); end = (sound.resolves refers).1; begins = sound.begins refers })))
@@ -152,10 +151,10 @@ pub views_fault-AreSoundViews : (check_utf8 : Bool) (mask : List Bool) (buffers 
 unfolding views_fault
 views_fault-AreSoundViews check_utf8 mask buffers views = (
   λ none row within valid.
-      let here = first_fault_none (row_fault check_utf8 mask buffers views) (length views) row none within in
+      let here = first_fault-at (row_fault check_utf8 mask buffers views) (length views) row none within in
       (view_fault-IsSoundView check_utf8 buffers (get_or views row []) row).0 (rw valid at here),
   λ sound.
-      first_fault_of_none (row_fault check_utf8 mask buffers views) (length views) (λ row within.
+      first_fault-none (row_fault check_utf8 mask buffers views) (length views) (λ row within.
       elim (cases_Bool (bool_at mask row)) [
         | inl valid ↦ rw valid ((view_fault-IsSoundView check_utf8 buffers (get_or views row []) row).1 (sound row within valid))
         | inr null ↦ rw null

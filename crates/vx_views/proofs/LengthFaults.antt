@@ -1,49 +1,33 @@
 -- The first fault, found row by row.
-use Rattle.std.proofs.Common.{◌≡◌, ◌≢◌, ℕ, zero, suc, ℤ, pos, ◌+◌, ◌-◌, ◌<◌, ◌≤◌, true, false, IsTrue, List, length, take, sum, if◌then◌else◌, int_lt, nat_le, ◌==◌, Option, Some, None, IsSome, IfNone, IfSome, unsigned_abs, refl, sym, ◌∙◌, ap, subst, ⊎_elim, arith}
+use Rattle.std.proofs.Common.{◌≡◌, ◌≢◌, ℕ, ℤ, pos, ◌+◌, ◌-◌, ◌<◌, ◌≤◌, true, false, IsTrue, List, length, take, sum, if◌then◌else◌, int_lt, nat_le, ◌==◌, Option, Some, None, IsSome, IfNone, IfSome, unsigned_abs, refl, sym, ◌∙◌, ap, arith}
 use Rattle.std.specs.Int.{is_negative}
-use Rattle.std.proofs.lemmas.Bool.{cases_lt, lt-leb}
+use Rattle.std.proofs.lemmas.Bool.{lt-leb}
 use Rattle.std.proofs.lemmas.Bool.Decides.{nat_tests}
 use Rattle.std.proofs.lemmas.List.Sums.{sum_by-take-le}
-use Rattle.vx_base.specs.Refusals.{Refusal, or_else, first_fault, negative, value_too_long, lengths_not_exact, falling_offsets}
+use Rattle.vx_base.specs.Refusals.{first_fault, negative, value_too_long, lengths_not_exact, falling_offsets}
 use Rattle.vx_views.specs.BuildFaults.{number_at, lengths_of, negative_at, falling_at, too_long_at, sum_fault, first_negative, first_falling, first_too_long}
 use Rattle.vx_views.proofs.CutOpen.{sum_more}
-use Rattle.vx_views.proofs.NoFaults.{first_fault-at, if-some, length_at, length-lengths_of}
+use Rattle.vx_views.proofs.FirstFaults.{first_fault-here, first_fault-at, if-some}
+use Rattle.vx_views.proofs.NoFaults.{length_at, length-lengths_of}
 
-pub fault_is : (fault : Option Refusal) (r : Refusal) → fault ≡ Some r → IsSome fault × (fault ≡ Some r)
-fault_is fault r e = (rw e refl, e)
-
-pub first_fault-here : (fault : ℕ → Option Refusal) (n k : ℕ) (r : Refusal) → first_fault fault k ≡ None → fault k ≡ Some r → k < n → first_fault fault n ≡ Some r
-first_fault-here fault zero k r before here h = absurd (omega arith)
-first_fault-here fault (suc n) k r before here h =
-    ⊎_elim
-    (λ (less : k < n). ap (λ first. or_else first (fault n)) (first_fault-here fault n k r before here less))
-    (λ (ge : n ≤ k). let same : k ≡ n = omega arith in
-    ap (λ first. or_else first (fault n)) (subst (λ i. first_fault fault i ≡ None) same before) ∙ subst (λ i. fault i ≡ Some r) same here)
-    (cases_lt k n)
-
-pub first_negative-here : (numbers : List ℤ) (k : ℕ) → first_fault (negative_at numbers) k ≡ None → IsTrue (is_negative (number_at numbers k)) → k < length numbers → IsSome (first_negative numbers) × (first_negative numbers ≡ Some (negative k))
+pub first_negative-here : (numbers : List ℤ) (k : ℕ) → first_fault (negative_at numbers) k ≡ None → IsTrue (is_negative (number_at numbers k)) → k < length numbers → first_negative numbers ≡ Some (negative k)
 first_negative-here numbers k before below h =
-    fault_is (first_negative numbers) (negative k)
-    (first_fault-here (negative_at numbers) (length numbers) k (negative k) before (ap (λ b. if b then Some (negative k) else None) below) h)
+    first_fault-here (negative_at numbers) (length numbers) k (Some (negative k)) before (ap (λ b. if b then Some (negative k) else None) below) refl h
 
-pub first_falling-here : (offsets : List ℤ) (k : ℕ) → first_fault (falling_at offsets) k ≡ None → int_lt (number_at offsets k) (number_at offsets (k - 1)) ≡ true → k < length offsets → IsSome (first_falling offsets) × (first_falling offsets ≡ Some (falling_offsets k))
+pub first_falling-here : (offsets : List ℤ) (k : ℕ) → first_fault (falling_at offsets) k ≡ None → int_lt (number_at offsets k) (number_at offsets (k - 1)) ≡ true → k < length offsets → first_falling offsets ≡ Some (falling_offsets k)
 first_falling-here offsets k before below h =
-    fault_is (first_falling offsets) (falling_offsets k)
-    (first_fault-here (falling_at offsets) (length offsets) k (falling_offsets k) before (ap (λ b. if b then Some (falling_offsets k) else None) below) h)
+    first_fault-here (falling_at offsets) (length offsets) k (Some (falling_offsets k)) before (ap (λ b. if b then Some (falling_offsets k) else None) below) refl h
 
-pub first_too_long-here : (limit : ℕ) (numbers : List ℤ) (k n : ℕ) → first_fault (too_long_at limit numbers) k ≡ None → number_at numbers k ≡ pos n → limit < n → k < length numbers → IsSome (first_too_long limit numbers) × (first_too_long limit numbers ≡ Some (value_too_long k))
+pub first_too_long-here : (limit : ℕ) (numbers : List ℤ) (k n : ℕ) → first_fault (too_long_at limit numbers) k ≡ None → number_at numbers k ≡ pos n → limit < n → k < length numbers → first_too_long limit numbers ≡ Some (value_too_long k)
 first_too_long-here limit numbers k n before is over h =
-    fault_is (first_too_long limit numbers) (value_too_long k)
-    (first_fault-here (too_long_at limit numbers) (length numbers) k (value_too_long k) before
-    (ap (λ z. if nat_le (unsigned_abs z) limit then None else Some (value_too_long k)) is ∙ ap (λ b. if b then None else Some (value_too_long k)) (lt-leb n limit over)) h)
+    first_fault-here (too_long_at limit numbers) (length numbers) k (Some (value_too_long k)) before
+    (ap (λ z. if nat_le (unsigned_abs z) limit then None else Some (value_too_long k)) is ∙ ap (λ b. if b then None else Some (value_too_long k)) (lt-leb n limit over)) refl h
 
 not_equal : (m n : ℕ) → m ≢ n → (m == n) ≡ false
 not_equal m n h = grind (arith, nat_tests)
 
-pub sum_fault-here : (heap_len : ℕ) (numbers : List ℤ) → sum (lengths_of numbers) ≢ heap_len → IsSome (sum_fault heap_len numbers) × (sum_fault heap_len numbers ≡ Some lengths_not_exact)
-sum_fault-here heap_len numbers h =
-    fault_is (sum_fault heap_len numbers) lengths_not_exact
-    (ap (λ b. if b then None else Some lengths_not_exact) (not_equal (sum (lengths_of numbers)) heap_len h))
+pub sum_fault-here : (heap_len : ℕ) (numbers : List ℤ) → sum (lengths_of numbers) ≢ heap_len → sum_fault heap_len numbers ≡ Some lengths_not_exact
+sum_fault-here heap_len numbers h = ap (λ b. if b then None else Some lengths_not_exact) (not_equal (sum (lengths_of numbers)) heap_len h)
 
 -- a row whose number is not negative has a length
 pub is_length : (numbers : List ℤ) (k : ℕ) (found : Option ℕ) → first_negative numbers ≡ None → k < length numbers → IfNone found (IsTrue (is_negative (number_at numbers k))) → IsSome found

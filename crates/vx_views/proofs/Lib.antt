@@ -14,11 +14,11 @@ pub mod CutPieces
 pub mod CutOpen
 pub mod CutNextValue
 pub mod Differences
-pub mod ReadsView
 pub mod CutPlaces
 pub mod NoFaults
 pub mod CutStops
 pub mod OffsetFacts
+pub mod BytesBetween
 pub mod NativeRanges
 pub mod LengthFaults
 pub mod BuildRefusals

@@ -1,35 +1,11 @@
 -- What it says of lengths and offsets that they have no fault.
-use Rattle.std.proofs.Common.{◌≡◌, ℕ, zero, suc, ℤ, pos, ◌+◌, ◌<◌, ◌≤◌, Bool, true, false, List, length, map, get_or, sum, if◌then◌else◌, nat_le, ◌==◌, Option, Some, None, unsigned_abs, refl, sym, ◌∙◌, ap, subst, ⊎_elim, add-one, arith}
+use Rattle.std.proofs.Common.{◌≡◌, ℕ, suc, ℤ, pos, ◌<◌, ◌≤◌, false, List, length, map, get_or, sum, if◌then◌else◌, nat_le, ◌==◌, Some, None, unsigned_abs, sym, ◌∙◌, ap, arith}
 use Rattle.std.specs.Int.{is_negative}
-use Rattle.std.proofs.lemmas.Bool.{cases_lt, le-leb, lt-leb, leb-true, eqb-true}
+use Rattle.std.proofs.lemmas.Bool.{le-leb, lt-leb, leb-true, eqb-true}
 use Rattle.std.proofs.lemmas.List.{get_or-map, length-map}
-use Rattle.vx_base.specs.Refusals.{Refusal, or_else, first_fault, negative, value_too_long, lengths_not_exact}
+use Rattle.vx_base.specs.Refusals.{or_else, negative, value_too_long, lengths_not_exact}
+use Rattle.vx_views.proofs.FirstFaults.{or_else-none, first_fault-at, if-none, if-some}
 use Rattle.vx_views.specs.BuildFaults.{number_at, lengths_of, negative_at, too_long_at, sum_fault, first_negative, first_too_long, lengths_fault}
-
-pub or_else-none : (a b : Option Refusal) → or_else a b ≡ None → (a ≡ None) × (b ≡ None)
-or_else-none None b e = (refl, e)
-or_else-none (Some r) b e = cc
-
-pub first_fault-at : (fault : ℕ → Option Refusal) (n k : ℕ) → first_fault fault n ≡ None → k < n → fault k ≡ None
-first_fault-at fault zero k e h = absurd (omega arith)
-first_fault-at fault (suc n) k e h =
-    let both = or_else-none (first_fault fault n) (fault n) e in
-    ⊎_elim
-    (λ (less : k < n). first_fault-at fault n k both.0 less)
-    (λ (ge : n ≤ k). let same : n ≡ k = omega arith in subst (λ i. fault i ≡ None) same both.1)
-    (cases_lt k n)
-
--- one more row without a fault
-pub first_fault-next : (fault : ℕ → Option Refusal) (n : ℕ) → first_fault fault n ≡ None → fault n ≡ None → first_fault fault (n + 1) ≡ None
-first_fault-next fault n before here = rw add-one (rw (before, here) refl)
-
-pub if-none : (b : Bool) (r : Refusal) → (if b then None else Some r) ≡ None → b ≡ true
-if-none true r e = refl
-if-none false r e = cc
-
-pub if-some : (b : Bool) (r : Refusal) → (if b then Some r else None) ≡ None → b ≡ false
-if-some true r e = cc
-if-some false r e = refl
 
 pub length_at : (numbers : List ℤ) (k : ℕ) → k < length numbers → get_or (lengths_of numbers) k 0 ≡ unsigned_abs (number_at numbers k)
 length_at numbers k h = get_or-map unsigned_abs numbers k (pos 0) 0 h
@@ -48,13 +24,13 @@ not_too_long_at limit numbers k n e h =
     ∙ ap (λ b. if b then None else Some (value_too_long k)) (le-leb n limit h)
 
 -- lengths of a heap without a fault
-pub record AreSound (limit heap_len : ℕ) (numbers : List ℤ) : Type 0 where
+pub record AreFaultless (limit heap_len : ℕ) (numbers : List ℤ) : Type 0 where
   pub natural : (k : ℕ) → k < length numbers → is_negative (number_at numbers k) ≡ false
   pub exact : sum (lengths_of numbers) ≡ heap_len
   pub short : (k : ℕ) → k < length numbers → unsigned_abs (number_at numbers k) ≤ limit
 
-pub AreSound-none : (limit heap_len : ℕ) (numbers : List ℤ) → lengths_fault limit heap_len numbers ≡ None → AreSound limit heap_len numbers
-AreSound-none limit heap_len numbers e =
+pub AreFaultless-none : (limit heap_len : ℕ) (numbers : List ℤ) → lengths_fault limit heap_len numbers ≡ None → AreFaultless limit heap_len numbers
+AreFaultless-none limit heap_len numbers e =
     let first = or_else-none (first_negative numbers) (or_else (sum_fault heap_len numbers) (first_too_long limit numbers)) e in
     let rest = or_else-none (sum_fault heap_len numbers) (first_too_long limit numbers) first.1 in
     record {

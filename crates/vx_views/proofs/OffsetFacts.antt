@@ -5,11 +5,12 @@ use Rattle.std.proofs.lemmas.Bool.{le-leb, lt-leb, leb-true, eq-eqb}
 use Rattle.std.proofs.lemmas.Bool.Decides.{nat_tests}
 use Rattle.std.proofs.lemmas.Int.{ints}
 use Rattle.std.proofs.lemmas.List.{take_all}
-use Rattle.vx_base.specs.Refusals.{Refusal, or_else, first_fault, negative, lengths_not_exact, falling_offsets, empty_input, out_of_bounds}
+use Rattle.vx_base.specs.Refusals.{or_else, negative, lengths_not_exact, falling_offsets, empty_input, out_of_bounds}
 use Rattle.vx_views.specs.BuildFaults.{number_at, lengths_of, differences, first_offset, last_offset, negative_at, falling_at, sum_fault, past_heap_fault, no_offset_fault, first_negative, first_falling, first_too_long, lengths_fault, offsets_fault, IsUsedRange, AreRising}
 use Rattle.vx_views.proofs.Differences.{length_differences, number_at_differences}
 use Rattle.vx_views.proofs.CutOpen.{sum_more}
-use Rattle.vx_views.proofs.NoFaults.{or_else-none, first_fault-at, if-none, if-some, length_at, length-lengths_of}
+use Rattle.vx_views.proofs.FirstFaults.{or_else-none, or_else-second, first_fault-at, first_fault-none, if-none, if-some}
+use Rattle.vx_views.proofs.NoFaults.{length_at, length-lengths_of}
 
 -- ---- numbers
 
@@ -28,13 +29,6 @@ difference_abs a b m n e f h = grind (arith, ints)
 
 -- ---- rows without a fault
 
-pub first_fault-none : (fault : ℕ → Option Refusal) (n : ℕ) → ((k : ℕ) → k < n → fault k ≡ None) → first_fault fault n ≡ None
-first_fault-none fault zero h = refl
-first_fault-none fault (suc n) h =
-    let before : first_fault fault n ≡ None = first_fault-none fault n (λ k k_in. h k (omega arith)) in
-    let here : fault n ≡ None = h n (omega arith) in
-    rw (before, here) refl
-
 pub negative_at-none : (numbers : List ℤ) (k : ℕ) → is_negative (number_at numbers k) ≡ false → negative_at numbers k ≡ None
 negative_at-none numbers k e = ap (λ b. if b then Some (negative k) else None) e
 
@@ -47,9 +41,6 @@ int_lt-same (negsuc n) = lt-leb (suc n) n (omega arith)
 
 pub falling_at-first : (offsets : List ℤ) → falling_at offsets 0 ≡ None
 falling_at-first offsets = falling_at-none offsets 0 (int_lt-same (number_at offsets 0))
-
-or_else-both : (a b : Option Refusal) → a ≡ None → b ≡ None → or_else a b ≡ None
-or_else-both a b p q = rw p q
 
 -- ---- offsets in order
 
@@ -67,7 +58,7 @@ difference_at offsets ordered k h =
     omega (arith, len, difference_abs (number_at offsets k) (number_at offsets (k + 1)) (unsigned_abs (number_at offsets k)) (unsigned_abs (number_at offsets (k + 1))) low high (ordered.rising k h))
 
 -- the first differences sum up to how far an offset is from the first
-sum_differences-part : (offsets : List ℤ) → AreOrdered offsets → (k : ℕ) → k < length offsets → sum (take k (lengths_of (differences offsets))) + first_offset offsets ≡ unsigned_abs (number_at offsets k)
+pub sum_differences-part : (offsets : List ℤ) → AreOrdered offsets → (k : ℕ) → k < length offsets → sum (take k (lengths_of (differences offsets))) + first_offset offsets ≡ unsigned_abs (number_at offsets k)
 sum_differences-part offsets ordered zero h = omega arith
 sum_differences-part offsets ordered (suc k) h =
     let before = sum_differences-part offsets ordered k (omega arith) in
@@ -75,7 +66,7 @@ sum_differences-part offsets ordered (suc k) h =
     let next : sum (take (k + 1) (lengths_of (differences offsets))) + first_offset offsets ≡ unsigned_abs (number_at offsets (k + 1)) = omega (arith, sum_more (lengths_of (differences offsets)) k k_in, difference_at offsets ordered k (omega arith)) in
     subst (λ n. sum (take n (lengths_of (differences offsets))) + first_offset offsets ≡ unsigned_abs (number_at offsets n)) (add-one k) next
 
-sum_differences : (offsets : List ℤ) → AreOrdered offsets → 0 < length offsets → sum (lengths_of (differences offsets)) + first_offset offsets ≡ last_offset offsets
+pub sum_differences : (offsets : List ℤ) → AreOrdered offsets → 0 < length offsets → sum (lengths_of (differences offsets)) + first_offset offsets ≡ last_offset offsets
 sum_differences offsets ordered some =
     let all : take (length offsets - 1) (lengths_of (differences offsets)) ≡ lengths_of (differences offsets) = take_all (length offsets - 1) (lengths_of (differences offsets)) (omega (arith, length_differences offsets, length-lengths_of (differences offsets))) in
     omega (arith, ap sum all, sum_differences-part offsets ordered (length offsets - 1) (omega arith))
@@ -99,14 +90,14 @@ differences-natural offsets ordered =
     ∙ ordered.rising k (omega (arith, length_differences offsets))))
 
 -- what it says of offsets that they have no fault
-pub record AreSoundOffsets (limit heap_len : ℕ) (offsets : List ℤ) : Type 0 where
+pub record AreFaultlessOffsets (limit heap_len : ℕ) (offsets : List ℤ) : Type 0 where
   pub some : 0 < length offsets
   pub ordered : AreOrdered offsets
   pub within : last_offset offsets ≤ heap_len
   pub short : first_too_long limit (differences offsets) ≡ None
 
-pub AreSoundOffsets-none : (limit heap_len : ℕ) (offsets : List ℤ) → offsets_fault limit heap_len offsets ≡ None → AreSoundOffsets limit heap_len offsets
-AreSoundOffsets-none limit heap_len offsets e =
+pub AreFaultlessOffsets-none : (limit heap_len : ℕ) (offsets : List ℤ) → offsets_fault limit heap_len offsets ≡ None → AreFaultlessOffsets limit heap_len offsets
+AreFaultlessOffsets-none limit heap_len offsets e =
     let a = or_else-none (no_offset_fault offsets) (or_else (first_negative offsets) (or_else (first_falling offsets) (or_else (past_heap_fault heap_len offsets) (first_too_long limit (differences offsets))))) e in
     let b = or_else-none (first_negative offsets) (or_else (first_falling offsets) (or_else (past_heap_fault heap_len offsets) (first_too_long limit (differences offsets)))) a.1 in
     let c = or_else-none (first_falling offsets) (or_else (past_heap_fault heap_len offsets) (first_too_long limit (differences offsets))) b.1 in
@@ -124,12 +115,12 @@ AreSoundOffsets-none limit heap_len offsets e =
 -- then the differences have no fault over the part that is used
 pub lengths_fault-sound : (limit heap_len : ℕ) (offsets : List ℤ) (first last : ℕ) → IsUsedRange heap_len offsets first last → offsets_fault limit heap_len offsets ≡ None → lengths_fault limit (last - first) (differences offsets) ≡ None
 lengths_fault-sound limit heap_len offsets first last range e =
-    let sound = AreSoundOffsets-none limit heap_len offsets e in
+    let sound = AreFaultlessOffsets-none limit heap_len offsets e in
     let low : first_offset offsets ≡ first = ap unsigned_abs range.first_is in
     let high : last_offset offsets ≡ last = ap unsigned_abs range.last_is in
     let exact : sum (lengths_of (differences offsets)) ≡ last - first = omega (arith, sum_differences offsets sound.ordered sound.some) in
-    or_else-both _ _ (differences-natural offsets sound.ordered)
-    (or_else-both _ _ (ap (λ b. if b then None else Some lengths_not_exact) (eq-eqb (sum (lengths_of (differences offsets))) (last - first) exact)) sound.short)
+    or_else-second _ _ None (differences-natural offsets sound.ordered)
+    (or_else-second _ _ None (ap (λ b. if b then None else Some lengths_not_exact) (eq-eqb (sum (lengths_of (differences offsets))) (last - first) exact)) sound.short)
 
 -- and the other way round
 natural_from : (offsets : List ℤ) → is_negative (number_at offsets 0) ≡ false → ((k : ℕ) → k + 1 < length offsets → is_negative (number_at offsets (k + 1) -ℤ number_at offsets k) ≡ false) → (k : ℕ) → k < length offsets → is_negative (number_at offsets k) ≡ false
@@ -153,8 +144,8 @@ offsets_fault-sound limit heap_len offsets first last range e =
     let no_falling : first_falling offsets ≡ None = first_fault-none (falling_at offsets) (length offsets) (falls_not rises) in
     let some : (length offsets == 0) ≡ false = not_none (length offsets) range.some in
     let high : last_offset offsets ≡ last = ap unsigned_abs range.last_is in
-    or_else-both _ _ (ap (λ t. if t then Some empty_input else None) some)
-    (or_else-both _ _ no_negative (or_else-both _ _ no_falling (or_else-both _ _ (ap (λ t. if t then None else Some (out_of_bounds (last_offset offsets))) (le-leb (last_offset offsets) heap_len (omega (arith, range.within)))) b.1)))
+    or_else-second _ _ None (ap (λ t. if t then Some empty_input else None) some)
+    (or_else-second _ _ None no_negative (or_else-second _ _ None no_falling (or_else-second _ _ None (ap (λ t. if t then None else Some (out_of_bounds (last_offset offsets))) (le-leb (last_offset offsets) heap_len (omega (arith, range.within)))) b.1)))
   where
     not_none : (n : ℕ) → 0 < n → (n == 0) ≡ false
     not_none n h = grind (arith, nat_tests)
@@ -171,7 +162,7 @@ offsets_fault-sound limit heap_len offsets first last range e =
 -- where there is no part that is used, the offsets have a fault
 pub no_used_range : (limit heap_len : ℕ) (offsets : List ℤ) → offsets_fault limit heap_len offsets ≡ None → IsUsedRange heap_len offsets (first_offset offsets) (last_offset offsets)
 no_used_range limit heap_len offsets e =
-    let sound = AreSoundOffsets-none limit heap_len offsets e in
+    let sound = AreFaultlessOffsets-none limit heap_len offsets e in
     let some = sound.some in
     record {
       some = some;

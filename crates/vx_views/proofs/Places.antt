@@ -6,6 +6,7 @@ use Rattle.std.proofs.lemmas.Nat.{le_bytes_4, from_le_bytes-to_le_bytes_4}
 use Rattle.std.proofs.lemmas.List.{length-take-le, take-take, take_all, take-append-drop, take-append-le}
 use Rattle.std.proofs.lemmas.Bool.{le-leb, lt-leb, cases_lt}
 use Rattle.vx_views.specs.Views.{number_le, view_size, view_prefix, view_block, view_offset, buffer_at, view_value, Resolves, AreBytes, IsView, padded, ref_view, inlined_view, view_of, held_value, IsZeroPadded, StandsAt, view_head, view_order_prefix, view_order_tail, prefix_of, head_of, order_prefix_of, order_tail_of}
+use Rattle.vx_views.specs.declared.view.TheConstants.{MAX_INLINED_SIZE}
 use Rattle.vx_views.proofs.FourBytes.{four_is, bytes-append}
 use Rattle.vx_views.proofs.Padding.{length_padded, take_padded, drop_padded, padded_value, bytes-take, bytes-drop, bytes-padded}
 
@@ -160,27 +161,50 @@ range_of_parts : (buffers : List (List ℕ)) (view : List ℕ) (size block offse
 range_of_parts buffers view size block offset parts i =
     slice_range (buffer_at buffers (parts.its_block i)) (parts.its_offset i) (parts.its_offset i + parts.its_size i)
 
-pub view_reads_back : (buffers : List (List ℕ)) (value : List ℕ) (block offset : ℕ) → length value < 2 ^ 32 → block < 2 ^ 32 → offset < 2 ^ 32
-    → StandsAt buffers value block offset → view_value buffers (view_of value block offset) ≡ value
-view_reads_back buffers value block offset h k l stands = by_length (cases_lt 12 (length value))
-  where
-    by_length : (12 < length value) ⊎ (length value ≤ 12) → view_value buffers (view_of value block offset) ≡ value
-    by_length (inl long) =
-        let parts : RefParts (view_of value block offset) (length value) block offset = parts_of_long value block offset long h k l in
-        value_of_ref buffers (view_of value block offset) (omega (arith, parts.its_size))
-        ∙ range_of_parts buffers (view_of value block offset) (length value) block offset parts
-        ∙ (stands long).2
-    by_length (inr short) =
-        value_of_inlined buffers (view_of value block offset) (omega (arith, size_of_view value block offset h))
-        ∙ ap held_value (view_of_short value block offset short)
-        ∙ held_by_inlined value short
+-- the bytes of a longer value, where the view that names this place finds them
+pub record IsThere (buffers : List (List ℕ)) (value : List ℕ) (block offset : ℕ) : Type 0 where
+  pub small : length value < 2 ^ 32
+  pub named : block < 2 ^ 32
+  pub near : offset < 2 ^ 32
+  pub buffer_in : block < length buffers
+  pub within : offset + length value ≤ length (buffer_at buffers block)
+  pub same : slice_range (buffer_at buffers block) offset (offset + length value) ≡ value
 
-pub view_resolves : (buffers : List (List ℕ)) (value : List ℕ) (block offset : ℕ) → length value < 2 ^ 32 → block < 2 ^ 32 → offset < 2 ^ 32
-    → StandsAt buffers value block offset → Resolves buffers (view_of value block offset)
-view_resolves buffers value block offset h k l stands size =
-    let long : 12 < length value = omega (arith, size_of_view value block offset h) in
-    let parts : RefParts (view_of value block offset) (length value) block offset = parts_of_long value block offset long h k l in
-    (rw parts.its_block (stands long).0, rw (parts.its_block, parts.its_offset, parts.its_size) (stands long).1)
+-- a view resolves, and this is its value
+pub record ReadsAs (buffers : List (List ℕ)) (view value : List ℕ) : Type 0 where
+  pub resolves : Resolves buffers view
+  pub reads : view_value buffers view ≡ value
+
+-- a value of at most 12 bytes is read from its view, a longer one from the place that the view names
+pub view_of-reads : (buffers : List (List ℕ)) (value : List ℕ) (block offset : ℕ) → (MAX_INLINED_SIZE < length value → IsThere buffers value block offset) → ReadsAs buffers (view_of value block offset) value
+view_of-reads buffers value block offset there = by_length (cases_lt MAX_INLINED_SIZE (length value))
+  where
+    by_length : (MAX_INLINED_SIZE < length value) ⊎ (length value ≤ MAX_INLINED_SIZE) → ReadsAs buffers (view_of value block offset) value
+    by_length (inl long) =
+        let here = there long in
+        let parts : RefParts (view_of value block offset) (length value) block offset = parts_of_long value block offset long here.small here.named here.near in
+        record {
+          resolves = λ size. (rw parts.its_block here.buffer_in, rw (parts.its_block, parts.its_offset, parts.its_size) here.within);
+          reads =
+              value_of_ref buffers (view_of value block offset) (omega (arith, parts.its_size))
+              ∙ range_of_parts buffers (view_of value block offset) (length value) block offset parts
+              ∙ here.same;
+        }
+    by_length (inr short) =
+        let size : view_size (view_of value block offset) ≡ length value = ap view_size (view_of_short value block offset short) ∙ size_of_inlined value (omega arith) in
+        record {
+          resolves = λ long. absurd (omega arith);
+          reads =
+              value_of_inlined buffers (view_of value block offset) (omega arith)
+              ∙ ap held_value (view_of_short value block offset short)
+              ∙ held_by_inlined value short;
+        }
+
+pub view_reads_back : (buffers : List (List ℕ)) (value : List ℕ) (block offset : ℕ) → length value < 2 ^ 32 → block < 2 ^ 32 → offset < 2 ^ 32
+    → StandsAt buffers value block offset → ReadsAs buffers (view_of value block offset) value
+view_reads_back buffers value block offset h k l stands =
+    view_of-reads buffers value block offset
+    (λ long. record { small = h; named = k; near = l; buffer_in = (stands long).0; within = (stands long).1; same = (stands long).2 })
 
 -- ---- words of the view of a value
 

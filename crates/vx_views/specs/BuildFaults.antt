@@ -1,9 +1,8 @@
 -- What a call that builds views is refused for, the first fault first. Lengths and offsets are integers of any type.
-use Rattle.std.specs.Prelude.{◌≡◌, ℕ, ℤ, pos, ◌-ℤ◌, ◌+◌, ◌-◌, ◌^◌, List, length, map, drop, sum, if◌then◌else◌, ◌==◌, nat_le, int_lt, ◌≤ℤ◌, ◌<◌, ◌≤◌, Option, Some, None, IsSome, slice_index_or, slice_range, unsigned_abs}
+use Rattle.std.specs.Prelude.{◌≡◌, ℕ, ℤ, pos, ◌-ℤ◌, ◌+◌, ◌-◌, ◌^◌, List, length, map, drop, sum, if◌then◌else◌, ◌==◌, nat_le, int_lt, ◌≤ℤ◌, ◌<◌, ◌≤◌, Option, Some, None, slice_index_or, slice_range, unsigned_abs}
 use Rattle.std.specs.Int.{is_negative}
 use Rattle.std.specs.List.{zip}
-use Rattle.vx_base.specs.Refusals.{Refusal, limit_too_large, negative, lengths_not_exact, value_too_long, overflow, empty_input, falling_offsets, out_of_bounds, refusal_of, or_else, first_fault}
-use Rattle.vx_base.specs.declared.errors.VortexError.{VortexError}
+use Rattle.vx_base.specs.Refusals.{Refusal, limit_too_large, negative, lengths_not_exact, value_too_long, overflow, empty_input, falling_offsets, out_of_bounds, or_else, first_fault}
 use Rattle.vx_views.specs.Cut.{IsMaximalCut}
 use Rattle.vx_views.specs.declared.view.TheConstants.{MAX_BUFFER_LEN}
 
@@ -28,6 +27,10 @@ last_offset offsets = unsigned_abs (number_at offsets (length offsets - 1))
 -- the part of a heap from the first offset to the last
 abbrev pub used_part : List ℕ → List ℤ → List ℕ
 used_part heap offsets = slice_range heap (first_offset offsets) (last_offset offsets)
+
+-- the bytes of a heap between the offset of a row and the next one
+abbrev pub bytes_between : List ℕ → List ℤ → ℕ → List ℕ
+bytes_between heap offsets row = slice_range heap (unsigned_abs (number_at offsets row)) (unsigned_abs (number_at offsets (row + 1)))
 
 -- ---- one fault each
 
@@ -95,10 +98,6 @@ build_from_offsets_fault start limit heap_len offsets pieces = or_else (limit_fa
 -- how many pieces the maximal cut has, where there is one (there is where no value is longer than the limit)
 abbrev pub IsPieceCount : ℕ → List ℕ → ℕ → Type 0
 IsPieceCount limit lens pieces = (ends : List ℕ) → IsMaximalCut limit lens ends → length ends ≡ pieces
-
--- an error names this fault
-abbrev pub IsFault : Option Refusal → VortexError → Type 0
-IsFault fault e = IsSome fault × (fault ≡ refusal_of e)
 
 -- no offset is less than the one before it
 abbrev pub AreRising : List ℤ → Type 0

@@ -38,7 +38,7 @@ pub record AreBuilt (start limit : ℕ) (heap lens : List ℕ) (buffers views : 
   pub one_each : length views ≡ length lens
   pub each : (row : ℕ) → row < length lens → slice_index_or views row [] ≡ view_at start heap lens ends row
 
--- whatever buffers come before them, each view resolves, and its value is that of its row
-pub record ReadBack (start : ℕ) (heap lens : List ℕ) (buffers views : List (List ℕ)) : Type 0 where
-  pub resolve : (before : List (List ℕ)) (row : ℕ) → length before ≡ start → row < length lens → Resolves (before ++ buffers) (slice_index_or views row [])
-  pub read : (before : List (List ℕ)) (row : ℕ) → length before ≡ start → row < length lens → view_value (before ++ buffers) (slice_index_or views row []) ≡ value_at heap lens row
+-- whatever buffers come before them, the view of each row resolves, and this is its value
+pub record ReadBack (start : ℕ) (value : ℕ → List ℕ) (buffers views : List (List ℕ)) : Type 0 where
+  pub resolve : (before : List (List ℕ)) (row : ℕ) → length before ≡ start → row < length views → Resolves (before ++ buffers) (slice_index_or views row [])
+  pub read : (before : List (List ℕ)) (row : ℕ) → length before ≡ start → row < length views → view_value (before ++ buffers) (slice_index_or views row []) ≡ value row

@@ -1,11 +1,10 @@
 // Building views and buffers from a heap of values.
 
-ghost use Rattle.std.specs.Prelude.{◌≡◌, ◌≤◌, ◌<◌, ◌+◌, ◌^◌, ◌≤ℤ◌, ℕ, pos, List, None, length, map, IfOk, IfErr, IfSome, IfNone, IsOkUnless};
-ghost use Rattle.vx_base.specs.Refusals.{IsMemoryOr};
-ghost use Rattle.vx_base.specs.declared.errors.VortexError.TheVariants.{Memory};
+ghost use Rattle.std.specs.Prelude.{◌≡◌, ◌≤◌, ◌<◌, ◌+◌, ◌^◌, ◌≤ℤ◌, ℕ, pos, List, None, length, map, IfOk, IfSome, IfNone};
+ghost use Rattle.vx_base.specs.Refusals.{Gives, Refuses};
 ghost use Rattle.vx_views.specs.Cut.{IsCut};
-ghost use Rattle.vx_views.specs.Places.{AreBuilt, ReadBack};
-ghost use Rattle.vx_views.specs.BuildFaults.{number_at, lengths_of, differences, used_part, lengths_fault, offsets_fault, build_fault, build_from_offsets_fault, IsPieceCount, AreRising};
+ghost use Rattle.vx_views.specs.Places.{AreBuilt, ReadBack, value_at};
+ghost use Rattle.vx_views.specs.BuildFaults.{number_at, lengths_of, differences, used_part, bytes_between, lengths_fault, offsets_fault, build_fault, build_from_offsets_fault, IsPieceCount, AreRising};
 
 use crate::length_checks::{check_lengths, check_offsets, used_range};
 use crate::lengths::{Lengths, OffsetLengths, RowLengths, difference};
@@ -23,16 +22,15 @@ fn cut_heap<L: Lengths>(
     lengths: &L,
 ) -> Result<Option<(Vec<ByteBuffer>, Vec<BinaryView>)>, VortexError>
     requires { limit ≤ MAX_BUFFER_LEN }
-    ensures built { IfOk result (λ r. IfSome r (λ built.
-        AreBuilt start limit heap.now (lengths_of (L.numbers lengths.now)) built.0.items built.1.items)) }
-    ensures read_back { IfOk result (λ r. IfSome r (λ built.
-        ReadBack start heap.now (lengths_of (L.numbers lengths.now)) built.0.items built.1.items)) }
-    ensures accepted { IfOk result (λ r. IfSome r (λ built.
+    ensures built { Gives result (λ r. IfSome r (λ made.
+        AreBuilt start limit heap.now (lengths_of (L.numbers lengths.now)) made.0.items made.1.items)) }
+    ensures read_back { IfOk result (λ r. IfSome r (λ made.
+        ReadBack start (value_at heap.now (lengths_of (L.numbers lengths.now))) made.0.items made.1.items)) }
+    ensures faultless { IfOk result (λ r. IfSome r (λ _.
         lengths_fault limit (length heap.now) (L.numbers lengths.now) ≡ None)) }
     ensures stopped { IfOk result (λ r. IfNone r (
         lengths_fault limit (length heap.now) (L.numbers lengths.now) ≡ None →
         (ends : List ℕ) → IsCut limit (lengths_of (L.numbers lengths.now)) ends → 2 ^ 32 < start + length ends)) }
-    ensures err { IsOkUnless result Memory }
 {
     let bytes = heap.as_slice();
     let mut buffers = Vec::new(alloc);
@@ -89,14 +87,11 @@ pub fn build_views<P: NativePType>(
     ensures built { IfOk result (λ made.
         AreBuilt start limit bytes (lengths_of (map P.value lens.now)) made.0.items made.1) }
     ensures read_back { IfOk result (λ made.
-        ReadBack start bytes (lengths_of (map P.value lens.now)) made.0.items made.1) }
+        ReadBack start (value_at bytes (lengths_of (map P.value lens.now))) made.0.items made.1) }
     ensures fewest { IfOk result (λ made. (others : List ℕ) →
         IsCut limit (lengths_of (map P.value lens.now)) others → length made.0.items ≤ length others) }
-    ensures accepted { IfOk result (λ made.
-        build_fault start limit (length bytes) (map P.value lens.now) (length made.0.items) ≡ None) }
-    ensures refused { IfErr result (λ e. (pieces : ℕ) ×
-        (IsPieceCount limit (lengths_of (map P.value lens.now)) pieces ×
-        IsMemoryOr (build_fault start limit (length bytes) (map P.value lens.now) pieces) e)) }
+    ensures refuses { (pieces : ℕ) × (IsPieceCount limit (lengths_of (map P.value lens.now)) pieces
+        × Refuses result (build_fault start limit (length bytes) (map P.value lens.now) pieces)) }
 {
     if MAX_BUFFER_LEN < limit {
         return Err(VortexError::LimitTooLarge);
@@ -121,16 +116,15 @@ fn cut_at_offsets<P: NativePType>(
     offsets: &[P],
 ) -> Result<Option<(Vec<ByteBuffer>, Vec<BinaryView>)>, VortexError>
     requires { limit ≤ MAX_BUFFER_LEN }
-    ensures built { IfOk result (λ r. IfSome r (λ made.
+    ensures built { Gives result (λ r. IfSome r (λ made.
         AreBuilt start limit (used_part bytes.now (map P.value offsets.now)) (lengths_of (differences (map P.value offsets.now))) made.0.items made.1.items)) }
     ensures read_back { IfOk result (λ r. IfSome r (λ made.
-        ReadBack start (used_part bytes.now (map P.value offsets.now)) (lengths_of (differences (map P.value offsets.now))) made.0.items made.1.items)) }
-    ensures accepted { IfOk result (λ r. IfSome r (λ made.
+        ReadBack start (value_at (used_part bytes.now (map P.value offsets.now)) (lengths_of (differences (map P.value offsets.now)))) made.0.items made.1.items)) }
+    ensures faultless { IfOk result (λ r. IfSome r (λ made.
         offsets_fault limit (length bytes.now) (map P.value offsets.now) ≡ None)) }
     ensures stopped { IfOk result (λ r. IfNone r (
         offsets_fault limit (length bytes.now) (map P.value offsets.now) ≡ None →
         (ends : List ℕ) → IsCut limit (lengths_of (differences (map P.value offsets.now))) ends → 2 ^ 32 < start + length ends)) }
-    ensures err { IsOkUnless result Memory }
 {
     match used_range(bytes.len(), offsets) {
         None => Ok(None),
@@ -159,14 +153,15 @@ pub fn build_views_from_offsets<P: NativePType>(
     ensures built { IfOk result (λ made.
         AreBuilt start limit (used_part bytes (map P.value offsets.now)) (lengths_of (differences (map P.value offsets.now))) made.0.items made.1) }
     ensures read_back { IfOk result (λ made.
-        ReadBack start (used_part bytes (map P.value offsets.now)) (lengths_of (differences (map P.value offsets.now))) made.0.items made.1) }
+        ReadBack start (value_at (used_part bytes (map P.value offsets.now)) (lengths_of (differences (map P.value offsets.now)))) made.0.items made.1) }
+
+    // The value of a row is the bytes between its offset and the next one.
+    ensures values { IfOk result (λ made.
+        ReadBack start (bytes_between bytes (map P.value offsets.now)) made.0.items made.1) }
     ensures fewest { IfOk result (λ made. (others : List ℕ) →
         IsCut limit (lengths_of (differences (map P.value offsets.now))) others → length made.0.items ≤ length others) }
-    ensures accepted { IfOk result (λ made.
-        build_from_offsets_fault start limit (length bytes) (map P.value offsets.now) (length made.0.items) ≡ None) }
-    ensures refused { IfErr result (λ e. (pieces : ℕ) ×
-        (IsPieceCount limit (lengths_of (differences (map P.value offsets.now))) pieces ×
-        IsMemoryOr (build_from_offsets_fault start limit (length bytes) (map P.value offsets.now) pieces) e)) }
+    ensures refuses { (pieces : ℕ) × (IsPieceCount limit (lengths_of (differences (map P.value offsets.now))) pieces
+        × Refuses result (build_from_offsets_fault start limit (length bytes) (map P.value offsets.now) pieces)) }
 {
     if MAX_BUFFER_LEN < limit {
         return Err(VortexError::LimitTooLarge);
@@ -187,8 +182,7 @@ pub fn offsets_to_lengths<P: NativePType>(
 ) -> Result<Buffer<P>, VortexError>
     requires natural { pos 0 ≤ℤ number_at (map P.value offsets.now) 0 }
     requires rising { AreRising (map P.value offsets.now) }
-    ensures ok { IfOk result (λ lengths. map P.value lengths ≡ differences (map P.value offsets.now)) }
-    ensures err { IsOkUnless result Memory }
+    ensures { Gives result (λ lengths. map P.value lengths ≡ differences (map P.value offsets.now)) }
 {
     let count = offsets.len().saturating_sub(1);
     let mut lengths = Vec::with_capacity(alloc, count)?;

@@ -1,15 +1,15 @@
 // Finding the first fault of lengths and offsets.
 
-ghost use Rattle.std.specs.Prelude.{◌≡◌, ◌≢◌, ◌<◌, ℕ, None, length, map, IfNone, IfSome, MatchResult};
-ghost use Rattle.vx_views.specs.BuildFaults.{IsUsedRange, first_negative, first_falling, first_too_long, sum_fault, lengths_fault, offsets_fault, IsFault};
+ghost use Rattle.std.specs.Prelude.{◌≡◌, ◌≢◌, ◌<◌, ℕ, None, length, map, IfNone, IfSome};
+ghost use Rattle.vx_base.specs.Refusals.{Tests};
+ghost use Rattle.vx_views.specs.BuildFaults.{IsUsedRange, first_negative, first_falling, first_too_long, sum_fault, lengths_fault, offsets_fault};
 
 use crate::lengths::{Lengths, OffsetLengths, RowLengths, natural};
 use vx_base::{NativePType, VortexError};
 
 /// Finds the first row whose number is negative.
 fn check_natural<L: Lengths>(lengths: &L) -> Result<(), VortexError>
-    ensures { let fault = first_negative (L.numbers lengths.now) in
-        MatchResult result (λ _. fault ≡ None) (IsFault fault) }
+    ensures { Tests result (first_negative (L.numbers lengths.now)) }
 {
     for row in 0..lengths.count() {
         let Some(_) = lengths.length_at(row) else {
@@ -22,8 +22,7 @@ fn check_natural<L: Lengths>(lengths: &L) -> Result<(), VortexError>
 /// Finds out whether the lengths are those of a heap of so many bytes.
 fn check_exact<L: Lengths>(heap_len: usize, lengths: &L) -> Result<(), VortexError>
     requires { first_negative (L.numbers lengths.now) ≡ None }
-    ensures { let fault = sum_fault heap_len (L.numbers lengths.now) in
-        MatchResult result (λ _. fault ≡ None) (IsFault fault) }
+    ensures { Tests result (sum_fault heap_len (L.numbers lengths.now)) }
 {
     let mut rest = heap_len;
     for row in 0..lengths.count() {
@@ -43,8 +42,7 @@ fn check_exact<L: Lengths>(heap_len: usize, lengths: &L) -> Result<(), VortexErr
 /// Finds the first row whose value is longer than the limit.
 fn check_short<L: Lengths>(limit: usize, lengths: &L) -> Result<(), VortexError>
     requires { first_negative (L.numbers lengths.now) ≡ None }
-    ensures { let fault = first_too_long limit (L.numbers lengths.now) in
-        MatchResult result (λ _. fault ≡ None) (IsFault fault) }
+    ensures { Tests result (first_too_long limit (L.numbers lengths.now)) }
 {
     for row in 0..lengths.count() {
         if limit < lengths.length_at(row).unwrap() {
@@ -57,8 +55,7 @@ fn check_short<L: Lengths>(limit: usize, lengths: &L) -> Result<(), VortexError>
 /// Finds the first offset that is less than the one before it.
 fn check_rising<P: NativePType>(offsets: &[P]) -> Result<(), VortexError>
     requires { 0 < length offsets.now }
-    ensures { let fault = first_falling (map P.value offsets.now) in
-        MatchResult result (λ _. fault ≡ None) (IsFault fault) }
+    ensures { Tests result (first_falling (map P.value offsets.now)) }
 {
     for row in 1..offsets.len() {
         if offsets[row].as_i128() < offsets[row - 1].as_i128() {
@@ -74,8 +71,7 @@ pub fn check_lengths<L: Lengths>(
     heap_len: usize,
     lengths: &L,
 ) -> Result<(), VortexError>
-    ensures { let fault = lengths_fault limit heap_len (L.numbers lengths.now) in
-        MatchResult result (λ _. fault ≡ None) (IsFault fault) }
+    ensures { Tests result (lengths_fault limit heap_len (L.numbers lengths.now)) }
 {
     check_natural(lengths)?;
     check_exact(heap_len, lengths)?;
@@ -88,8 +84,7 @@ pub fn check_offsets<P: NativePType>(
     heap_len: usize,
     offsets: &[P],
 ) -> Result<(), VortexError>
-    ensures { let fault = offsets_fault limit heap_len (map P.value offsets.now) in
-        MatchResult result (λ _. fault ≡ None) (IsFault fault) }
+    ensures { Tests result (offsets_fault limit heap_len (map P.value offsets.now)) }
 {
     if offsets.is_empty() {
         return Err(VortexError::EmptyInput);

@@ -236,7 +236,8 @@ impl BinaryView {
 
     /// The 16 bytes as one number.
     pub fn as_u128(&self) -> u128
-        ensures { result ≡ from_le_bytes w128 self.now }
+        ensures number { result ≡ from_le_bytes w128 self.now }
+        ensures formed { IsView self.now }
     {
         u128::from_le_bytes(self.bytes)
     }

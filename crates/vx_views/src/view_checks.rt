@@ -1,8 +1,8 @@
 //! The check of views that come from outside.
 
-ghost use Rattle.std.specs.Prelude.{◌≡◌, ◌≢◌, ◌<◌, ◌≤◌, ◌↔◌, length, OnOk, IfOk, IfErr, None, IsTrue, IsUtf8};
-ghost use Rattle.vx_base.specs.Refusals.{refusal_of, IsMemoryOr};
-ghost use Rattle.vx_base.specs.declared.errors.VortexError.TheVariants.{Memory};
+ghost use Rattle.std.specs.Prelude.{◌≡◌, ◌<◌, ◌≤◌, ◌↔◌, length, count_by, OnOk, IfOk, None, IsTrue, IsUtf8};
+ghost use Rattle.vx_base.specs.Bits.{bool_at};
+ghost use Rattle.vx_base.specs.Refusals.{Refuses, Tests};
 ghost use Rattle.vx_views.specs.Faulty.{views_fault, view_fault, place_fault, text_fault};
 ghost use Rattle.vx_views.specs.Sound.{AreSoundViews};
 ghost use Rattle.vx_views.specs.Views.{view_size, view_value, held_value};
@@ -34,14 +34,14 @@ pub fn check_views(
     _budget: usize,
 ) -> Result<(), VortexError>
     requires { length mask.now ≡ length views.now }
-    ensures accepted { OnOk result (views_fault check_utf8 mask.now buffers.now views.now ≡ None) }
-    ensures refused { IfErr result (IsMemoryOr (views_fault check_utf8 mask.now buffers.now views.now)) }
+    ensures refuses { Refuses result (views_fault check_utf8 mask.now buffers.now views.now) }
 
     // Each valid view then resolves, begins as it says, and is text where text is asked.
     ensures sound { OnOk result (AreSoundViews views.now mask.now buffers.now check_utf8) }
 {
+    let all_valid = mask.all_true();
     for (row, view) in views.iter().enumerate() {
-        if mask.value(row) {
+        if is_valid(mask, all_valid, row) {
             check_view(view, row, buffers, check_utf8)?;
         }
     }
@@ -60,6 +60,15 @@ pub fn faultless_views_are_sound(
         ↔ AreSoundViews views.now mask.now buffers.now check_utf8 }
 {}
 
+// Whether a row is valid, where it is known whether all are.
+fn is_valid(mask: &Mask, all_valid: bool, row: usize) -> bool
+    requires within { row < length mask.now }
+    requires all { IsTrue all_valid → count_by (λ b. b) mask.now ≡ length mask.now }
+    ensures { result ≡ bool_at mask.now row }
+{
+    all_valid || mask.value(row)
+}
+
 // Whether the view of a valid row may stand there.
 fn check_view(
     view: &BinaryView,
@@ -67,9 +76,7 @@ fn check_view(
     buffers: &[ByteBuffer],
     check_utf8: bool,
 ) -> Result<(), VortexError>
-    ensures accepted { OnOk result (view_fault check_utf8 buffers.now view.now row ≡ None) }
-    ensures refused { IfErr result (λ e. view_fault check_utf8 buffers.now view.now row ≡ refusal_of e) }
-    ensures no_memory { IfErr result (λ e. e ≢ Memory) }
+    ensures { Tests result (view_fault check_utf8 buffers.now view.now row) }
 {
     if view.is_inlined() {
         return check_inlined_text(view, row, check_utf8);
@@ -79,9 +86,7 @@ fn check_view(
 
 // Whether the value of a row is text, where text is asked.
 fn check_text(value: &[u8], row: usize, check_utf8: bool) -> Result<(), VortexError>
-    ensures accepted { OnOk result (text_fault check_utf8 value.now row ≡ None) }
-    ensures refused { IfErr result (λ e. text_fault check_utf8 value.now row ≡ refusal_of e) }
-    ensures no_memory { IfErr result (λ e. e ≢ Memory) }
+    ensures { Tests result (text_fault check_utf8 value.now row) }
 {
     if check_utf8 && !is_text(value) {
         return Err(VortexError::NotUtf8 { row });
@@ -92,9 +97,7 @@ fn check_text(value: &[u8], row: usize, check_utf8: bool) -> Result<(), VortexEr
 // The same for the value that stands in a view.
 fn check_inlined_text(view: &BinaryView, row: usize, check_utf8: bool) -> Result<(), VortexError>
     requires { view_size view.now ≤ MAX_INLINED_SIZE }
-    ensures accepted { OnOk result (text_fault check_utf8 (held_value view.now) row ≡ None) }
-    ensures refused { IfErr result (λ e. text_fault check_utf8 (held_value view.now) row ≡ refusal_of e) }
-    ensures no_memory { IfErr result (λ e. e ≢ Memory) }
+    ensures { Tests result (text_fault check_utf8 (held_value view.now) row) }
 {
     if check_utf8 && !is_inlined_text(view) {
         return Err(VortexError::NotUtf8 { row });
@@ -114,7 +117,6 @@ fn is_inlined_text(view: &BinaryView) -> bool
     requires { view_size view.now ≤ MAX_INLINED_SIZE }
     ensures { IsTrue result ↔ IsUtf8 (held_value view.now) }
 {
-    let _size = view.len();
     view.as_u128() & INLINED_HIGH_BITS == 0 || simdutf8::is_utf8(view.bytes(&[]))
 }
 
@@ -125,10 +127,8 @@ fn value_at<'a>(
     buffers: &'a [ByteBuffer],
 ) -> Result<&'a [u8], VortexError>
     requires { MAX_INLINED_SIZE < view_size view.now }
-    ensures accepted { OnOk result (place_fault buffers.now view.now row ≡ None) }
+    ensures tests { Tests result (place_fault buffers.now view.now row) }
     ensures value { IfOk result (λ v. v.now ≡ view_value buffers.now view.now) }
-    ensures refused { IfErr result (λ e. place_fault buffers.now view.now row ≡ refusal_of e) }
-    ensures no_memory { IfErr result (λ e. e ≢ Memory) }
 {
     let parts = view.as_view();
     let Some(buffer) = buffers.get(parts.buffer_index as usize) else {

@@ -172,3 +172,13 @@ fn printed_views(rt: HostRuntime) -> Result<(), Fail> {
     assert_eq!(rt; text.as_str(), want);
     Ok(())
 }
+
+#[test]
+fn printed_inlined_views(rt: HostRuntime) -> Result<(), Fail> {
+    let view = BinaryView::from(INLINE);
+    let text = format!(in rt.alloc(); "{view:?}")?;
+    let want =
+        "BinaryView { inline: Inlined { size: 6, bytes: [105, 110, 108, 105, 110, 101, 0, 0, 0, 0, 0, 0] } }";
+    assert_eq!(rt; text.as_str(), want);
+    Ok(())
+}

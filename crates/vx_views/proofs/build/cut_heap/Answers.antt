@@ -3,7 +3,8 @@ use Rattle.vx_views.specs.BuildFaults.{lengths_of, negative_at, too_long_at, num
 use Rattle.vx_views.specs.Views.{view_of}
 use Rattle.vx_views.proofs.CutPlaces.{HasRoom, HasRoom-kept, HasRoom-closed, IsCutting-pushed, AreDone, AreDone-close, AreDone-empty}
 use Rattle.vx_views.proofs.CutStops.{stop-negative, stop-fits_not, stop-number}
-use Rattle.vx_views.proofs.NoFaults.{first_fault-next, not_negative_at, not_too_long_at, length_at, length-lengths_of}
+use Rattle.vx_views.proofs.FirstFaults.{first_fault-next}
+use Rattle.vx_views.proofs.NoFaults.{not_negative_at, not_too_long_at, length_at, length-lengths_of}
 use Rattle.vx_views.proofs.build.cut_heap.Given.{Over}
 use Rattle.vx_views.proofs.build.cut_heap.Goals as goal
 use Rattle.vx_views.proofs.build.cut_heap.Goals.{then-limit-size-via-then-limit-size, then-limit-size-via-else-limit-size+then-bytes-at, then-limit-at+else-number+in_ok-slice+in_ok-push, else-limit-at, then-begin-at+in_ok-slice-2+in_ok-push-3, else-begin-at}

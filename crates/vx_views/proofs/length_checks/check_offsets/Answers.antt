@@ -1,8 +1,8 @@
-use Rattle.std.proofs.Common.{◌≡◌, ◌<◌, ◌-◌, None, [], ◌∷◌, MatchResult, length, map, unsigned_abs, refl, ap, sym, ◌∙◌, subst, arith, rules}
+use Rattle.std.proofs.Common.{◌≡◌, ◌<◌, ◌-◌, [], ◌∷◌, length, map, unsigned_abs, refl, ap, sym, ◌∙◌, subst, arith, rules}
 use Rattle.std.proofs.lemmas.List.{length-map}
-use Rattle.vx_base.specs.Refusals.{out_of_bounds}
-use Rattle.vx_views.specs.BuildFaults.{number_at, last_offset, offsets_fault, IsFault}
-use Rattle.vx_views.proofs.LengthFaults.{length_is, fault_is}
+use Rattle.vx_base.specs.Refusals.{Tests}
+use Rattle.vx_views.specs.BuildFaults.{number_at, last_offset, offsets_fault}
+use Rattle.vx_views.proofs.LengthFaults.{length_is}
 use Rattle.vx_views.proofs.NoFaults.{number_of_item}
 use Rattle.vx_views.proofs.OffsetFacts.{offsets_fault-past, offsets_fault-long, differences-none}
 use Rattle.vx_views.proofs.length_checks.check_offsets.Goals as goal
@@ -15,8 +15,7 @@ returns-then-heap_len-last g c =
     let item : number_at offsets (length c.args.offsets.now - 1) ≡ g.P.Number.value c.index-offsets-offsets.result = number_of_item g.P.Number.value c.args.offsets.now (length c.args.offsets.now - 1) c.index-offsets-offsets.result (g.P.Number.value c.index-offsets-offsets.result) (omega arith) c.index-offsets-offsets.is refl in
     let is = length_is (g.P.Number.value c.index-offsets-offsets.result ∷ []) 0 c.unwrap-last.result c.natural.result c.unwrap-last.ensures c.natural.ensures.length in
     let last : last_offset offsets ≡ c.unwrap-last.result = ap unsigned_abs (ap (λ n. number_at offsets (n - 1)) long ∙ item ∙ is) in
-    fault_is (offsets_fault c.args.limit c.args.heap_len offsets) (out_of_bounds c.unwrap-last.result)
-    (offsets_fault-past c.args.limit c.args.heap_len offsets c.unwrap-last.result (omega arith) c.in_ok-check_natural.ensures c.in_ok-check_rising.ensures last c.if-heap_len-last.true)
+    (refl, offsets_fault-past c.args.limit c.args.heap_len offsets c.unwrap-last.result (omega arith) c.in_ok-check_natural.ensures c.in_ok-check_rising.ensures last c.if-heap_len-last.true)
 
 pub check_short-requires : goal.check_short-requires
 check_short-requires g c = differences-none (map g.P.Number.value c.args.offsets.now) c.in_ok-check_natural.ensures c.in_ok-check_rising.ensures
@@ -29,6 +28,6 @@ returns g c =
     let item : number_at offsets (length c.args.offsets.now - 1) ≡ g.P.Number.value c.index-offsets-offsets.result = number_of_item g.P.Number.value c.args.offsets.now (length c.args.offsets.now - 1) c.index-offsets-offsets.result (g.P.Number.value c.index-offsets-offsets.result) (omega arith) c.index-offsets-offsets.is refl in
     let is = length_is (g.P.Number.value c.index-offsets-offsets.result ∷ []) 0 c.unwrap-last.result c.natural.result c.unwrap-last.ensures c.natural.ensures.length in
     let last : last_offset offsets ≡ c.unwrap-last.result = ap unsigned_abs (ap (λ n. number_at offsets (n - 1)) long ∙ item ∙ is) in
-    subst (λ fault. MatchResult c.check_short.result (λ _. fault ≡ None) (IsFault fault))
+    subst (Tests c.check_short.result)
     (sym (offsets_fault-long c.args.limit c.args.heap_len offsets (omega arith) c.in_ok-check_natural.ensures c.in_ok-check_rising.ensures (omega arith)))
     c.check_short.ensures

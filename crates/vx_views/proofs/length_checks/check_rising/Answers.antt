@@ -1,10 +1,11 @@
-use Rattle.std.proofs.Common.{◌≡◌, ◌-◌, true, false, int_lt, FitsSigned, map, ap, ◌∙◌, arith, rules}
+use Rattle.std.proofs.Common.{◌≡◌, ◌-◌, true, false, int_lt, FitsSigned, map, refl, ap, ◌∙◌, arith, rules}
 use Rattle.std.specs.Int.{w128}
 use Rattle.std.proofs.lemmas.List.{length-map}
 use Rattle.vx_views.specs.BuildFaults.{number_at, falling_at}
 use Rattle.vx_views.proofs.LengthFaults.{first_falling-here}
 use Rattle.vx_views.proofs.NativeRanges.{test-cast}
-use Rattle.vx_views.proofs.NoFaults.{number_of_item, first_fault-next}
+use Rattle.vx_views.proofs.FirstFaults.{first_fault-next}
+use Rattle.vx_views.proofs.NoFaults.{number_of_item}
 use Rattle.vx_views.proofs.OffsetFacts.{falling_at-none}
 use Rattle.vx_views.proofs.length_checks.check_rising.Goals as goal
 
@@ -17,7 +18,7 @@ returns-then-as_i128 g c =
     let wide_low : FitsSigned w128 c.as_i128-in-loop-row.result = search rules in
     let less : int_lt c.as_i128.result c.as_i128-in-loop-row.result ≡ true = test-cast c.as_i128.result c.as_i128-in-loop-row.result true wide_high wide_low c.if-as_i128.true in
     let falls : int_lt (number_at offsets c.loop-row.row) (number_at offsets (c.loop-row.row - 1)) ≡ true = ap (λ z. int_lt z (number_at offsets (c.loop-row.row - 1))) high ∙ ap (int_lt c.as_i128.result) low ∙ less in
-    first_falling-here offsets c.loop-row.row c.loop-row.invariant falls (omega (arith, length-map c.args.offsets.now g.P.Number.value))
+    (refl, first_falling-here offsets c.loop-row.row c.loop-row.invariant falls (omega (arith, length-map c.args.offsets.now g.P.Number.value)))
 
 pub loop-row-preserved : goal.loop-row-preserved
 loop-row-preserved g c =
