@@ -1,0 +1,91 @@
+// Sums over what operations make, in which the order counts.
+
+use vx_base::{BitBuffer, ByteBuffer};
+use vx_lists::ListViewArray;
+use vx_tree::{ArrayRef, Layout};
+use vx_views::BinaryView;
+
+/// A running sum.
+#[derive(Clone, Copy)]
+pub(crate) struct Checksum(u64);
+
+impl Checksum {
+    pub(crate) fn new() -> Checksum {
+        Checksum(0)
+    }
+
+    pub(crate) fn value(self) -> u64 {
+        self.0
+    }
+
+    pub(crate) fn with_word(self, word: u64) -> Checksum {
+        Checksum((self.0.rotate_left(5) ^ word).wrapping_mul(0x517cc1b727220a95))
+    }
+
+    pub(crate) fn with_words(self, words: &[usize]) -> Checksum {
+        let mut sum = self;
+        for word in words {
+            sum = sum.with_word(*word as u64);
+        }
+        sum
+    }
+
+    pub(crate) fn with_bytes(self, bytes: &[u8]) -> Checksum {
+        let mut sum = self;
+        let (words, rest) = bytes.as_chunks::<8>();
+        for word in words {
+            sum = sum.with_word(u64::from_le_bytes(*word));
+        }
+        sum.with_rest(rest)
+    }
+
+    // Bytes, each as a word.
+    fn with_rest(self, bytes: &[u8]) -> Checksum {
+        let mut sum = self;
+        for byte in bytes {
+            sum = sum.with_word(*byte as u64);
+        }
+        sum
+    }
+
+    pub(crate) fn with_bits(self, bits: &BitBuffer) -> Checksum {
+        let mut sum = self;
+        for i in 0..bits.len() {
+            sum = sum.with_word(bits.value(i) as u64);
+        }
+        sum
+    }
+
+    pub(crate) fn with_views(self, views: &[BinaryView]) -> Checksum {
+        let mut sum = self;
+        for view in views {
+            let tail = (view.as_u128() >> 64) as u64;
+            sum = sum.with_word(view.head()).with_word(tail);
+        }
+        sum
+    }
+
+    pub(crate) fn with_buffers(self, buffers: &[ByteBuffer]) -> Checksum {
+        let mut sum = self;
+        for buffer in buffers {
+            sum = sum.with_bytes(buffer.as_slice());
+        }
+        sum
+    }
+
+    /// The numbers or truth values of an array; of other layouts its length.
+    pub(crate) fn with_array(self, array: &ArrayRef) -> Checksum {
+        match array.layout() {
+            Layout::Primitive { bytes, .. } => self.with_bytes(bytes.as_slice()),
+            Layout::Bool { bits, .. } => self.with_bits(bits),
+            _ => self.with_word(array.len() as u64),
+        }
+    }
+
+    /// Offsets, sizes and elements of a list view.
+    pub(crate) fn with_list_view(self, lists: &ListViewArray) -> Checksum {
+        self.with_array(lists.offsets())
+            .with_array(lists.sizes())
+            .with_array(lists.elements())
+    }
+}

@@ -1,0 +1,206 @@
+// The data that is worked on. `bench/peer` makes the same.
+
+ghost use Rattle.std.specs.Prelude.{◌≤◌, ◌<◌};
+
+use crate::fault::Fault;
+use std::alloc::Global;
+use vx_base::{BitBuffer, Buffer, ByteBuffer};
+use vx_leaves::{BoolArray, PrimitiveArray};
+use vx_lists::ListViewArray;
+use vx_tree::{ArrayRef, TypedArray, Validity};
+
+/// How much data there is.
+#[derive(Clone, Copy)]
+pub(crate) enum Scale {
+    /// A thousand rows.
+    Small,
+    /// A million rows.
+    Large,
+}
+
+impl Scale {
+    pub(crate) fn rows(self) -> usize
+        ensures { result ≤ 1000000 }
+    {
+        match self {
+            Scale::Small => 1_000,
+            Scale::Large => 1_000_000,
+        }
+    }
+}
+
+/// Numbers that look random, the same ones at each start.
+#[derive(Drop)]
+pub(crate) struct Random {
+    state: u64,
+}
+
+impl Random {
+    pub(crate) fn new(seed: u64) -> Random {
+        Random { state: seed }
+    }
+
+    /// A number below 2^31.
+    pub(crate) fn number(&mut self) -> u32
+        ensures { result < 2147483648 }
+    {
+        self.state = self
+            .state
+            .wrapping_mul(6364136223846793005)
+            .wrapping_add(1442695040888963407);
+        (self.state >> 33) as u32
+    }
+
+    /// A number below `limit`, or 0 where that is 0.
+    pub(crate) fn below(&mut self, limit: u32) -> u32 {
+        self.number() % limit.max(1)
+    }
+}
+
+/// So many numbers below `limit`.
+pub(crate) fn random_numbers(
+    alloc: Global,
+    count: usize,
+    limit: u32,
+    seed: u64,
+) -> Result<Vec<u32>, Fault> {
+    let mut random = Random::new(seed);
+    let mut numbers = Vec::with_capacity(alloc, count)?;
+    for _ in 0..count {
+        numbers.push(random.below(limit))?;
+    }
+    Ok(numbers)
+}
+
+/// So many truth values, of which one in `limit` is false.
+pub(crate) fn random_bools(
+    alloc: Global,
+    count: usize,
+    limit: u32,
+    seed: u64,
+) -> Result<Vec<bool>, Fault> {
+    let mut random = Random::new(seed);
+    let mut bools = Vec::with_capacity(alloc, count)?;
+    for _ in 0..count {
+        bools.push(random.below(limit) != 0)?;
+    }
+    Ok(bools)
+}
+
+pub(crate) fn random_bits(
+    alloc: Global,
+    count: usize,
+    limit: u32,
+    seed: u64,
+) -> Result<BitBuffer, Fault> {
+    let bools = random_bools(alloc, count, limit, seed)?;
+    Ok(BitBuffer::from_bools(alloc, &bools)?)
+}
+
+/// The multiples of `step`, from 0 on.
+pub(crate) fn multiples(alloc: Global, count: usize, step: u32) -> Result<Vec<u32>, Fault> {
+    let mut numbers = Vec::with_capacity(alloc, count)?;
+    let mut number = 0u32;
+    for _ in 0..count {
+        numbers.push(number)?;
+        number = number.wrapping_add(step);
+    }
+    Ok(numbers)
+}
+
+pub(crate) fn number_array(alloc: Global, numbers: Vec<u32>) -> Result<ArrayRef, Fault> {
+    let buffer = Buffer::from_vec(alloc, numbers)?;
+    Ok(PrimitiveArray::try_new(alloc, buffer, Validity::NonNullable)?.into_array())
+}
+
+pub(crate) fn bool_array(alloc: Global, bits: BitBuffer) -> Result<ArrayRef, Fault> {
+    Ok(BoolArray::try_new(alloc, bits, Validity::NonNullable)?.into_array())
+}
+
+/// The lists of a list view.
+#[derive(Clone, Copy)]
+pub(crate) struct ListShape {
+    /// How many elements each list has.
+    pub(crate) size: u32,
+    /// Whether the lists lie one after another; else each lies anywhere.
+    pub(crate) in_order: bool,
+    /// Whether one row in ten is null.
+    pub(crate) some_null: bool,
+}
+
+/// A list view over four elements a row of the scale.
+pub(crate) fn list_view(
+    alloc: Global,
+    scale: Scale,
+    shape: ListShape,
+) -> Result<ListViewArray, Fault> {
+    let count = 4 * scale.rows();
+    let rows = count / shape.size.max(1) as usize;
+    let offsets = if shape.in_order {
+        multiples(alloc, rows, shape.size)?
+    } else {
+        let limit = (count as u32).saturating_sub(shape.size);
+        random_numbers(alloc, rows, limit, 2)?
+    };
+    let validity = if shape.some_null {
+        Validity::Array(bool_array(alloc, random_bits(alloc, rows, 10, 3)?)?)
+    } else {
+        Validity::NonNullable
+    };
+    let elements = number_array(alloc, random_numbers(alloc, count, u32::MAX, 1)?)?;
+    let offsets = number_array(alloc, offsets)?;
+    let sizes = number_array(alloc, vec![in alloc; shape.size; rows]?)?;
+    Ok(ListViewArray::try_new(alloc, elements, offsets, sizes, validity)?)
+}
+
+/// Values of bytes, one after another.
+#[derive(Drop)]
+pub(crate) struct Heap {
+    pub(crate) bytes: ByteBuffer,
+    pub(crate) lengths: Vec<u32>,
+}
+
+// Adds so many values' pairs of bytes: letters, or, in mixed text, at half of them one of Latin-1.
+fn push_pairs(
+    bytes: &mut Vec<u8>,
+    random: &mut Random,
+    pairs: u32,
+    mixed: bool,
+) -> Result<(), Fault> {
+    for _ in 0..pairs {
+        let number = random.number();
+        if mixed && number & 0x1000 == 0 {
+            bytes.push(0xC3)?;
+            bytes.push(0x80 + (number % 64) as u8)?;
+        } else {
+            bytes.push(b'a' + (number % 26) as u8)?;
+            bytes.push(b'a' + ((number >> 17) % 26) as u8)?;
+        }
+    }
+    Ok(())
+}
+
+/// So many values of 8 or 24 bytes of text, ASCII or mixed.
+pub(crate) fn text_heap(alloc: Global, rows: usize, mixed: bool) -> Result<Heap, Fault> {
+    let mut random = Random::new(4);
+    let mut bytes = Vec::new(alloc);
+    let mut lengths = Vec::with_capacity(alloc, rows)?;
+    for _ in 0..rows {
+        let length = if random.number() & 0x80 == 0 { 8 } else { 24 };
+        lengths.push(length)?;
+        push_pairs(&mut bytes, &mut random, length / 2, mixed)?;
+    }
+    let bytes = ByteBuffer::from_vec(alloc, bytes)?;
+    Ok(Heap { bytes, lengths })
+}
+
+/// Where each value begins, and the end of the last.
+pub(crate) fn offsets_of(alloc: Global, lengths: &[u32]) -> Result<Vec<u32>, Fault> {
+    let mut offsets = vec![in alloc; 0u32; 1]?;
+    let mut end = 0u32;
+    for length in lengths {
+        end = end.wrapping_add(*length);
+        offsets.push(end)?;
+    }
+    Ok(offsets)
+}

@@ -1,0 +1,75 @@
+// One operation, and how it is measured.
+
+use crate::data::Scale;
+use crate::fault::Fault;
+use std::alloc::Global;
+use std::time::Instant;
+
+/// An operation over data that is ready.
+pub(crate) trait Operation {
+    type Made: Drop;
+
+    /// Readies what a run uses up; it is not timed.
+    fn prepare(&mut self, _alloc: Global) -> Result<(), Fault> {
+        Ok(())
+    }
+
+    /// The operation: this alone is timed.
+    fn run(&mut self, alloc: Global) -> Result<Self::Made, Fault>;
+
+    /// A sum over what was made.
+    fn checksum(&self, made: Self::Made) -> Result<u64, Fault>;
+}
+
+/// What is printed.
+#[derive(Drop)]
+pub(crate) enum Report {
+    /// The checksum of one run.
+    Checksum,
+    /// Nanoseconds and checksum of each of some runs.
+    Times { runs: usize },
+}
+
+/// How operations are measured.
+#[derive(Drop)]
+pub(crate) struct Bench {
+    pub(crate) scale: Scale,
+    pub(crate) report: Report,
+}
+
+// Runs the operation once and prints its checksum.
+fn run_once<O: Operation>(rt: &HostRuntime, operation: &mut O) -> Result<(), Fault> {
+    operation.prepare(rt.alloc())?;
+    let made = operation.run(rt.alloc())?;
+    let checksum = operation.checksum(made)?;
+    println!(rt; "{checksum}")?;
+    Ok(())
+}
+
+// Runs the operation some times, and prints nanoseconds and checksum of each run.
+fn run_timed<O: Operation>(rt: &HostRuntime, operation: &mut O, runs: usize) -> Result<(), Fault> {
+    for _ in 0..runs {
+        operation.prepare(rt.alloc())?;
+        let start = Instant::now(rt)?;
+        let made = operation.run(rt.alloc())?;
+        let nanos = start.elapsed(rt)?.as_nanos();
+        let checksum = operation.checksum(made)?;
+        println!(rt; "{nanos} {checksum}")?;
+    }
+    Ok(())
+}
+
+impl Bench {
+    /// Measures an operation whose data is ready.
+    pub(crate) fn measure<O: Operation + Drop>(
+        &self,
+        rt: &HostRuntime,
+        operation: O,
+    ) -> Result<(), Fault> {
+        let mut operation = operation;
+        match self.report {
+            Report::Checksum => run_once(rt, &mut operation),
+            Report::Times { runs } => run_timed(rt, &mut operation, runs),
+        }
+    }
+}

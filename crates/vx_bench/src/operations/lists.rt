@@ -1,0 +1,194 @@
+// Operations on list views.
+
+use crate::checksum::Checksum;
+use crate::data::{
+    ListShape, Scale, bool_array, list_view, number_array, random_bits, random_numbers,
+};
+use crate::fault::Fault;
+use crate::operation::{Bench, Operation};
+use std::alloc::Global;
+use vx_lists::{ListViewArray, ListViewRebuildMode};
+use vx_tree::{ArrayRef, TypedArray, Validity};
+
+// Lists of four elements in a million rows, and the ways in which they lie.
+const IN_ORDER: ListShape = ListShape {
+    size: 4,
+    in_order: true,
+    some_null: false,
+};
+
+const AT_RANDOM: ListShape = ListShape {
+    size: 4,
+    in_order: false,
+    some_null: false,
+};
+
+// Rebuilding into the canonical layout of lists.
+#[derive(Drop)]
+struct Rebuild {
+    lists: ListViewArray,
+}
+
+impl Operation for Rebuild {
+    type Made = ListViewArray;
+
+    fn run(&mut self, alloc: Global) -> Result<ListViewArray, Fault> {
+        let mode = ListViewRebuildMode::MakeZeroCopyToList;
+        Ok(self.lists.rebuild(alloc, mode)?)
+    }
+
+    fn checksum(&self, made: ListViewArray) -> Result<u64, Fault> {
+        Ok(Checksum::new().with_list_view(&made).value())
+    }
+}
+
+// Taking rows of an array at indices of which each is any.
+#[derive(Drop)]
+struct Take {
+    array: ArrayRef,
+    indices: ArrayRef,
+}
+
+impl Operation for Take {
+    type Made = ArrayRef;
+
+    fn run(&mut self, alloc: Global) -> Result<ArrayRef, Fault> {
+        Ok(self.array.take(alloc, &self.indices)?)
+    }
+
+    fn checksum(&self, made: ArrayRef) -> Result<u64, Fault> {
+        match ListViewArray::try_from_array(made) {
+            Ok(lists) => Ok(Checksum::new().with_list_view(&lists).value()),
+            Err(array) => Ok(Checksum::new().with_array(&array).value()),
+        }
+    }
+}
+
+// Slices of 400 rows, many of them, each let go at once.
+#[derive(Drop)]
+struct Slice {
+    array: ArrayRef,
+    count: usize,
+}
+
+impl Operation for Slice {
+    type Made = u64;
+
+    fn run(&mut self, alloc: Global) -> Result<u64, Fault> {
+        let mut rows = 0u64;
+        for i in 0..self.count {
+            let start = i % 500;
+            let slice = self.array.slice(alloc, start..start + 400)?;
+            rows = rows.wrapping_add(slice.len() as u64);
+        }
+        Ok(rows)
+    }
+
+    fn checksum(&self, made: u64) -> Result<u64, Fault> {
+        Ok(made)
+    }
+}
+
+// The checks of the parts of a list view.
+#[derive(Drop)]
+struct TryNew {
+    lists: ListViewArray,
+}
+
+impl Operation for TryNew {
+    type Made = ListViewArray;
+
+    fn run(&mut self, alloc: Global) -> Result<ListViewArray, Fault> {
+        let elements = self.lists.elements().try_clone(alloc)?;
+        let offsets = self.lists.offsets().try_clone(alloc)?;
+        let sizes = self.lists.sizes().try_clone(alloc)?;
+        Ok(ListViewArray::try_new(alloc, elements, offsets, sizes, Validity::NonNullable)?)
+    }
+
+    fn checksum(&self, made: ListViewArray) -> Result<u64, Fault> {
+        Ok(made.len() as u64)
+    }
+}
+
+// Whether each list ends where the next one starts.
+#[derive(Drop)]
+struct IsConsecutive {
+    lists: ListViewArray,
+}
+
+impl Operation for IsConsecutive {
+    type Made = bool;
+
+    fn run(&mut self, _alloc: Global) -> Result<bool, Fault> {
+        Ok(self.lists.is_consecutive())
+    }
+
+    fn checksum(&self, made: bool) -> Result<u64, Fault> {
+        Ok(made as u64)
+    }
+}
+
+// The lists that an operation of rebuilding has.
+fn shape_of(name: &str) -> ListShape {
+    match name {
+        "rebuild_in_order" => IN_ORDER,
+        "rebuild_at_random" => AT_RANDOM,
+        "rebuild_in_order_null" => ListShape {
+            some_null: true,
+            ..IN_ORDER
+        },
+        "rebuild_at_random_null" => ListShape {
+            some_null: true,
+            ..AT_RANDOM
+        },
+        _ => ListShape {
+            size: 40,
+            ..IN_ORDER
+        },
+    }
+}
+
+/// Measures a rebuilding.
+pub(crate) fn measure_rebuild(rt: &HostRuntime, bench: &Bench, name: &str) -> Result<(), Fault> {
+    let lists = list_view(rt.alloc(), bench.scale, shape_of(name))?;
+    bench.measure(rt, Rebuild { lists })
+}
+
+// The array from which an operation takes.
+fn taken_array(alloc: Global, scale: Scale, name: &str) -> Result<ArrayRef, Fault> {
+    match name {
+        "take_numbers" => { number_array(alloc, random_numbers(alloc, scale.rows(), u32::MAX, 6)?) }
+        "take_bools" => bool_array(alloc, random_bits(alloc, scale.rows(), 2, 7)?),
+        _ => Ok(list_view(alloc, scale, AT_RANDOM)?.into_array()),
+    }
+}
+
+fn measure_take(rt: &HostRuntime, bench: &Bench, name: &str) -> Result<(), Fault> {
+    let alloc = rt.alloc();
+    let array = taken_array(alloc, bench.scale, name)?;
+    let rows = bench.scale.rows();
+    let indices = number_array(alloc, random_numbers(alloc, rows, rows as u32, 5)?)?;
+    bench.measure(rt, Take { array, indices })
+}
+
+/// Measures another operation on lists.
+pub(crate) fn measure(rt: &HostRuntime, bench: &Bench, name: &str) -> Result<(), Fault> {
+    let alloc = rt.alloc();
+    match name {
+        "take_numbers" | "take_bools" | "take_list_view" => measure_take(rt, bench, name),
+        "slice_list_view" => {
+            let array = list_view(alloc, bench.scale, AT_RANDOM)?.into_array();
+            let count = bench.scale.rows() / 10;
+            bench.measure(rt, Slice { array, count })
+        }
+        "list_view_try_new" => {
+            let lists = list_view(alloc, bench.scale, AT_RANDOM)?;
+            bench.measure(rt, TryNew { lists })
+        }
+        "is_consecutive" => {
+            let lists = list_view(alloc, bench.scale, IN_ORDER)?;
+            bench.measure(rt, IsConsecutive { lists })
+        }
+        _ => Err(Fault::Usage),
+    }
+}
