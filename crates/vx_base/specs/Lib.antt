@@ -8,6 +8,8 @@ pub mod Lends
 pub mod Refusals
 pub mod Rows
 pub mod Kinds
+pub mod SameKind
 pub mod DTypes
+pub mod SameDType
 pub mod Codes
 pub mod Scalars

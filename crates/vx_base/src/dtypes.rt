@@ -1,9 +1,12 @@
 // What the rows of an array are.
 
-ghost use Rattle.std.specs.Prelude.{◌≡◌, true, IfOk, IsOkUnless};
+ghost use Rattle.std.specs.Prelude.{◌≡◌, ◌↔◌, true, IsTrue, IfOk, IsOkUnless};
 ghost use Rattle.vx_base.specs.declared.errors.VortexError.TheVariants.{Memory};
-ghost use Rattle.vx_base.specs.Kinds.{is_nullable_kind, or_nullable, with_nullable, is_integers, is_plain_booleans, is_records, integer_type, records};
-ghost use Rattle.vx_base.specs.DTypes.{dtype_meaning, field_names, field_kinds, is_nullable};
+ghost use Rattle.vx_base.specs.Kinds.{is_nullable_kind, or_nullable, with_nullable, is_integers, is_plain_booleans, is_plain_integers, is_records, integer_type, Kind, booleans, texts, binaries, records};
+ghost use Rattle.vx_base.specs.SameKind.{kind_eq, kinds_eq};
+ghost use Rattle.vx_base.specs.SameDType.{dtype_eq, dtype_equiv};
+ghost use Rattle.std.specs.Cmp.{partial_equiv_from_equiv};
+ghost use Rattle.vx_base.specs.DTypes.{dtype_meaning, field_names, field_kinds, kinds_of, is_nullable};
 
 use crate::errors::VortexError;
 use crate::nullability::Nullability;
@@ -76,6 +79,17 @@ impl DType {
         match self {
             DType::Bool(nullability) => matches!(nullability, Nullability::NonNullable),
             DType::Primitive(_, _) | DType::Utf8(_) | DType::Binary(_) => false,
+            DType::List(_, _) | DType::FixedSizeList(_, _, _) | DType::Struct(_, _) => false,
+        }
+    }
+
+    /// Whether the rows are whole numbers and none may be null: the data type of offsets.
+    pub fn is_plain_int(&self) -> bool
+        ensures { result ≡ is_plain_integers (dtype_meaning self.now) }
+    {
+        match self {
+            DType::Primitive(_, nullability) => matches!(nullability, Nullability::NonNullable),
+            DType::Bool(_) | DType::Utf8(_) | DType::Binary(_) => false,
             DType::List(_, _) | DType::FixedSizeList(_, _, _) | DType::Struct(_, _) => false,
         }
     }
@@ -164,4 +178,112 @@ impl DType {
             }
         }
     }
+
+    // Whether the rows are truth values, of this nullability.
+    fn is_bool(&self, own: Nullability) -> bool
+        ensures { result ≡ kind_eq (booleans (is_nullable own)) (dtype_meaning self.now) }
+    {
+        match self {
+            DType::Bool(nullability) => own == *nullability,
+            DType::Primitive(_, _) | DType::Utf8(_) | DType::Binary(_) => false,
+            DType::List(_, _) | DType::FixedSizeList(_, _, _) | DType::Struct(_, _) => false,
+        }
+    }
+
+    // Whether the rows are texts, of this nullability.
+    fn is_utf8(&self, own: Nullability) -> bool
+        ensures { result ≡ kind_eq (texts (is_nullable own)) (dtype_meaning self.now) }
+    {
+        match self {
+            DType::Utf8(nullability) => own == *nullability,
+            DType::Bool(_) | DType::Primitive(_, _) | DType::Binary(_) => false,
+            DType::List(_, _) | DType::FixedSizeList(_, _, _) | DType::Struct(_, _) => false,
+        }
+    }
+
+    // Whether the rows are byte lists, of this nullability.
+    fn is_binary(&self, own: Nullability) -> bool
+        ensures { result ≡ kind_eq (binaries (is_nullable own)) (dtype_meaning self.now) }
+    {
+        match self {
+            DType::Binary(nullability) => own == *nullability,
+            DType::Bool(_) | DType::Primitive(_, _) | DType::Utf8(_) => false,
+            DType::List(_, _) | DType::FixedSizeList(_, _, _) | DType::Struct(_, _) => false,
+        }
+    }
+
+    // Whether both say the same.
+    #[cycle(same_dtype)]
+    fn same(&self, other: &DType) -> bool
+        ensures { result ≡ kind_eq (dtype_meaning self.now) (dtype_meaning other.now) }
+    {
+        match self {
+            DType::Bool(own) => other.is_bool(*own),
+            DType::Utf8(own) => other.is_utf8(*own),
+            DType::Binary(own) => other.is_binary(*own),
+            DType::Primitive(ptype, own) => match other {
+                DType::Primitive(other_ptype, nullability) => {
+                    own == nullability && ptype == other_ptype
+                }
+                DType::Bool(_) | DType::Utf8(_) | DType::Binary(_) => false,
+                DType::List(_, _) | DType::FixedSizeList(_, _, _) | DType::Struct(_, _) => false,
+            },
+            DType::List(items, own) => match other {
+                DType::List(other_items, nullability) => {
+                    own == nullability && items.same(other_items)
+                }
+                DType::Bool(_) | DType::Primitive(_, _) | DType::Utf8(_) => false,
+                DType::Binary(_) | DType::FixedSizeList(_, _, _) | DType::Struct(_, _) => false,
+            },
+            DType::FixedSizeList(items, size, own) => match other {
+                DType::FixedSizeList(other_items, other_size, nullability) => {
+                    own == nullability && size == other_size && items.same(other_items)
+                }
+                DType::Bool(_) | DType::Primitive(_, _) | DType::Utf8(_) => false,
+                DType::Binary(_) | DType::List(_, _) | DType::Struct(_, _) => false,
+            },
+            DType::Struct(fields, own) => match other {
+                DType::Struct(other_fields, nullability) => {
+                    own == nullability && fields.same(other_fields)
+                }
+                DType::Bool(_) | DType::Primitive(_, _) | DType::Utf8(_) => false,
+                DType::Binary(_) | DType::List(_, _) | DType::FixedSizeList(_, _, _) => false,
+            },
+        }
+    }
 }
+
+// Whether the data types are the same, one by one.
+#[cycle(same_dtype)]
+pub(crate) fn same_dtypes(dtypes: &[DType], others: &[DType]) -> bool
+    ensures { result ≡ kinds_eq (kinds_of dtypes.now) (kinds_of others.now) }
+{
+    if dtypes.len() != others.len() {
+        return false;
+    }
+    for i in 0..dtypes.len() {
+        if !dtypes[i].same(&others[i]) {
+            return false;
+        }
+    }
+    true
+}
+
+impl PartialEq for DType {
+    ghost eq = { dtype_eq };
+
+    ghost laws = { partial_equiv_from_equiv dtype_equiv };
+
+    fn eq(&self, other: &DType) -> bool {
+        self.same(other)
+    }
+}
+
+impl Eq for DType {
+    ghost laws = { dtype_equiv };
+}
+
+/// Two data types are equal exactly where they say the same kind of rows. It does nothing.
+pub fn equal_where_same_kind()
+    ensures { (a b : Kind) → IsTrue (kind_eq a b) ↔ (a ≡ b) }
+{}

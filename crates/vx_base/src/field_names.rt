@@ -1,7 +1,8 @@
 // The names of the fields of a record.
 
-ghost use Rattle.std.specs.Prelude.{◌≡◌, ◌<◌, List, length, map, slice_get, Some, IfOk, IsOkUnless};
-ghost use Rattle.std.specs.Borrow.{Bor};
+ghost use Rattle.std.specs.Prelude.{◌≡◌, ◌<◌, length, bytes_eq, map, slice_get, Some, IfOk, IsOkUnless};
+ghost use Rattle.std.specs.Cmp.{partial_equiv_from_equiv};
+ghost use Rattle.vx_base.specs.SameKind.{name_equiv};
 ghost use Rattle.vx_base.specs.declared.errors.VortexError.TheVariants.{Memory};
 
 use crate::buffer::Buffer;
@@ -49,6 +50,16 @@ impl FieldName {
     {
         let text = self.text.clone()?;
         Ok(FieldName { text })
+    }
+}
+
+impl PartialEq for FieldName {
+    ghost eq = { bytes_eq };
+
+    ghost laws = { partial_equiv_from_equiv name_equiv };
+
+    fn eq(&self, other: &FieldName) -> bool {
+        self.as_str() == other.as_str()
     }
 }
 

@@ -1,10 +1,12 @@
 // The fields of a record: their names and data types.
 
-ghost use Rattle.std.specs.Prelude.{◌≡◌, ◌<◌, length, IfOk, IsOkUnless};
+ghost use Rattle.std.specs.Prelude.{◌≡◌, ◌<◌, ◌&&◌, length, bytes_eq, IfOk, IsOkUnless};
 ghost use Rattle.vx_base.specs.DTypes.{dtype_meaning, field_names, field_kinds, kinds_of};
+ghost use Rattle.std.specs.Cmp.Lexicographic.{pointwise};
+ghost use Rattle.vx_base.specs.SameKind.{kinds_eq};
 ghost use Rattle.vx_base.specs.declared.errors.VortexError.TheVariants.{Memory};
 
-use crate::dtypes::DType;
+use crate::dtypes::{DType, same_dtypes};
 use crate::errors::VortexError;
 use crate::field_names::FieldNames;
 use std::alloc::Global;
@@ -40,6 +42,15 @@ impl StructFields {
         ensures { kinds_of result.now ≡ field_kinds self.now }
     {
         self.dtypes.as_slice()
+    }
+
+    // Whether both have the same names and data types.
+    #[cycle(same_dtype)]
+    pub(crate) fn same(&self, other: &StructFields) -> bool
+        ensures { result ≡ (pointwise bytes_eq (field_names self.now) (field_names other.now) && kinds_eq (field_kinds self.now) (field_kinds other.now)) }
+    {
+        self.names.as_slice() == other.names.as_slice()
+            && same_dtypes(self.dtypes.as_slice(), other.dtypes.as_slice())
     }
 
     /// The same fields, shared. Fails only for want of memory.

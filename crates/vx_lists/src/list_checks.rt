@@ -11,14 +11,14 @@ ghost use Rattle.vx_tree.specs.Tree.{list_view};
 ghost use Rattle.vx_lists.specs.ListViewFaults.{Names, list_row_fault, list_parts_fault, list_rows_fault, list_view_fault, total_fault};
 ghost use Rattle.vx_lists.specs.ListViews.{rebuilt_type};
 
-use vx_base::{DType, Nullability, PType, VortexError};
+use vx_base::{DType, PType, VortexError};
 use vx_tree::{ArrayRef, Validity};
 
 // Whether the rows are whole numbers and none may be null, as offsets and sizes are.
 fn is_count_type(dtype: &DType) -> bool
     ensures { result ≡ is_plain_integers (dtype_meaning dtype.now) }
 {
-    matches!(dtype, DType::Primitive(_, Nullability::NonNullable))
+    dtype.is_plain_int()
 }
 
 // Whether a validity array, where there is one, is one of plain booleans.
