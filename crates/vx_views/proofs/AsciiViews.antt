@@ -8,6 +8,7 @@ use Rattle.std.proofs.lemmas.List.{get_or-drop}
 use Rattle.std.proofs.lemmas.Nat.{and_block}
 use Rattle.std.proofs.lemmas.Str.{IsUtf8-from_ascii}
 use Rattle.vx_views.specs.Views.{view_size, held_value, IsView}
+use Rattle.vx_views.specs.declared.view.TheConstants.{MAX_INLINED_SIZE}
 
 -- the number that n bytes make, from one on, the first one lowest
 abbrev pub number_from : (ℕ → ℕ) → ℕ → ℕ → ℕ
@@ -50,7 +51,7 @@ take_ascii (suc n) (b ∷ bs) low zero = low 0 (omega arith)
 take_ascii (suc n) (b ∷ bs) low (suc k) = take_ascii n bs (λ j inside. low (suc j) (omega arith)) k
 
 -- a view without a high bit beyond its length holds a text
-pub held_ascii : (view : List ℕ) → IsView view → view_size view ≤ 12 → bit_and (from_le_bytes w128 view) 0x8080_8080_8080_8080_8080_8080_0000_0000 ≡ 0 → IsUtf8 (held_value view)
+pub held_ascii : (view : List ℕ) → IsView view → view_size view ≤ MAX_INLINED_SIZE → bit_and (from_le_bytes w128 view) 0x8080_8080_8080_8080_8080_8080_0000_0000 ≡ 0 → IsUtf8 (held_value view)
 held_ascii view formed inlined clear =
     let byte : ℕ → ℕ = λ k. get_or view k 0 in
     let parts : bit_and (number_from byte 4 12 * 2 ^ 32 + number_from byte 0 4) (number_from high_bit 4 12 * 2 ^ 32 + 0) ≡ bit_and (number_from byte 4 12) (number_from high_bit 4 12) * 2 ^ 32 + bit_and (number_from byte 0 4) 0 =

@@ -1,5 +1,5 @@
 -- Pieces one after another: the longest ones are ahead of all others.
-use Rattle.std.proofs.Common.{◌≡◌, ℕ, ◌+◌, ◌<◌, ◌≤◌, List, [], ◌∷◌, ◌++◌, length, take, sum, refl, ap, ⊎_elim, arith}
+use Rattle.std.proofs.Common.{◌≡◌, ℕ, ◌+◌, ◌<◌, ◌≤◌, List, [], ◌∷◌, ◌++◌, length, take, sum, min, refl, ap, ⊎_elim, arith}
 use Rattle.std.proofs.lemmas.Bool.{cases_lt}
 use Rattle.std.proofs.lemmas.List.{take-take}
 use Rattle.std.proofs.lemmas.List.Sums.{sum_by-take-le}
@@ -9,26 +9,22 @@ pub ArePieces-le : (limit : ℕ) (lens : List ℕ) (from : ℕ) (ends : List ℕ
 ArePieces-le limit lens from [] to pieces = omega arith
 ArePieces-le limit lens from (e ∷ es) to pieces = omega (arith, ArePieces-le limit lens e es to pieces.3)
 
--- the longest pieces from further on are no more than any pieces to the heap's end
-pub longest_ahead : (limit : ℕ) (lens : List ℕ) (ends others : List ℕ) (from start to : ℕ) → start ≤ from → to ≤ sum lens → ArePieces limit lens from ends to → AreLongest limit lens from ends → ArePieces limit lens start others (sum lens) → length ends ≤ length others
-longest_ahead limit lens [] others from start to h bound pieces longest other = omega arith
-longest_ahead limit lens (m ∷ ms) [] from start to h bound pieces longest other = absurd (omega (arith, ArePieces-le limit lens m ms to pieces.3))
-longest_ahead limit lens (m ∷ ms) (b ∷ bs) from start to h bound pieces longest other =
+-- the longest pieces from further on are no more than any pieces to the heap's end, and fewer where they stop before it
+longest_ahead_by : (limit : ℕ) (lens : List ℕ) (ends others : List ℕ) (from start to short : ℕ) → start ≤ from → to + short ≤ sum lens → ArePieces limit lens from ends to → AreLongest limit lens from ends → ArePieces limit lens start others (sum lens) → length ends + min 1 short ≤ length others
+longest_ahead_by limit lens [] [] from start to short h bound pieces longest other = omega arith
+longest_ahead_by limit lens [] (b ∷ bs) from start to short h bound pieces longest other = omega arith
+longest_ahead_by limit lens (m ∷ ms) [] from start to short h bound pieces longest other = absurd (omega (arith, ArePieces-le limit lens m ms to pieces.3))
+longest_ahead_by limit lens (m ∷ ms) (b ∷ bs) from start to short h bound pieces longest other =
     ⊎_elim
     (λ (lt : m < b). absurd (omega (arith, longest.0 b other.2 lt)))
-    (λ (ge : b ≤ m). omega (arith, longest_ahead limit lens ms bs m b to ge bound pieces.3 longest.1 other.3))
+    (λ (ge : b ≤ m). omega (arith, longest_ahead_by limit lens ms bs m b to short ge bound pieces.3 longest.1 other.3))
     (cases_lt m b)
 
--- and fewer where they stop before the heap's end
+pub longest_ahead : (limit : ℕ) (lens : List ℕ) (ends others : List ℕ) (from start to : ℕ) → start ≤ from → to ≤ sum lens → ArePieces limit lens from ends to → AreLongest limit lens from ends → ArePieces limit lens start others (sum lens) → length ends ≤ length others
+longest_ahead limit lens ends others from start to h bound pieces longest other = omega (arith, longest_ahead_by limit lens ends others from start to 0 h (omega arith) pieces longest other)
+
 pub longest_ahead_strictly : (limit : ℕ) (lens : List ℕ) (ends others : List ℕ) (from start to : ℕ) → start ≤ from → to < sum lens → ArePieces limit lens from ends to → AreLongest limit lens from ends → ArePieces limit lens start others (sum lens) → length ends < length others
-longest_ahead_strictly limit lens [] [] from start to h bound pieces longest other = absurd (omega arith)
-longest_ahead_strictly limit lens [] (b ∷ bs) from start to h bound pieces longest other = omega arith
-longest_ahead_strictly limit lens (m ∷ ms) [] from start to h bound pieces longest other = absurd (omega (arith, ArePieces-le limit lens m ms to pieces.3))
-longest_ahead_strictly limit lens (m ∷ ms) (b ∷ bs) from start to h bound pieces longest other =
-    ⊎_elim
-    (λ (lt : m < b). absurd (omega (arith, longest.0 b other.2 lt)))
-    (λ (ge : b ≤ m). omega (arith, longest_ahead_strictly limit lens ms bs m b to ge bound pieces.3 longest.1 other.3))
-    (cases_lt m b)
+longest_ahead_strictly limit lens ends others from start to h bound pieces longest other = omega (arith, longest_ahead_by limit lens ends others from start to 1 h (omega arith) pieces longest other)
 
 -- two lists of longest pieces to the heap's end are the same
 pub longest_same : (limit : ℕ) (lens : List ℕ) (ends others : List ℕ) (from start : ℕ) → from ≡ start → ArePieces limit lens from ends (sum lens) → AreLongest limit lens from ends → ArePieces limit lens start others (sum lens) → AreLongest limit lens start others → ends ≡ others

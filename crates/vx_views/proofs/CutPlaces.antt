@@ -5,6 +5,7 @@ use Rattle.std.proofs.lemmas.List.{get_or-append-add, take_all, drop-take, take-
 use Rattle.vx_views.specs.Cut.{ArePieces, IsMaximalCut}
 use Rattle.vx_views.specs.Views.{view_of, buffer_at}
 use Rattle.vx_views.specs.Places.{pieces_of, place_of, value_at, piece_of, offset_of, view_at, AreBuilt, ReadBack}
+use Rattle.vx_views.specs.declared.view.TheConstants.{MAX_INLINED_SIZE, MAX_BUFFER_LEN}
 use Rattle.vx_views.proofs.CutPieces.{ArePieces-le}
 use Rattle.vx_views.proofs.CutOpen.{IsOpen, sum_more, IsOpen-keep, IsOpen-close, IsMaximalCut-from_open, IsMaximalCut-from_open_push}
 use Rattle.std.proofs.lemmas.List.Sums.{sum_by-take-le, sum_by-cons}
@@ -254,15 +255,15 @@ IsSettled-at start limit heap lens ends k view whole pieces k_in w =
     let len = length-value_at heap lens k whole k_in in
     w.view_is
     ∙ ⊎_elim
-    (λ (long : 12 < length (value_at heap lens k)).
+    (λ (long : MAX_INLINED_SIZE < length (value_at heap lens k)).
     let s = w.stands (omega arith) in
     let piece : piece_of ends (place_of lens k) ≡ w.piece = piece_of-is limit lens 0 ends (sum lens) (sum (take k lens)) w.piece pieces s.piece_in (omega (arith, s.begins)) (omega (arith, s.within, sum_more lens k k_in)) in
     let offset : offset_of ends (place_of lens k) ≡ w.offset = omega (arith, s.begins, ap (λ j. get_or (0 ∷ ends) j 0) piece) in
     ap (λ j. view_of (value_at heap lens k) (start + j) w.offset) (sym piece) ∙ ap (view_of (value_at heap lens k) (start + piece_of ends (place_of lens k))) (sym offset))
-    (λ (short : length (value_at heap lens k) ≤ 12).
+    (λ (short : length (value_at heap lens k) ≤ MAX_INLINED_SIZE).
     view_of_short (value_at heap lens k) (start + w.piece) w.offset short
     ∙ sym (view_of_short (value_at heap lens k) (start + piece_of ends (place_of lens k)) (offset_of ends (place_of lens k)) short))
-    (cases_lt 12 (length (value_at heap lens k)))
+    (cases_lt MAX_INLINED_SIZE (length (value_at heap lens k)))
 
 piece_le : (limit : ℕ) (lens : List ℕ) (from : ℕ) (ends : List ℕ) (to j : ℕ) → ArePieces limit lens from ends to → j < length ends → (get_or ends j 0 ≤ get_or (from ∷ ends) j 0 + limit) × (get_or ends j 0 ≤ to)
 piece_le limit lens from [] to j pieces h = absurd (omega arith)
@@ -270,7 +271,7 @@ piece_le limit lens from (e ∷ es) to zero pieces h = (pieces.1, ArePieces-le l
 piece_le limit lens from (e ∷ es) to (suc j) pieces h = piece_le limit lens e es to j pieces.3 (omega arith)
 
 -- a value that stands in a piece is there for its view
-there_in : (start limit : ℕ) (heap lens ends : List ℕ) (k j offset : ℕ) → length heap ≡ sum lens → ArePieces limit lens 0 ends (sum lens) → limit < 2 ^ 31 → start + length ends ≤ 2 ^ 32 → k < length lens → StandsIn lens ends k j offset
+there_in : (start limit : ℕ) (heap lens ends : List ℕ) (k j offset : ℕ) → length heap ≡ sum lens → ArePieces limit lens 0 ends (sum lens) → limit ≤ MAX_BUFFER_LEN → start + length ends ≤ 2 ^ 32 → k < length lens → StandsIn lens ends k j offset
     → (before : List (List ℕ)) → length before ≡ start → IsThere (before ++ pieces_of heap 0 ends) (value_at heap lens k) (start + j) offset
 there_in start limit heap lens ends k j offset whole pieces small numbered k_in s before there =
     let len = length-value_at heap lens k whole k_in in
@@ -302,7 +303,7 @@ there_in start limit heap lens ends k j offset whole pieces small numbered k_in 
     }
 
 -- and its value is read
-IsSettled-reads : (start limit : ℕ) (heap lens ends : List ℕ) (k : ℕ) (view : List ℕ) → length heap ≡ sum lens → ArePieces limit lens 0 ends (sum lens) → limit < 2 ^ 31 → start + length ends ≤ 2 ^ 32 → k < length lens → IsSettled start heap lens ends k view
+IsSettled-reads : (start limit : ℕ) (heap lens ends : List ℕ) (k : ℕ) (view : List ℕ) → length heap ≡ sum lens → ArePieces limit lens 0 ends (sum lens) → limit ≤ MAX_BUFFER_LEN → start + length ends ≤ 2 ^ 32 → k < length lens → IsSettled start heap lens ends k view
     → (before : List (List ℕ)) → length before ≡ start → ReadsAs (before ++ pieces_of heap 0 ends) view (value_at heap lens k)
 IsSettled-reads start limit heap lens ends k view whole pieces small numbered k_in w before there =
     let len = length-value_at heap lens k whole k_in in
@@ -347,7 +348,7 @@ pub record AreDone (start limit : ℕ) (heap lens : List ℕ) (buffers views : L
   pub read_back : ReadBack start (value_at heap lens) buffers views
 
 AreDone-settled : (start limit : ℕ) (heap lens ends : List ℕ) (buffers views : List (List ℕ)) → IsMaximalCut limit lens ends → buffers ≡ pieces_of heap 0 ends → start + length ends ≤ 2 ^ 32 → length views ≡ length lens → ((k : ℕ) → k < length lens → IsSettled start heap lens ends k (get_or views k []))
-    → length heap ≡ sum lens → limit < 2 ^ 31 → AreDone start limit heap lens buffers views
+    → length heap ≡ sum lens → limit ≤ MAX_BUFFER_LEN → AreDone start limit heap lens buffers views
 AreDone-settled start limit heap lens ends buffers views maximal buffers_are numbered count settled whole small =
     let reads : (before : List (List ℕ)) (row : ℕ) → length before ≡ start → row < length lens → ReadsAs (before ++ buffers) (get_or views row []) (value_at heap lens row) =
     λ before row there row_in. subst (λ bs. ReadsAs (before ++ bs) (get_or views row []) (value_at heap lens row)) (sym buffers_are)
@@ -368,7 +369,7 @@ AreDone-settled start limit heap lens ends buffers views maximal buffers_are num
     }
 
 -- at the end the open piece is closed
-pub AreDone-close : (start limit : ℕ) (heap lens : List ℕ) (k : ℕ) (buffers views : List (List ℕ)) (number begin at : ℕ) → IsCutting start limit heap lens k buffers views number begin at → length lens ≡ k → length heap ≡ at → begin < at → number < 2 ^ 32 → limit < 2 ^ 31 → AreDone start limit heap lens (buffers ++ slice_range heap begin at ∷ []) views
+pub AreDone-close : (start limit : ℕ) (heap lens : List ℕ) (k : ℕ) (buffers views : List (List ℕ)) (number begin at : ℕ) → IsCutting start limit heap lens k buffers views number begin at → length lens ≡ k → length heap ≡ at → begin < at → number < 2 ^ 32 → limit ≤ MAX_BUFFER_LEN → AreDone start limit heap lens (buffers ++ slice_range heap begin at ∷ []) views
 AreDone-close start limit heap lens k buffers views number begin at w all whole rest numbered small =
     let at_is : at ≡ sum lens = w.at_is ∙ ap sum (take_all k lens (omega arith)) in
     let opened : IsOpen limit lens (length lens) w.ends begin = subst (λ n. IsOpen limit lens n w.ends begin) (sym all) w.opened in
@@ -381,7 +382,7 @@ AreDone-close start limit heap lens k buffers views number begin at w all whole 
     (omega arith) small
 
 -- or it is empty
-pub AreDone-empty : (start limit : ℕ) (heap lens : List ℕ) (k : ℕ) (buffers views : List (List ℕ)) (number begin at : ℕ) → IsCutting start limit heap lens k buffers views number begin at → length lens ≡ k → length heap ≡ at → at ≤ begin → number < 2 ^ 32 → limit < 2 ^ 31 → AreDone start limit heap lens buffers views
+pub AreDone-empty : (start limit : ℕ) (heap lens : List ℕ) (k : ℕ) (buffers views : List (List ℕ)) (number begin at : ℕ) → IsCutting start limit heap lens k buffers views number begin at → length lens ≡ k → length heap ≡ at → at ≤ begin → number < 2 ^ 32 → limit ≤ MAX_BUFFER_LEN → AreDone start limit heap lens buffers views
 AreDone-empty start limit heap lens k buffers views number begin at w all whole empty numbered small =
     let at_is : at ≡ sum lens = w.at_is ∙ ap sum (take_all k lens (omega arith)) in
     let opened : IsOpen limit lens (length lens) w.ends begin = subst (λ n. IsOpen limit lens n w.ends begin) (sym all) w.opened in

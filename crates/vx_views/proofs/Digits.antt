@@ -54,21 +54,18 @@ compare_digits (x ∷ xs) (y ∷ ys) h k e =
     subst_length : length xs ≡ length ys → number_of xs < 256 ^ length xs → number_of xs < 256 ^ length ys
     subst_length same small = rw (← same) small
 
-four_digits : (xs : List ℕ) → length xs ≡ 4 → from_be_bytes w32 xs ≡ number_of xs
-four_digits xs e = sum ∙ ap number_of (four_is xs e)
-  where
-    sum : from_be_bytes w32 xs ≡ number_of (four xs)
-    sum = omega arith
+-- words of as many bytes, given that each is the number of its bytes
+compare_numbers : (word : List ℕ → ℕ) (n : ℕ) → ((xs : List ℕ) → length xs ≡ n → word xs ≡ number_of xs) → (xs ys : List ℕ) → AreBytes xs → AreBytes ys → length xs ≡ n → length ys ≡ n → nat_cmp (word xs) (word ys) ≡ bytewise xs ys
+compare_numbers word n digits xs ys h k e f = ap (λ m. nat_cmp m (word ys)) (digits xs e) ∙ ap (nat_cmp (number_of xs)) (digits ys f) ∙ compare_digits xs ys h k (e ∙ sym f)
 
--- words of four and of eight bytes
-pub compare_four : (xs ys : List ℕ) → AreBytes xs → AreBytes ys → length xs ≡ 4 → length ys ≡ 4 → nat_cmp (from_be_bytes w32 xs) (from_be_bytes w32 ys) ≡ bytewise xs ys
-compare_four xs ys h k e f = ap (λ n. nat_cmp n (from_be_bytes w32 ys)) (four_digits xs e) ∙ ap (nat_cmp (number_of xs)) (four_digits ys f) ∙ compare_digits xs ys h k (e ∙ sym f)
+four_digits : (xs : List ℕ) → length xs ≡ 4 → from_be_bytes w32 xs ≡ number_of xs
+four_digits xs e = let sum : from_be_bytes w32 xs ≡ number_of (four xs) = omega arith in sum ∙ ap number_of (four_is xs e)
 
 eight_digits : (xs : List ℕ) → length xs ≡ 8 → from_be_bytes w64 xs ≡ number_of xs
-eight_digits xs e = sum ∙ ap number_of (eight_is xs e)
-  where
-    sum : from_be_bytes w64 xs ≡ number_of (eight xs)
-    sum = omega arith
+eight_digits xs e = let sum : from_be_bytes w64 xs ≡ number_of (eight xs) = omega arith in sum ∙ ap number_of (eight_is xs e)
+
+pub compare_four : (xs ys : List ℕ) → AreBytes xs → AreBytes ys → length xs ≡ 4 → length ys ≡ 4 → nat_cmp (from_be_bytes w32 xs) (from_be_bytes w32 ys) ≡ bytewise xs ys
+compare_four = compare_numbers (from_be_bytes w32) 4 four_digits
 
 pub compare_eight : (xs ys : List ℕ) → AreBytes xs → AreBytes ys → length xs ≡ 8 → length ys ≡ 8 → nat_cmp (from_be_bytes w64 xs) (from_be_bytes w64 ys) ≡ bytewise xs ys
-compare_eight xs ys h k e f = ap (λ n. nat_cmp n (from_be_bytes w64 ys)) (eight_digits xs e) ∙ ap (nat_cmp (number_of xs)) (eight_digits ys f) ∙ compare_digits xs ys h k (e ∙ sym f)
+compare_eight = compare_numbers (from_be_bytes w64) 8 eight_digits

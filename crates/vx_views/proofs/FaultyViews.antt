@@ -14,6 +14,7 @@ use Rattle.vx_views.proofs.FirstFaults.{or_else-second, or_else-none, first_faul
 use Rattle.vx_views.specs.Views.{view_size, view_prefix, view_block, view_offset, is_inline, buffer_at, view_value}
 use Rattle.vx_views.specs.Faulty.{place_fault, text_fault, view_fault, row_fault, views_fault}
 use Rattle.vx_views.specs.Sound.{IsSoundView, AreSoundViews}
+use Rattle.vx_views.specs.declared.view.TheConstants.{MAX_INLINED_SIZE}
 
 -- ---- text
 
@@ -131,8 +132,8 @@ view_fault-IsSoundView check_utf8 buffers view row = (to, from)
     to : view_fault check_utf8 buffers view row ≡ None → IsSoundView buffers check_utf8 view
     to none =
         let parts = or_else-none (cond (is_inline view) None (place_fault buffers view row)) (text_fault check_utf8 (view_value buffers view) row) none in
-        let placed : 12 < view_size view → IsPlaced buffers view =
-        λ refers. place_fault-IsPlaced buffers view row (none_spared (is_inline view) (place_fault buffers view row) parts.0 (lt-leb (view_size view) 12 refers)) in
+        let placed : MAX_INLINED_SIZE < view_size view → IsPlaced buffers view =
+        λ refers. place_fault-IsPlaced buffers view row (none_spared (is_inline view) (place_fault buffers view row) parts.0 (lt-leb (view_size view) MAX_INLINED_SIZE refers)) in
         record {
           resolves = λ refers. ((placed refers).there, (placed refers).end);
           begins = λ refers. (placed refers).begins;
@@ -143,7 +144,7 @@ view_fault-IsSoundView check_utf8 buffers view row = (to, from)
     from sound =
         or_else-second (cond (is_inline view) None (place_fault buffers view row)) (text_fault check_utf8 (view_value buffers view) row) None
         (spared_none (is_inline view) (place_fault buffers view row) (λ off.
-        let refers : 12 < view_size view = leb-false (view_size view) 12 off in
+        let refers : MAX_INLINED_SIZE < view_size view = leb-false (view_size view) MAX_INLINED_SIZE off in
         place_fault-none buffers view row (record { there = (sound.resolves refers).0; start = omega (arith, (sound.resolves refers).1); end = (sound.resolves refers).1; begins = sound.begins refers })))
         (elim (cases_Bool check_utf8) [ inl on ↦ text_fault_none check_utf8 (view_value buffers view) row (inr (sound.utf8 on)) | inr off ↦ text_fault_none check_utf8 (view_value buffers view) row (inl off) ])
 

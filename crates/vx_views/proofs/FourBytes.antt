@@ -7,23 +7,16 @@ abbrev pub four : List ℕ → List ℕ
 four xs = get_or xs 0 0 ∷ get_or xs 1 0 ∷ get_or xs 2 0 ∷ get_or xs 3 0 ∷ []
 
 pub four_is : (xs : List ℕ) → length xs ≡ 4 → four xs ≡ xs
-four_is [] e = absurd (omega arith)
-four_is (a ∷ []) e = absurd (omega arith)
-four_is (a ∷ b ∷ []) e = absurd (omega arith)
-four_is (a ∷ b ∷ c ∷ []) e = absurd (omega arith)
 four_is (a ∷ b ∷ c ∷ d ∷ []) e = refl
-four_is (a ∷ b ∷ c ∷ d ∷ f ∷ xs) e = absurd (omega arith)
+four_is _ e = absurd (omega arith)
 
 -- the first eight elements of a list
 abbrev pub eight : List ℕ → List ℕ
 eight xs = get_or xs 0 0 ∷ get_or xs 1 0 ∷ get_or xs 2 0 ∷ get_or xs 3 0 ∷ get_or xs 4 0 ∷ get_or xs 5 0 ∷ get_or xs 6 0 ∷ get_or xs 7 0 ∷ []
 
 pub eight_is : (xs : List ℕ) → length xs ≡ 8 → eight xs ≡ xs
-eight_is [] e = absurd (omega arith)
-eight_is (a ∷ []) e = absurd (omega arith)
-eight_is (a ∷ b ∷ []) e = absurd (omega arith)
-eight_is (a ∷ b ∷ c ∷ []) e = absurd (omega arith)
 eight_is (a ∷ b ∷ c ∷ d ∷ xs) e = ap (λ rest. a ∷ b ∷ c ∷ d ∷ rest) (four_is xs (omega arith))
+eight_is _ e = absurd (omega arith)
 
 pub bytes-append : (xs ys : List ℕ) → AreBytes xs → AreBytes ys → AreBytes (xs ++ ys)
 bytes-append [] ys h k i = k i

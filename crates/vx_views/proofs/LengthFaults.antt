@@ -1,14 +1,15 @@
 -- The first fault, found row by row.
-use Rattle.std.proofs.Common.{◌≡◌, ◌≢◌, ℕ, ℤ, pos, ◌+◌, ◌-◌, ◌<◌, ◌≤◌, true, false, IsTrue, List, length, take, sum, if◌then◌else◌, int_lt, nat_le, ◌==◌, Option, Some, None, IsSome, IfNone, IfSome, unsigned_abs, refl, sym, ◌∙◌, ap, arith}
+use Rattle.std.proofs.Common.{◌≡◌, ◌≢◌, ℕ, ℤ, pos, ◌+◌, ◌-◌, ◌<◌, ◌≤◌, Bool, true, false, IsTrue, List, [], ◌∷◌, length, map, get_or, take, sum, if◌then◌else◌, int_lt, nat_le, ◌==◌, Option, Some, None, IsSome, IfNone, IfSome, unsigned_abs, refl, sym, ◌∙◌, ap, arith}
 use Rattle.std.specs.Int.{is_negative}
 use Rattle.std.proofs.lemmas.Bool.{lt-leb}
 use Rattle.std.proofs.lemmas.Bool.Decides.{nat_tests}
+use Rattle.std.proofs.lemmas.List.{length-map}
 use Rattle.std.proofs.lemmas.List.Sums.{sum_by-take-le}
 use Rattle.vx_base.specs.Refusals.{first_fault, negative, value_too_long, lengths_not_exact, falling_offsets}
-use Rattle.vx_views.specs.BuildFaults.{number_at, lengths_of, negative_at, falling_at, too_long_at, sum_fault, first_negative, first_falling, first_too_long}
+use Rattle.vx_views.specs.BuildFaults.{number_at, last_offset, lengths_of, negative_at, falling_at, too_long_at, sum_fault, first_negative, first_falling, first_too_long}
 use Rattle.vx_views.proofs.CutOpen.{sum_more}
 use Rattle.vx_views.proofs.FirstFaults.{first_fault-here, first_fault-at, if-some}
-use Rattle.vx_views.proofs.NoFaults.{length_at, length-lengths_of}
+use Rattle.vx_views.proofs.NoFaults.{length_at, length-lengths_of, number_of_item}
 
 pub first_negative-here : (numbers : List ℤ) (k : ℕ) → first_fault (negative_at numbers) k ≡ None → IsTrue (is_negative (number_at numbers k)) → k < length numbers → first_negative numbers ≡ Some (negative k)
 first_negative-here numbers k before below h =
@@ -52,3 +53,18 @@ sum_next numbers k n is h =
 
 pub sum_next-le : (numbers : List ℤ) (k n : ℕ) → number_at numbers k ≡ pos n → k < length numbers → sum (take k (lengths_of numbers)) + n ≤ sum (lengths_of numbers)
 sum_next-le numbers k n is h = omega (arith, sum_next numbers k n is h, sum_by-take-le (λ (x : ℕ). x) (lengths_of numbers) (k + 1))
+
+-- a test on two items is the test on their integers
+pub falls-at : {X : Type 0} (value : X → ℤ) (items : List X) (row : ℕ) (x before : X) (z y : ℤ) (falls : Bool) → 0 < row → row < length items → x ≡ get_or items row x → before ≡ get_or items (row - 1) before → z ≡ value x → y ≡ value before → int_lt z y ≡ falls
+    → int_lt (number_at (map value items) row) (number_at (map value items) (row - 1)) ≡ falls
+falls-at value items row x before z y falls some h is_x is_before is_z is_y test =
+    ap (λ n. int_lt n (number_at (map value items) (row - 1))) (number_of_item value items row x z h is_x is_z)
+    ∙ ap (int_lt z) (number_of_item value items (row - 1) before y (omega arith) is_before is_y)
+    ∙ test
+
+-- the last of the offsets, read as a length
+pub last_offset-is : {X : Type 0} (value : X → ℤ) (items : List X) (x : X) (n : ℕ) (found : Option ℕ) → 0 < length items → x ≡ get_or items (length items - 1) x → found ≡ Some n → IfSome found (λ m. value x ≡ pos m) → last_offset (map value items) ≡ n
+last_offset-is value items x n found h is_x e some =
+    let long : length (map value items) ≡ length items = length-map items value in
+    let item : number_at (map value items) (length items - 1) ≡ value x = number_of_item value items (length items - 1) x (value x) (omega arith) is_x refl in
+    ap unsigned_abs (ap (λ k. number_at (map value items) (k - 1)) long ∙ item ∙ length_is (value x ∷ []) 0 n found e some)

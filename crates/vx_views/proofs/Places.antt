@@ -16,18 +16,18 @@ pub size_of_inlined : (value : List ℕ) → length value < 2 ^ 32 → view_size
 unfolding number_le inlined_view
 size_of_inlined value h = from_le_bytes-to_le_bytes_4 (length value) h
 
-pub rest_of_inlined : (value : List ℕ) → slice_range (inlined_view value) 4 16 ≡ padded 12 value
+pub rest_of_inlined : (value : List ℕ) → slice_range (inlined_view value) 4 16 ≡ padded MAX_INLINED_SIZE value
 unfolding inlined_view
-rest_of_inlined value = take_all 12 (padded 12 value) (omega (arith, length_padded 12 value))
+rest_of_inlined value = take_all 12 (padded MAX_INLINED_SIZE value) (omega (arith, length_padded MAX_INLINED_SIZE value))
 
-pub held_by_inlined : (value : List ℕ) → length value ≤ 12 → held_value (inlined_view value) ≡ value
+pub held_by_inlined : (value : List ℕ) → length value ≤ MAX_INLINED_SIZE → held_value (inlined_view value) ≡ value
 unfolding inlined_view
 held_by_inlined value h =
     let all : 4 + length value - 4 ≡ length value = omega arith in
-    ap (λ (n : ℕ). take (4 + n - 4) (padded 12 value)) (size_of_inlined value (omega arith)) ∙ ap (λ (n : ℕ). take n (padded 12 value)) all ∙ padded_value 12 value h
+    ap (λ (n : ℕ). take (4 + n - 4) (padded MAX_INLINED_SIZE value)) (size_of_inlined value (omega arith)) ∙ ap (λ (n : ℕ). take n (padded MAX_INLINED_SIZE value)) all ∙ padded_value MAX_INLINED_SIZE value h
 
 -- the value within what stands after the length
-pub held_of_rest : (view rest : List ℕ) (n : ℕ) → rest ≡ slice_range view 4 16 → n ≡ view_size view → n ≤ 12 → take n rest ≡ held_value view
+pub held_of_rest : (view rest : List ℕ) (n : ℕ) → rest ≡ slice_range view 4 16 → n ≡ view_size view → n ≤ MAX_INLINED_SIZE → take n rest ≡ held_value view
 held_of_rest view rest n e f h =
     ap (take n) e ∙ take-take n 12 (drop 4 view) h ∙ ap (λ (k : ℕ). take k (drop 4 view)) (omega arith)
 
@@ -44,15 +44,15 @@ unfolding number_le inlined_view
 inlined_again view z =
     let front : to_le_bytes w32 (view_size view) ≡ take 4 view =
     le_bytes_4 (take 4 view) (view_size view) (length-take-le 4 view (omega (arith, z.formed.sixteen))) (bytes-take 4 view z.formed.bytes) refl in
-    let rest : drop 4 view ≡ padded 12 (held_value view) = sym (take_all 12 (drop 4 view) (omega (arith, length-drop 4 view, z.formed.sixteen))) ∙ z.zeroes in
-    ap (λ (n : ℕ). to_le_bytes w32 n ++ padded 12 (held_value view)) (size_of_held view z)
-    ∙ ap (λ (bytes : List ℕ). bytes ++ padded 12 (held_value view)) front
+    let rest : drop 4 view ≡ padded MAX_INLINED_SIZE (held_value view) = sym (take_all 12 (drop 4 view) (omega (arith, length-drop 4 view, z.formed.sixteen))) ∙ z.zeroes in
+    ap (λ (n : ℕ). to_le_bytes w32 n ++ padded MAX_INLINED_SIZE (held_value view)) (size_of_held view z)
+    ∙ ap (λ (bytes : List ℕ). bytes ++ padded MAX_INLINED_SIZE (held_value view)) front
     ∙ ap (λ (bytes : List ℕ). take 4 view ++ bytes) (sym rest)
     ∙ take-append-drop 4 view
 
 pub prefix_of_inlined : (value : List ℕ) → view_prefix (inlined_view value) ≡ prefix_of value
 unfolding inlined_view
-prefix_of_inlined value = take_padded 4 12 value (omega arith)
+prefix_of_inlined value = take_padded 4 MAX_INLINED_SIZE value (omega arith)
 
 pub order_prefix_of_inlined : (value : List ℕ) → view_order_prefix (inlined_view value) ≡ order_prefix_of value
 unfolding view_order_prefix order_prefix_of
@@ -61,8 +61,8 @@ order_prefix_of_inlined value = ap (from_be_bytes w32) (prefix_of_inlined value)
 pub order_tail_of_inlined : (value : List ℕ) → view_order_tail (inlined_view value) ≡ order_tail_of value
 unfolding view_order_tail order_tail_of inlined_view
 order_tail_of_inlined value =
-    let rest : drop 4 (padded 12 value) ≡ padded 8 (drop 4 value) = drop_padded 4 8 12 value refl in
-    let whole : take 8 (drop 4 (padded 12 value)) ≡ padded 8 (drop 4 value) = ap (take 8) rest ∙ take_all 8 (padded 8 (drop 4 value)) (omega (arith, length_padded 8 (drop 4 value))) in
+    let rest : drop 4 (padded MAX_INLINED_SIZE value) ≡ padded 8 (drop 4 value) = drop_padded 4 8 MAX_INLINED_SIZE value refl in
+    let whole : take 8 (drop 4 (padded MAX_INLINED_SIZE value)) ≡ padded 8 (drop 4 value) = ap (take 8) rest ∙ take_all 8 (padded 8 (drop 4 value)) (omega (arith, length_padded 8 (drop 4 value))) in
     ap (from_be_bytes w64) whole
 
 within : (n : ℕ) → n ≤ 2 ^ 32 - 1 → n ≡ min n (2 ^ 32 - 1)
@@ -71,7 +71,7 @@ within n small = omega arith
 pub head_of_inlined : (value : List ℕ) → length value < 2 ^ 32 → view_head (inlined_view value) ≡ head_of value
 unfolding view_head head_of inlined_view
 head_of_inlined value h =
-    ap (λ (bytes : List ℕ). from_le_bytes w64 (to_le_bytes w32 (length value) ++ bytes)) (take_padded 4 12 value (omega arith))
+    ap (λ (bytes : List ℕ). from_le_bytes w64 (to_le_bytes w32 (length value) ++ bytes)) (take_padded 4 MAX_INLINED_SIZE value (omega arith))
     ∙ ap (λ (n : ℕ). from_le_bytes w64 (to_le_bytes w32 n ++ prefix_of value)) (within (length value) (omega arith))
 
 -- ---- a view that refers to its value
@@ -99,46 +99,46 @@ head_of_ref size block offset prefix e =
 
 -- ---- the view of a value
 
-pub view_of_short : (value : List ℕ) (block offset : ℕ) → length value ≤ 12 → view_of value block offset ≡ inlined_view value
-view_of_short value block offset h = ap (λ b. cond b (inlined_view value) (ref_view (length value) (take 4 value) block offset)) (le-leb (length value) 12 h)
+pub view_of_short : (value : List ℕ) (block offset : ℕ) → length value ≤ MAX_INLINED_SIZE → view_of value block offset ≡ inlined_view value
+view_of_short value block offset h = ap (λ b. cond b (inlined_view value) (ref_view (length value) (take 4 value) block offset)) (le-leb (length value) MAX_INLINED_SIZE h)
 
-pub view_of_long : (value : List ℕ) (block offset : ℕ) → 12 < length value → view_of value block offset ≡ ref_view (length value) (take 4 value) block offset
-view_of_long value block offset h = ap (λ b. cond b (inlined_view value) (ref_view (length value) (take 4 value) block offset)) (lt-leb (length value) 12 h)
+pub view_of_long : (value : List ℕ) (block offset : ℕ) → MAX_INLINED_SIZE < length value → view_of value block offset ≡ ref_view (length value) (take 4 value) block offset
+view_of_long value block offset h = ap (λ b. cond b (inlined_view value) (ref_view (length value) (take 4 value) block offset)) (lt-leb (length value) MAX_INLINED_SIZE h)
 
-long_prefix : (value : List ℕ) → 12 < length value → take 4 value ≡ prefix_of value
+long_prefix : (value : List ℕ) → MAX_INLINED_SIZE < length value → take 4 value ≡ prefix_of value
 unfolding padded
 long_prefix value h = sym (take-append-le 4 value (replicate 4 0) (omega arith))
 
-four_long : (value : List ℕ) → 12 < length value → length (take 4 value) ≡ 4
+four_long : (value : List ℕ) → MAX_INLINED_SIZE < length value → length (take 4 value) ≡ 4
 four_long value h = length-take-le 4 value (omega arith)
 
-head_of_long : (value : List ℕ) → 12 < length value → length value < 2 ^ 32 → from_le_bytes w64 (to_le_bytes w32 (length value) ++ take 4 value) ≡ head_of value
+head_of_long : (value : List ℕ) → MAX_INLINED_SIZE < length value → length value < 2 ^ 32 → from_le_bytes w64 (to_le_bytes w32 (length value) ++ take 4 value) ≡ head_of value
 unfolding head_of
 head_of_long value long h =
     ap (λ (bytes : List ℕ). from_le_bytes w64 (to_le_bytes w32 (length value) ++ bytes)) (long_prefix value long)
     ∙ ap (λ (n : ℕ). from_le_bytes w64 (to_le_bytes w32 n ++ prefix_of value)) (within (length value) (omega arith))
 
 pub size_of_view : (value : List ℕ) (block offset : ℕ) → length value < 2 ^ 32 → view_size (view_of value block offset) ≡ length value
-size_of_view value block offset h = by_length (cases_lt 12 (length value))
+size_of_view value block offset h = by_length (cases_lt MAX_INLINED_SIZE (length value))
   where
-    by_length : (12 < length value) ⊎ (length value ≤ 12) → view_size (view_of value block offset) ≡ length value
+    by_length : (MAX_INLINED_SIZE < length value) ⊎ (length value ≤ MAX_INLINED_SIZE) → view_size (view_of value block offset) ≡ length value
     by_length (inl long) = ap view_size (view_of_long value block offset long) ∙ size_of_ref (length value) block offset (take 4 value) (four_long value long) h
     by_length (inr short) = ap view_size (view_of_short value block offset short) ∙ size_of_inlined value h
 
 pub head_of_view : (value : List ℕ) (block offset : ℕ) → length value < 2 ^ 32 → view_head (view_of value block offset) ≡ head_of value
-head_of_view value block offset h = by_length (cases_lt 12 (length value))
+head_of_view value block offset h = by_length (cases_lt MAX_INLINED_SIZE (length value))
   where
-    by_length : (12 < length value) ⊎ (length value ≤ 12) → view_head (view_of value block offset) ≡ head_of value
+    by_length : (MAX_INLINED_SIZE < length value) ⊎ (length value ≤ MAX_INLINED_SIZE) → view_head (view_of value block offset) ≡ head_of value
     by_length (inl long) = ap view_head (view_of_long value block offset long) ∙ head_of_ref (length value) block offset (take 4 value) (four_long value long) ∙ head_of_long value long h
     by_length (inr short) = ap view_head (view_of_short value block offset short) ∙ head_of_inlined value h
 
 -- ---- reading back
 
-pub value_of_inlined : (buffers : List (List ℕ)) (view : List ℕ) → view_size view ≤ 12 → view_value buffers view ≡ held_value view
-value_of_inlined buffers view h = ap (λ b. cond b (held_value view) (slice_range (buffer_at buffers (view_block view)) (view_offset view) (view_offset view + view_size view))) (le-leb (view_size view) 12 h)
+pub value_of_inlined : (buffers : List (List ℕ)) (view : List ℕ) → view_size view ≤ MAX_INLINED_SIZE → view_value buffers view ≡ held_value view
+value_of_inlined buffers view h = ap (λ b. cond b (held_value view) (slice_range (buffer_at buffers (view_block view)) (view_offset view) (view_offset view + view_size view))) (le-leb (view_size view) MAX_INLINED_SIZE h)
 
-pub value_of_ref : (buffers : List (List ℕ)) (view : List ℕ) → 12 < view_size view → view_value buffers view ≡ slice_range (buffer_at buffers (view_block view)) (view_offset view) (view_offset view + view_size view)
-value_of_ref buffers view h = ap (λ b. cond b (held_value view) (slice_range (buffer_at buffers (view_block view)) (view_offset view) (view_offset view + view_size view))) (lt-leb (view_size view) 12 h)
+pub value_of_ref : (buffers : List (List ℕ)) (view : List ℕ) → MAX_INLINED_SIZE < view_size view → view_value buffers view ≡ slice_range (buffer_at buffers (view_block view)) (view_offset view) (view_offset view + view_size view)
+value_of_ref buffers view h = ap (λ b. cond b (held_value view) (slice_range (buffer_at buffers (view_block view)) (view_offset view) (view_offset view + view_size view))) (lt-leb (view_size view) MAX_INLINED_SIZE h)
 
 -- the parts of the view of a long value
 pub record RefParts (view : List ℕ) (size block offset : ℕ) : Type 0 where
@@ -146,7 +146,7 @@ pub record RefParts (view : List ℕ) (size block offset : ℕ) : Type 0 where
   pub its_block : view_block view ≡ block
   pub its_offset : view_offset view ≡ offset
 
-pub parts_of_long : (value : List ℕ) (block offset : ℕ) → 12 < length value → length value < 2 ^ 32 → block < 2 ^ 32 → offset < 2 ^ 32
+pub parts_of_long : (value : List ℕ) (block offset : ℕ) → MAX_INLINED_SIZE < length value → length value < 2 ^ 32 → block < 2 ^ 32 → offset < 2 ^ 32
     → RefParts (view_of value block offset) (length value) block offset
 parts_of_long value block offset long h k l =
     subst {A = List ℕ} (λ view. RefParts view (length value) block offset) (sym (view_of_long value block offset long))
@@ -209,9 +209,9 @@ view_reads_back buffers value block offset h k l stands =
 -- ---- words of the view of a value
 
 pub prefix_of_view : (value : List ℕ) (block offset : ℕ) → view_prefix (view_of value block offset) ≡ prefix_of value
-prefix_of_view value block offset = by_length (cases_lt 12 (length value))
+prefix_of_view value block offset = by_length (cases_lt MAX_INLINED_SIZE (length value))
   where
-    by_length : (12 < length value) ⊎ (length value ≤ 12) → view_prefix (view_of value block offset) ≡ prefix_of value
+    by_length : (MAX_INLINED_SIZE < length value) ⊎ (length value ≤ MAX_INLINED_SIZE) → view_prefix (view_of value block offset) ≡ prefix_of value
     by_length (inl long) =
         ap view_prefix (view_of_long value block offset long) ∙ prefix_of_ref (length value) block offset (take 4 value) (four_long value long) ∙ long_prefix value long
     by_length (inr short) = ap view_prefix (view_of_short value block offset short) ∙ prefix_of_inlined value
@@ -220,7 +220,7 @@ pub order_prefix_of_view : (value : List ℕ) (block offset : ℕ) → view_orde
 unfolding view_order_prefix order_prefix_of
 order_prefix_of_view value block offset = ap (from_be_bytes w32) (prefix_of_view value block offset)
 
-pub order_tail_of_view : (value : List ℕ) (block offset : ℕ) → length value ≤ 12 → view_order_tail (view_of value block offset) ≡ order_tail_of value
+pub order_tail_of_view : (value : List ℕ) (block offset : ℕ) → length value ≤ MAX_INLINED_SIZE → view_order_tail (view_of value block offset) ≡ order_tail_of value
 order_tail_of_view value block offset short = ap view_order_tail (view_of_short value block offset short) ∙ order_tail_of_inlined value
 
 -- ---- zeroes after the value
@@ -235,15 +235,15 @@ bytes_of_size n (suc (suc (suc (suc i)))) = omega arith
 formed_inlined : (value : List ℕ) → AreBytes value → IsView (inlined_view value)
 unfolding inlined_view
 formed_inlined value h = record {
-  sixteen = omega (arith, length_padded 12 value);
-  bytes = bytes-append (to_le_bytes w32 (length value)) (padded 12 value) (bytes_of_size (length value)) (bytes-padded 12 value h);
+  sixteen = omega (arith, length_padded MAX_INLINED_SIZE value);
+  bytes = bytes-append (to_le_bytes w32 (length value)) (padded MAX_INLINED_SIZE value) (bytes_of_size (length value)) (bytes-padded MAX_INLINED_SIZE value h);
 }
 
-pub padded_view : (value : List ℕ) (block offset : ℕ) → AreBytes value → length value ≤ 12 → IsZeroPadded (view_of value block offset)
+pub padded_view : (value : List ℕ) (block offset : ℕ) → AreBytes value → length value ≤ MAX_INLINED_SIZE → IsZeroPadded (view_of value block offset)
 padded_view value block offset h short =
     subst {A = List ℕ} IsZeroPadded (sym (view_of_short value block offset short))
     (record {
       formed = formed_inlined value h;
       inlined = omega (arith, size_of_inlined value (omega arith));
-      zeroes = rest_of_inlined value ∙ ap (padded 12) (sym (held_by_inlined value short));
+      zeroes = rest_of_inlined value ∙ ap (padded MAX_INLINED_SIZE) (sym (held_by_inlined value short));
     })

@@ -5,6 +5,7 @@ use Rattle.std.proofs.lemmas.List.{length-take-le}
 use Rattle.std.specs.Int.{w32, from_le_bytes}
 use Rattle.vx_base.proofs.NumberBytes.{below_4}
 use Rattle.vx_views.specs.Views.{AreBytes, IsView, Resolves, number_le, view_size, view_block, view_offset, view_value, buffer_at, held_value}
+use Rattle.vx_views.specs.declared.view.TheConstants.{MAX_INLINED_SIZE}
 use Rattle.vx_views.proofs.Padding.{bytes-take, bytes-drop}
 use Rattle.vx_views.proofs.Places.{value_of_inlined, value_of_ref, bytes_of_held}
 
@@ -20,9 +21,9 @@ part-le bytes from size = omega (arith, length-take (from + size - from) (drop f
 value-le : (buffers : List (List ℕ)) (view : List ℕ) → length (view_value buffers view) ≤ view_size view
 value-le buffers view =
     ⊎_elim
-    (λ (long : 12 < view_size view). rw (value_of_ref buffers view long) (part-le (buffer_at buffers (view_block view)) (view_offset view) (view_size view)))
-    (λ (short : view_size view ≤ 12). rw (value_of_inlined buffers view short) (part-le view 4 (view_size view)))
-    (cases_lt 12 (view_size view))
+    (λ (long : MAX_INLINED_SIZE < view_size view). rw (value_of_ref buffers view long) (part-le (buffer_at buffers (view_block view)) (view_offset view) (view_size view)))
+    (λ (short : view_size view ≤ MAX_INLINED_SIZE). rw (value_of_inlined buffers view short) (part-le view 4 (view_size view)))
+    (cases_lt MAX_INLINED_SIZE (view_size view))
 
 pub value-short : (buffers : List (List ℕ)) (view : List ℕ) → IsView view → length (view_value buffers view) < 2 ^ 32
 value-short buffers view formed = omega (arith, value-le buffers view, size-short view formed)
@@ -34,14 +35,14 @@ part-length bytes from size h = omega (arith, length-take (from + size - from) (
 pub value-length : (buffers : List (List ℕ)) (view : List ℕ) → IsView view → Resolves buffers view → length (view_value buffers view) ≡ view_size view
 value-length buffers view formed resolves =
     ⊎_elim
-    (λ (long : 12 < view_size view). rw (value_of_ref buffers view long) (part-length (buffer_at buffers (view_block view)) (view_offset view) (view_size view) (resolves long).1))
-    (λ (short : view_size view ≤ 12). rw (value_of_inlined buffers view short) (part-length view 4 (view_size view) (omega (arith, formed.sixteen))))
-    (cases_lt 12 (view_size view))
+    (λ (long : MAX_INLINED_SIZE < view_size view). rw (value_of_ref buffers view long) (part-length (buffer_at buffers (view_block view)) (view_offset view) (view_size view) (resolves long).1))
+    (λ (short : view_size view ≤ MAX_INLINED_SIZE). rw (value_of_inlined buffers view short) (part-length view 4 (view_size view) (omega (arith, formed.sixteen))))
+    (cases_lt MAX_INLINED_SIZE (view_size view))
 
 pub value-bytes : (buffers : List (List ℕ)) (view : List ℕ) → IsView view → ((block : ℕ) → AreBytes (get_or buffers block [])) → AreBytes (view_value buffers view)
 value-bytes buffers view formed bytes =
     ⊎_elim
-    (λ (long : 12 < view_size view). rw (value_of_ref buffers view long) (bytes-take (view_offset view + view_size view - view_offset view) (drop (view_offset view) (buffer_at buffers (view_block view)))
+    (λ (long : MAX_INLINED_SIZE < view_size view). rw (value_of_ref buffers view long) (bytes-take (view_offset view + view_size view - view_offset view) (drop (view_offset view) (buffer_at buffers (view_block view)))
     (bytes-drop (view_offset view) (buffer_at buffers (view_block view)) (bytes (view_block view)))))
-    (λ (short : view_size view ≤ 12). rw (value_of_inlined buffers view short) (bytes_of_held view formed))
-    (cases_lt 12 (view_size view))
+    (λ (short : view_size view ≤ MAX_INLINED_SIZE). rw (value_of_inlined buffers view short) (bytes_of_held view formed))
+    (cases_lt MAX_INLINED_SIZE (view_size view))

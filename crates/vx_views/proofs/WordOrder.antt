@@ -6,6 +6,7 @@ use Rattle.std.specs.Cmp.{nat_cmp_is}
 use Rattle.std.proofs.lemmas.List.{take-append-drop}
 use Rattle.vx_views.specs.Order.{bytewise, by_words}
 use Rattle.vx_views.specs.Views.{view_value, padded, inlined_view, held_value, AreBytes, IsZeroPadded, order_prefix_of, order_tail_of}
+use Rattle.vx_views.specs.declared.view.TheConstants.{MAX_INLINED_SIZE}
 use Rattle.vx_views.proofs.Bytewise.{then_assoc, bytewise-append, padded_order, lower_front}
 use Rattle.vx_views.proofs.Digits.{compare_four, compare_eight}
 use Rattle.vx_views.proofs.Padding.{length_padded, take_padded, drop_padded, bytes-padded, bytes-drop}
@@ -22,19 +23,19 @@ compare_tails a b h k =
     (length_padded 8 (drop 4 a)) (length_padded 8 (drop 4 b))
 
 -- twelve bytes are the four of the prefix and the eight of the tail
-two_words : (v : List ℕ) → padded 4 v ++ padded 8 (drop 4 v) ≡ padded 12 v
+two_words : (v : List ℕ) → padded 4 v ++ padded 8 (drop 4 v) ≡ padded MAX_INLINED_SIZE v
 two_words v =
-    ap (λ (front : List ℕ). front ++ padded 8 (drop 4 v)) (sym (take_padded 4 12 v (omega arith)))
-    ∙ ap (λ (rest : List ℕ). take 4 (padded 12 v) ++ rest) (sym (drop_padded 4 8 12 v refl))
-    ∙ take-append-drop 4 (padded 12 v)
+    ap (λ (front : List ℕ). front ++ padded 8 (drop 4 v)) (sym (take_padded 4 MAX_INLINED_SIZE v (omega arith)))
+    ∙ ap (λ (rest : List ℕ). take 4 (padded MAX_INLINED_SIZE v) ++ rest) (sym (drop_padded 4 8 MAX_INLINED_SIZE v refl))
+    ∙ take-append-drop 4 (padded MAX_INLINED_SIZE v)
 
-both_words : (a b : List ℕ) → bytewise (padded 12 a) (padded 12 b) ≡ ordering_then (bytewise (padded 4 a) (padded 4 b)) (bytewise (padded 8 (drop 4 a)) (padded 8 (drop 4 b)))
+both_words : (a b : List ℕ) → bytewise (padded MAX_INLINED_SIZE a) (padded MAX_INLINED_SIZE b) ≡ ordering_then (bytewise (padded 4 a) (padded 4 b)) (bytewise (padded 8 (drop 4 a)) (padded 8 (drop 4 b)))
 both_words a b =
-    ap (λ v. bytewise v (padded 12 b)) (sym (two_words a)) ∙ ap (bytewise (padded 4 a ++ padded 8 (drop 4 a))) (sym (two_words b))
+    ap (λ v. bytewise v (padded MAX_INLINED_SIZE b)) (sym (two_words a)) ∙ ap (bytewise (padded 4 a ++ padded 8 (drop 4 a))) (sym (two_words b))
     ∙ bytewise-append (padded 4 a) (padded 4 b) (padded 8 (drop 4 a)) (padded 8 (drop 4 b)) (length_padded 4 a ∙ sym (length_padded 4 b))
 
 -- the prefix, then the tail, then the length, of two values of at most 12 bytes
-compare_words : (a b : List ℕ) → AreBytes a → AreBytes b → length a ≤ 12 → length b ≤ 12
+compare_words : (a b : List ℕ) → AreBytes a → AreBytes b → length a ≤ MAX_INLINED_SIZE → length b ≤ MAX_INLINED_SIZE
     → ordering_then (nat_cmp (order_prefix_of a) (order_prefix_of b)) (ordering_then (nat_cmp (order_tail_of a) (order_tail_of b)) (nat_cmp (length a) (length b)))
     ≡ bytewise a b
 compare_words a b h k few less =
@@ -42,9 +43,9 @@ compare_words a b h k few less =
     ∙ ap (λ o. ordering_then (bytewise (padded 4 a) (padded 4 b)) (ordering_then o (nat_cmp (length a) (length b)))) (compare_tails a b h k)
     ∙ sym (then_assoc (bytewise (padded 4 a) (padded 4 b)) (bytewise (padded 8 (drop 4 a)) (padded 8 (drop 4 b))) (nat_cmp (length a) (length b)))
     ∙ ap (λ o. ordering_then o (nat_cmp (length a) (length b))) (sym (both_words a b))
-    ∙ padded_order 12 a b few less
+    ∙ padded_order MAX_INLINED_SIZE a b few less
 
-words_of_inlined : (a b : List ℕ) → length a ≤ 12 → length b ≤ 12 → by_words (inlined_view a) (inlined_view b)
+words_of_inlined : (a b : List ℕ) → length a ≤ MAX_INLINED_SIZE → length b ≤ MAX_INLINED_SIZE → by_words (inlined_view a) (inlined_view b)
     ≡ ordering_then (nat_cmp (order_prefix_of a) (order_prefix_of b)) (ordering_then (nat_cmp (order_tail_of a) (order_tail_of b)) (nat_cmp (length a) (length b)))
 words_of_inlined a b few less i =
     ordering_then (nat_cmp (order_prefix_of_inlined a i) (order_prefix_of_inlined b i))
@@ -58,10 +59,10 @@ words_order buffers others v w z y =
     ∙ compare_words (held_value v) (held_value w) (bytes_of_held v z.formed) (bytes_of_held w y.formed) few less
     ∙ ap (λ value. bytewise value (held_value w)) (sym (value_of_inlined buffers v z.inlined)) ∙ ap (bytewise (view_value buffers v)) (sym (value_of_inlined others w y.inlined))
   where
-    few : length (held_value v) ≤ 12
+    few : length (held_value v) ≤ MAX_INLINED_SIZE
     few = omega (arith, size_of_held v z, z.inlined)
 
-    less : length (held_value w) ≤ 12
+    less : length (held_value w) ≤ MAX_INLINED_SIZE
     less = omega (arith, size_of_held w y, y.inlined)
 
 -- the lower of two unequal order prefixes belongs to the smaller value

@@ -54,7 +54,7 @@ pub fn difference<P: NativePType>(offsets: &[P], row: usize) -> i128
         number_at (map P.value offsets.now) row ≤ℤ number_at (map P.value offsets.now) (row + 1) →
         Holds P.PTYPE result }
 {
-    let _len = offsets.len();
+    prove!(row < offsets.len());
     let offset = offsets[row].as_i128();
     let next = offsets[row + 1].as_i128();
     next - offset

@@ -1,4 +1,4 @@
-//! Views of 16 bytes: a value of at most 12 bytes, or where a longer one stands.
+//! Views of 16 bytes: a value of at most `MAX_INLINED_SIZE` bytes, or where a longer one stands.
 
 ghost use Rattle.std.specs.Prelude.{◌≡◌, ◌+◌, ◌^◌, ◌<◌, ◌≤◌, ◌==◌, ◌++◌, ℕ, [], ◌∷◌, IsTrue, ◌↔◌, length, map, slice_range, take, T};
 ghost use Rattle.std.specs.Int.{w128, from_le_bytes, to_le_bytes};
@@ -9,7 +9,7 @@ use std::fmt;
 use std::hash::{Hash, Hasher};
 use std::marker::Model;
 
-/// The greatest length of a value that stands in its view.
+/// The greatest length of a value that stands in its view, 12.
 pub const MAX_INLINED_SIZE: usize = 12;
 
 /// The greatest length of a buffer that views refer to.
@@ -89,7 +89,7 @@ impl BinaryView {
         let size = value.len() as u32;
         let mut bytes = [0; 16];
         bytes[..4].copy_from_slice(&size.to_le_bytes());
-        bytes[4..16].copy_from_slice(&padded::<12>(value));
+        bytes[4..16].copy_from_slice(&padded::<MAX_INLINED_SIZE>(value));
         BinaryView { bytes }
     }
 

@@ -1,18 +1,18 @@
 //! The two forms of a view, taken apart: a value that it holds, or where the value stands.
 
 ghost use Rattle.std.specs.Prelude.{◌≡◌, ◌+◌, ◌<◌, ◌≤◌, slice_range, take};
-ghost use Rattle.vx_views.specs.declared.view.TheConstants.{MAX_INLINED_SIZE};
 
+use crate::view::MAX_INLINED_SIZE;
 use std::ops::Range;
 
 /// A view that holds its value.
 #[derive(Clone, Copy, Debug, PartialEq, Eq)]
 pub struct Inlined {
-    /// How many bytes the value has, at most 12.
+    /// How many bytes the value has, at most `MAX_INLINED_SIZE`.
     pub size: u32,
 
     /// The value, and zeroes after it.
-    pub bytes: [u8; 12],
+    pub bytes: [u8; MAX_INLINED_SIZE],
 }
 
 impl Inlined {
@@ -28,7 +28,7 @@ impl Inlined {
 /// A view that refers to its value, in a buffer outside.
 #[derive(Clone, Copy, Debug)]
 pub struct Ref {
-    /// How many bytes the value has, more than 12.
+    /// How many bytes the value has, more than `MAX_INLINED_SIZE`.
     pub size: u32,
 
     /// The value's first four bytes.

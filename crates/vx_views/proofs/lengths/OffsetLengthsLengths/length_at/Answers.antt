@@ -9,18 +9,14 @@ use Rattle.vx_views.proofs.lengths.OffsetLengthsLengths.length_at.Goals as goal
 pub difference-requires : goal.difference-requires
 difference-requires g c = omega (arith, length_differences (map g.P.Number.value c.args.self.now.0.now), length-map c.args.self.now.0.now g.P.Number.value)
 
-pub returns-clause-negative : goal.returns-clause-negative
-returns-clause-negative g c =
+pub returns : goal.returns
+returns g c =
     let offsets = map g.P.Number.value c.args.self.now.0.now in
     let row_in : c.args.row + 1 < length offsets = omega (arith, length_differences offsets) in
     let is : c.difference.result ≡ number_at (differences offsets) c.args.row = c.difference.ensures.value ∙ sym (number_at_differences offsets c.args.row row_in) in
     let wide : FitsSigned w128 c.difference.result = search rules in
-    subst (λ z. IfNone c.as_length.result (IsTrue (is_negative z))) (wide-cast c.difference.result wide ∙ is) c.as_length.ensures.negative
-
-pub returns-clause-length : goal.returns-clause-length
-returns-clause-length g c =
-    let offsets = map g.P.Number.value c.args.self.now.0.now in
-    let row_in : c.args.row + 1 < length offsets = omega (arith, length_differences offsets) in
-    let is : c.difference.result ≡ number_at (differences offsets) c.args.row = c.difference.ensures.value ∙ sym (number_at_differences offsets c.args.row row_in) in
-    let wide : FitsSigned w128 c.difference.result = search rules in
-    subst (λ z. IfSome c.as_length.result (λ n. z ≡ pos n)) (wide-cast c.difference.result wide ∙ is) c.as_length.ensures.length
+    let same = wide-cast c.difference.result wide ∙ is in
+    record {
+      negative = subst (λ z. IfNone c.as_length.result (IsTrue (is_negative z))) same c.as_length.ensures.negative;
+      length = subst (λ z. IfSome c.as_length.result (λ n. z ≡ pos n)) same c.as_length.ensures.length;
+    }
