@@ -4,7 +4,7 @@ use Rattle.std.specs.Int.{bit_at}
 use Rattle.std.proofs.lemmas.Bool.{cases_lt}
 use Rattle.std.proofs.lemmas.Nat.Bits.{bit_at-zero}
 use Rattle.std.proofs.lemmas.List.{get_or-set_same, get_or-set_other, same_lists, get_or_append_left, get_or-append_right, get_or-replicate, get_or-take, get_or-drop, length-append, length-take-le, length-replicate, length-drop}
-use Rattle.vx_base.specs.Bits.{bit_of, unpacked, Filled}
+use Rattle.vx_base.specs.Bits.{bit_of, byte_like, unpacked, Filled}
 use Rattle.vx_base.proofs.PackedBits.{get_unpacked, length_unpacked}
 
 pub filled_none : (bs : List ℕ) (start : ℕ) (value : Bool) → Filled bs bs start start value
@@ -32,11 +32,6 @@ filled_join old mid new start at end value le within f g = (
   λ k h. g.1 k (omega arith) ∙ f.1 k h,
   λ k h. g.2 k h ∙ f.2 k (omega arith),
 )
-
--- a byte of equal bits
-abbrev pub byte_like : Bool → ℕ
-byte_like true = 255
-byte_like false = 0
 
 like_bit : (value : Bool) (i : ℕ) → i < 8 → eqb (bit_at (byte_like value) i) 1 ≡ value
 like_bit false i h = ap (λ (n : ℕ). eqb n 1) (bit_at-zero i)
@@ -127,3 +122,12 @@ filled_end old mid new len count value kept f = same_lists _ _ long each
           | inl before ↦ left ∙ f.1 k before ∙ kept k before ∙ sym (get_or_append_left (unpacked old 0 len) (replicate count value) d k (omega (arith, size)) ∙ get_unpacked old 0 len k d before ∙ ap (bit_of old) (zero-add k))
           | inr from ↦ left ∙ f.0 k from small ∙ sym (get_or-append_right (unpacked old 0 len) (replicate count value) len k d size from ∙ get_or-replicate count (k - len) value d (omega arith))
         ]
+
+-- a run of all of them
+pub filled_all : (old new : List ℕ) (len : ℕ) (value : Bool) → Filled old new 0 len value → unpacked new 0 len ≡ replicate len value
+filled_all old new len value f = same_lists _ _ (length_unpacked new 0 len ∙ sym (length-replicate len value)) each
+  where
+    each : (k : ℕ) (d : Bool) → k < length (unpacked new 0 len) → get_or (unpacked new 0 len) k d ≡ get_or (replicate len value) k d
+    each k d l =
+        let small : k < len = omega (arith, length_unpacked new 0 len) in
+        get_unpacked new 0 len k d small ∙ ap (bit_of new) (zero-add k) ∙ f.0 k (omega arith) small ∙ sym (get_or-replicate len k value d small)

@@ -9,5 +9,7 @@ pub mod Positions
 pub mod Gathered
 pub mod Packing
 pub mod Filling
+pub mod Refused
+pub mod FirstFaults
 pub mod Runs
 pub mod StructKinds

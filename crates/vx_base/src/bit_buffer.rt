@@ -1,14 +1,14 @@
 // A shared run of booleans, packed eight to a byte.
 #![tactic(auto, using(crate::proofs::PackedBits::length_unpacked, crate::proofs::PackedBits::unpacked_none, crate::proofs::PackedBits::get_unpacked))]
 
-ghost use Rattle.std.specs.Prelude.{ℕ, ◌&&◌, ◌≡◌, ◌≤◌, ◌<◌, ◌+◌, ◌*◌, ◌/◌, ◌^◌, ◌↔◌, Bool, [], length, take, slice_range, count_by, slice_index, IsTrue, IfOk, IsOkUnless};
+ghost use Rattle.std.specs.Prelude.{ℕ, ◌&&◌, ◌≡◌, ◌≤◌, ◌<◌, ◌+◌, ◌*◌, ◌/◌, ◌^◌, ◌↔◌, Bool, [], length, take, slice_range, count_by, slice_index, IsTrue, ◌%◌, true, false, replicate};
+ghost use Rattle.vx_base.specs.Refusals.{Gives};
 ghost use Rattle.std.specs.Bool.{beq};
 ghost use Rattle.std.specs.Cmp.{bool_eq_equiv, partial_equiv_from_equiv};
 ghost use Rattle.std.specs.Cmp.Lexicographic.{pointwise, lists_equiv};
-ghost use Rattle.vx_base.specs.Bits.{bit_of, unpacked, bool_at, both, byte_from, byte_of};
-ghost use Rattle.vx_base.specs.declared.errors.VortexError.TheVariants.{Memory};
+ghost use Rattle.vx_base.specs.Bits.{bit_of, unpacked, bool_at, both, byte_from, byte_of, byte_like};
 
-use crate::bit_buffer_mut::put_bit;
+use crate::bit_buffer_mut::{fill_bits, put_bit};
 use crate::byte_buffer::ByteBuffer;
 use crate::errors::VortexError;
 use std::alloc::Global;
@@ -68,6 +68,14 @@ pub(crate) fn byte_of(bits: [bool; 8]) -> u8
         + 32 * bits[5] as u8
         + 64 * bits[6] as u8
         + 128 * bits[7] as u8
+}
+
+// The byte of eight bits that are all `value`.
+#[inline]
+pub(crate) fn byte_like(value: bool) -> u8
+    ensures { result ≡ byte_like value }
+{
+    if value { 255 } else { 0 }
 }
 
 // Writes these booleans, eight to a byte.
@@ -182,7 +190,7 @@ impl BitBuffer {
 
     /// The `len` bits of these bytes from bit `offset` on, the least significant bit of each byte
     /// first. Whole bytes before the first bit are dropped. Asks that there are `offset + len`
-    /// bits, and that this sum is below 2^64. Fails only for want of memory.
+    /// bits, and that `offset % 8 + len` is below 2^64. Fails only for want of memory.
     pub fn new_with_offset(
         alloc: Global,
         bytes: ByteBuffer,
@@ -190,9 +198,8 @@ impl BitBuffer {
         offset: usize,
     ) -> Result<BitBuffer, VortexError>
         requires in_bounds { offset + len ≤ 8 * length bytes }
-        requires fits { offset + len < 2 ^ 64 }
-        ensures ok { IfOk result (λ b. b ≡ unpacked bytes offset len) }
-        ensures err { IsOkUnless result Memory }
+        requires fits { offset % 8 + len < 2 ^ 64 }
+        ensures { Gives result (λ b. b ≡ unpacked bytes offset len) }
     {
         let bytes = bytes.slice(alloc, offset / 8..bytes.len())?;
         Ok(BitBuffer::from_parts(bytes, offset % 8, len))
@@ -200,12 +207,34 @@ impl BitBuffer {
 
     /// A buffer of these booleans. Fails only for want of memory.
     pub fn from_bools(alloc: Global, bools: &[bool]) -> Result<BitBuffer, VortexError>
-        ensures ok { IfOk result (λ b. b ≡ bools.now) }
-        ensures err { IsOkUnless result Memory }
+        ensures { Gives result (λ b. b ≡ bools.now) }
     {
         let mut bytes = vec![in alloc; 0u8; bools.len().div_ceil(8)]?;
         pack(bools, &mut bytes);
         Ok(BitBuffer::from_parts(ByteBuffer::from_vec(alloc, bytes)?, 0, bools.len()))
+    }
+
+    /// `len` times this boolean. Fails only for want of memory.
+    pub fn full(alloc: Global, value: bool, len: usize) -> Result<BitBuffer, VortexError>
+        ensures { Gives result (λ b. b ≡ replicate len value) }
+    {
+        let mut bytes = vec![in alloc; 0u8; len.div_ceil(8)]?;
+        fill_bits(&mut bytes, 0, len, value);
+        Ok(BitBuffer::from_parts(ByteBuffer::from_vec(alloc, bytes)?, 0, len))
+    }
+
+    /// `len` times true. Fails only for want of memory.
+    pub fn new_set(alloc: Global, len: usize) -> Result<BitBuffer, VortexError>
+        ensures { Gives result (λ b. b ≡ replicate len true) }
+    {
+        BitBuffer::full(alloc, true, len)
+    }
+
+    /// `len` times false. Fails only for want of memory.
+    pub fn new_unset(alloc: Global, len: usize) -> Result<BitBuffer, VortexError>
+        ensures { Gives result (λ b. b ≡ replicate len false) }
+    {
+        BitBuffer::full(alloc, false, len)
     }
 
     /// How many booleans there are.
@@ -244,8 +273,7 @@ impl BitBuffer {
     pub fn slice(&self, alloc: Global, range: Range<usize>) -> Result<BitBuffer, VortexError>
         requires start_le_end { range.start ≤ range.end }
         requires in_bounds { range.end ≤ length self.now }
-        ensures ok { IfOk result (λ b. b ≡ slice_range self.now range.start range.end) }
-        ensures err { IsOkUnless result Memory }
+        ensures { Gives result (λ b. b ≡ slice_range self.now range.start range.end) }
     {
         let start = self.offset + range.start;
         let bytes = self.bytes.slice(alloc, start / 8..self.bytes.len())?;
@@ -258,8 +286,7 @@ impl BitBuffer {
 
     /// The same booleans, shared. Fails only for want of memory.
     pub fn try_clone(&self, alloc: Global) -> Result<BitBuffer, VortexError>
-        ensures ok { IfOk result (λ b. b ≡ self.now) }
-        ensures err { IsOkUnless result Memory }
+        ensures { Gives result (λ b. b ≡ self.now) }
     {
         Ok(BitBuffer {
             bytes: self.bytes.try_clone(alloc)?,
@@ -291,8 +318,7 @@ impl BitBuffer {
     /// for want of memory.
     pub fn and(&self, alloc: Global, other: &BitBuffer) -> Result<BitBuffer, VortexError>
         requires { length self.now ≡ length other.now }
-        ensures ok { IfOk result (λ b. b ≡ both self.now other.now) }
-        ensures err { IsOkUnless result Memory }
+        ensures { Gives result (λ b. b ≡ both self.now other.now) }
     {
         let mine = self.bytes.as_slice();
         let theirs = other.bytes.as_slice();
@@ -301,9 +327,13 @@ impl BitBuffer {
         Ok(BitBuffer::from_parts(ByteBuffer::from_vec(alloc, bytes)?, 0, self.len))
     }
 
-    /// The bit of the first byte at which the booleans begin, how many they are, and the bytes.
+    /// The bit of the first byte at which the booleans begin, how many they are, and the bytes,
+    /// which hold them all: what `new_with_offset` takes.
     pub fn into_inner(self) -> (usize, usize, ByteBuffer)
         ensures offset { result.0 < 8 }
+        ensures len { result.1 ≡ length self }
+        ensures in_bounds { result.0 + result.1 ≤ 8 * length result.2 }
+        ensures fits { result.0 + result.1 < 2 ^ 64 }
         ensures bits { self ≡ unpacked result.2 result.0 result.1 }
     {
         let BitBuffer { bytes, offset, len } = self;

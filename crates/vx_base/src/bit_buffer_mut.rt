@@ -1,18 +1,16 @@
 // A run of booleans that grows.
 #![tactic(auto, using(crate::proofs::PackedBits::length_unpacked, crate::proofs::PackedBits::unpacked_none, crate::proofs::PackedBits::get_unpacked))]
 
-ghost use Rattle.std.specs.Prelude.{◌≡◌, ◌≢◌, ◌≤◌, ◌<◌, ◌+◌, ◌-◌, ◌/◌, ◌*◌, ◌^◌, ℕ, Bool, true, [], ◌∷◌, ◌++◌, length, take, drop, replicate, slice_set, IfOk, OnOk, OnErr, IsOkUnless};
+ghost use Rattle.std.specs.Prelude.{◌≡◌, ◌≢◌, ◌≤◌, ◌<◌, ◌+◌, ◌-◌, ◌/◌, ◌*◌, ◌^◌, ℕ, Bool, true, false, [], ◌∷◌, ◌++◌, length, take, drop, replicate, slice_set, OnOk, OnErr, IsOkUnless};
+ghost use Rattle.vx_base.specs.Refusals.{Gives};
 ghost use Rattle.vx_base.specs.Bits.{bit_of, Filled};
 ghost use Rattle.vx_base.specs.declared.errors.VortexError.TheVariants.{Memory};
 
-use crate::bit_buffer::BitBuffer;
+use crate::bit_buffer::{BitBuffer, byte_like};
 use crate::byte_buffer::ByteBuffer;
 use crate::errors::VortexError;
 use std::alloc::Global;
 use std::marker::Model;
-
-// The most bytes that a builder takes, so that its places can be counted.
-const MAX_BYTES: usize = 1 << 60;
 
 /// Booleans that are appended one by one.
 #[derive(Drop)]
@@ -22,14 +20,14 @@ pub struct BitBufferMut {
 }
 
 impl Model for BitBufferMut {
-    ghost use Rattle.std.specs.Prelude.{Bool, List, ◌≤◌, ◌+◌, ◌*◌, ◌^◌, length};
+    ghost use Rattle.std.specs.Prelude.{Bool, List, ◌<◌, ◌≤◌, ◌+◌, ◌*◌, ◌^◌, length};
     ghost use Rattle.vx_base.specs.Bits.{unpacked};
 
     ghost Value = { List Bool };
 
     ghost view = { λ b. unpacked b.bytes.items 0 b.len };
 
-    ghost invariant = { λ b. (b.len ≤ 8 * length b.bytes.items) × (length b.bytes.items ≤ 2 ^ 60) };
+    ghost invariant = { λ b. (b.len ≤ 8 * length b.bytes.items) × (b.len < 2 ^ 64) };
 }
 
 // Writes bit `k` of the bytes.
@@ -66,17 +64,16 @@ fn fill_bytes(bytes: &mut [u8], first: usize, last: usize, value: bool)
     ensures len { length bytes.new ≡ length bytes.old }
     ensures filled { Filled bytes.old bytes.new (8 * first) (8 * last) value }
 {
-    let byte = if value { 255 } else { 0 };
+    let byte = byte_like(value);
     for j in first..last {
         bytes[j] = byte;
     }
 }
 
 // Writes the bits from `start` up to, but not at, `end`, the whole bytes between at once.
-fn fill_bits(bytes: &mut [u8], start: usize, end: usize, value: bool)
+pub(crate) fn fill_bits(bytes: &mut [u8], start: usize, end: usize, value: bool)
     requires start_le_end { start ≤ end }
     requires within { end ≤ 8 * length bytes.old }
-    requires fits { end < 2 ^ 64 - 8 }
     ensures len { length bytes.new ≡ length bytes.old }
     ensures filled { Filled bytes.old bytes.new start end value }
 {
@@ -93,17 +90,13 @@ fn fill_bits(bytes: &mut [u8], start: usize, end: usize, value: bool)
 
 // Adds a byte if bit `len` has none.
 fn make_room(bytes: &mut Vec<u8>, len: usize) -> Result<(), VortexError>
-    requires { (len ≤ 8 * length bytes.old.items) × (length bytes.old.items ≤ 2 ^ 60) }
+    requires { len ≤ 8 * length bytes.old.items }
     ensures room { OnOk result (len / 8 < length bytes.new.items) }
-    ensures limit { length bytes.new.items ≤ 2 ^ 60 }
     ensures longer { length bytes.old.items ≤ length bytes.new.items }
     ensures same { (j : ℕ) → j < len → bit_of bytes.new.items j ≡ bit_of bytes.old.items j }
     ensures memory { IsOkUnless result Memory }
 {
     if len / 8 == bytes.len() {
-        if bytes.len() >= MAX_BYTES {
-            return Err(VortexError::Memory);
-        }
         bytes.push(0)?;
     }
     Ok(())
@@ -112,8 +105,7 @@ fn make_room(bytes: &mut Vec<u8>, len: usize) -> Result<(), VortexError>
 impl BitBufferMut {
     /// No booleans, with room for `capacity` of them. Fails only for want of memory.
     pub fn with_capacity(alloc: Global, capacity: usize) -> Result<BitBufferMut, VortexError>
-        ensures ok { IfOk result (λ b. b ≡ []) }
-        ensures err { IsOkUnless result Memory }
+        ensures { Gives result (λ b. b ≡ []) }
     {
         Ok(BitBufferMut {
             bytes: Vec::with_capacity(alloc, capacity.div_ceil(8))?,
@@ -121,37 +113,46 @@ impl BitBufferMut {
         })
     }
 
-    /// How many booleans there are: at most 2^63.
+    /// `len` times false. Fails only for want of memory.
+    pub fn new_unset(alloc: Global, len: usize) -> Result<BitBufferMut, VortexError>
+        ensures { Gives result (λ b. b ≡ replicate len false) }
+    {
+        let mut bytes = vec![in alloc; 0u8; len.div_ceil(8)]?;
+        fill_bits(&mut bytes, 0, len, false);
+        Ok(BitBufferMut { bytes, len })
+    }
+
+    /// How many booleans there are.
     pub fn len(&self) -> usize
-        ensures value { result ≡ length self.now }
-        ensures bound { result ≤ 2 ^ 63 }
+        ensures { result ≡ length self.now }
     {
         self.len
     }
 
-    /// Adds a boolean at the end. Fails only for want of memory, also where 2^63 booleans stand,
-    /// and then the booleans are what they were.
+    /// Adds a boolean at the end. Fails only for want of memory, also where more booleans could not
+    /// be counted, and then the booleans are what they were.
     #[tactic(auto, using(crate::proofs::PackedBits::unpacked_push, crate::proofs::PackedBits::length_unpacked))]
     #[inline]
     pub fn append(&mut self, value: bool) -> Result<(), VortexError>
-        ensures ok { OnOk result (self.new ≡ self.old ++ value ∷ []) }
+        ensures ok { Gives result (λ _. self.new ≡ self.old ++ value ∷ []) }
         ensures err { OnErr result (self.new ≡ self.old) }
-        ensures memory { IsOkUnless result Memory }
     {
+        if self.len == usize::MAX {
+            return Err(VortexError::Memory);
+        }
         make_room(&mut self.bytes, self.len)?;
         put_bit(&mut self.bytes, self.len, value);
         self.len += 1;
         Ok(())
     }
 
-    /// Adds a boolean `count` times at the end. Fails only for want of memory, also where there
-    /// would be more than 2^63 booleans, and then the booleans are what they were.
+    /// Adds a boolean `count` times at the end. Fails only for want of memory, also where they
+    /// could not be counted, and then the booleans are what they were.
     pub fn append_n(&mut self, value: bool, count: usize) -> Result<(), VortexError>
-        ensures ok { OnOk result (self.new ≡ self.old ++ replicate count value) }
+        ensures ok { Gives result (λ _. self.new ≡ self.old ++ replicate count value) }
         ensures err { OnErr result (self.new ≡ self.old) }
-        ensures memory { IsOkUnless result Memory }
     {
-        if count > 8 * MAX_BYTES - self.len {
+        if count > usize::MAX - self.len {
             return Err(VortexError::Memory);
         }
         let end = self.len + count;
@@ -191,8 +192,7 @@ impl BitBufferMut {
 
     /// The booleans, to be shared, with no copy of them. Fails only for want of memory.
     pub fn freeze(self) -> Result<BitBuffer, VortexError>
-        ensures ok { IfOk result (λ b. b ≡ self) }
-        ensures err { IsOkUnless result Memory }
+        ensures { Gives result (λ b. b ≡ self) }
     {
         let BitBufferMut { bytes, len } = self;
         let alloc = *bytes.allocator();

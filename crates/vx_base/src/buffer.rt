@@ -1,6 +1,7 @@
 // A shared list of numbers of one type.
 
-ghost use Rattle.std.specs.Prelude.{◌≡◌, ◌≤◌, ◌<◌, ◌*◌, ◌/◌, ◌↔◌, [], length, map, slice_get, slice_range, Some, IsTrue, IfOk, IsOkUnless};
+ghost use Rattle.std.specs.Prelude.{◌≡◌, ◌≤◌, ◌<◌, ◌*◌, ◌/◌, ◌↔◌, [], length, map, slice_get, slice_range, Some, IsTrue, IfOk};
+ghost use Rattle.vx_base.specs.Refusals.{Gives};
 ghost use Rattle.vx_base.specs.Integers.{byte_width, numbers};
 ghost use Rattle.vx_base.specs.declared.errors.VortexError.TheVariants.{Memory};
 
@@ -56,16 +57,14 @@ impl<T> Model for Buffer<T> {
 impl<T: Drop> Buffer<T> {
     /// A buffer without items. Fails only for want of memory.
     pub fn empty(alloc: Global) -> Result<Buffer<T>, VortexError>
-        ensures ok { IfOk result (λ b. b ≡ []) }
-        ensures err { IsOkUnless result Memory }
+        ensures { Gives result (λ b. b ≡ []) }
     {
         Buffer::from_vec(alloc, Vec::new(alloc))
     }
 
     /// A buffer of the items of `vec`, with no copy of them. Fails only for want of memory.
     pub fn from_vec(alloc: Global, vec: Vec<T>) -> Result<Buffer<T>, VortexError>
-        ensures ok { IfOk result (λ b. b ≡ vec.items) }
-        ensures err { IsOkUnless result Memory }
+        ensures { Gives result (λ b. b ≡ vec.items) }
     {
         let len = vec.len();
         Ok(Buffer {
@@ -101,8 +100,7 @@ impl<T: Drop> Buffer<T> {
     pub fn slice(&self, _alloc: Global, range: Range<usize>) -> Result<Buffer<T>, VortexError>
         requires start_le_end { range.start ≤ range.end }
         requires in_bounds { range.end ≤ length self.now }
-        ensures ok { IfOk result (λ b. b ≡ slice_range self.now range.start range.end) }
-        ensures err { IsOkUnless result Memory }
+        ensures { Gives result (λ b. b ≡ slice_range self.now range.start range.end) }
     {
         Ok(Buffer {
             items: self.items.clone()?,
@@ -113,8 +111,7 @@ impl<T: Drop> Buffer<T> {
 
     /// The same items, shared. Fails only for want of memory.
     pub fn try_clone(&self, _alloc: Global) -> Result<Buffer<T>, VortexError>
-        ensures ok { IfOk result (λ b. b ≡ self.now) }
-        ensures err { IsOkUnless result Memory }
+        ensures { Gives result (λ b. b ≡ self.now) }
     {
         Ok(Buffer {
             items: self.items.clone()?,
@@ -127,8 +124,7 @@ impl<T: Drop> Buffer<T> {
 impl<T: Copy> Buffer<T> {
     /// A buffer with a copy of these items. Fails only for want of memory.
     pub fn copy_from(alloc: Global, items: &[T]) -> Result<Buffer<T>, VortexError>
-        ensures ok { IfOk result (λ b. b ≡ items.now) }
-        ensures err { IsOkUnless result Memory }
+        ensures { Gives result (λ b. b ≡ items.now) }
     {
         let mut copy = Vec::with_capacity(alloc, items.len())?;
         copy.extend_from_slice(items)?;
@@ -148,8 +144,7 @@ impl<T: NativePType> Buffer<T> {
     /// The numbers that these bytes hold, the least significant byte of each first. Bytes beyond
     /// the last whole number are left out. Fails only for want of memory.
     pub fn from_byte_buffer(alloc: Global, bytes: &ByteBuffer) -> Result<Buffer<T>, VortexError>
-        ensures ok { IfOk result (λ b. map T.value b ≡ numbers T.PTYPE bytes.now) }
-        ensures err { IsOkUnless result Memory }
+        ensures { Gives result (λ b. map T.value b ≡ numbers T.PTYPE bytes.now) }
     {
         let width = T::PTYPE.byte_width();
         let source = bytes.as_slice();
@@ -161,9 +156,8 @@ impl<T: NativePType> Buffer<T> {
     /// The bytes of the numbers, one number after another, the least significant byte of each
     /// first. Fails only for want of memory.
     pub fn into_byte_buffer(&self, alloc: Global) -> Result<ByteBuffer, VortexError>
-        ensures ok { IfOk result (λ b. numbers T.PTYPE b ≡ map T.value self.now) }
+        ensures ok { Gives result (λ b. numbers T.PTYPE b ≡ map T.value self.now) }
         ensures len { IfOk result (λ b. length b ≡ length self.now * byte_width T.PTYPE) }
-        ensures err { IsOkUnless result Memory }
     {
         let Some(size) = self.len().checked_mul(T::PTYPE.byte_width()) else {
             return Err(VortexError::Memory);

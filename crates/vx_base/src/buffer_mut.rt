@@ -1,8 +1,8 @@
 // A list of numbers of one type that grows.
 
-ghost use Rattle.std.specs.Prelude.{◌≡◌, ◌≤◌, ◌<◌, ◌*◌, ◌++◌, ◌∷◌, [], length, IfOk, OnOk, OnErr, IsOkUnless};
+ghost use Rattle.std.specs.Prelude.{◌≡◌, ◌≤◌, ◌<◌, ◌*◌, ◌++◌, ◌∷◌, [], length, OnErr};
+ghost use Rattle.vx_base.specs.Refusals.{Gives};
 ghost use Rattle.std.specs.Borrow.{sem};
-ghost use Rattle.vx_base.specs.declared.errors.VortexError.TheVariants.{Memory};
 
 use crate::buffer::Buffer;
 use crate::errors::VortexError;
@@ -28,8 +28,7 @@ impl<T: Drop> BufferMut<T> {
 
     /// No items, with room for `capacity` of them. Fails only for want of memory.
     pub fn with_capacity(alloc: Global, capacity: usize) -> Result<BufferMut<T>, VortexError>
-        ensures ok { IfOk result (λ b. b ≡ []) }
-        ensures err { IsOkUnless result Memory }
+        ensures { Gives result (λ b. b ≡ []) }
     {
         Ok(BufferMut {
             items: Vec::with_capacity(alloc, capacity)?,
@@ -46,9 +45,8 @@ impl<T: Drop> BufferMut<T> {
     /// Adds an item at the end. Fails only for want of memory, and then the items are what they
     /// were.
     pub fn push(&mut self, item: T) -> Result<(), VortexError>
-        ensures ok { OnOk result (self.new ≡ self.old ++ item ∷ []) }
+        ensures ok { Gives result (λ _. self.new ≡ self.old ++ item ∷ []) }
         ensures err { OnErr result (self.new ≡ self.old) }
-        ensures memory { IsOkUnless result Memory }
     {
         self.items.push(item)?;
         Ok(())
@@ -71,8 +69,7 @@ impl<T: Drop> BufferMut<T> {
 
     /// The items, to be shared, with no copy of them. Fails only for want of memory.
     pub fn freeze(self) -> Result<Buffer<T>, VortexError>
-        ensures ok { IfOk result (λ b. b ≡ self) }
-        ensures err { IsOkUnless result Memory }
+        ensures { Gives result (λ b. b ≡ self) }
     {
         let BufferMut { items } = self;
         let alloc = *items.allocator();

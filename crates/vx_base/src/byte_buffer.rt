@@ -1,9 +1,9 @@
 // A shared run of bytes.
 
-ghost use Rattle.std.specs.Prelude.{◌≡◌, ◌≤◌, ◌<◌, ◌^◌, ◌*◌, ◌-◌, ◌↔◌, [], length, slice_range, IsTrue, IfOk, IsOkUnless};
+ghost use Rattle.std.specs.Prelude.{◌≡◌, ◌≤◌, ◌<◌, ◌^◌, ◌*◌, ◌-◌, ◌↔◌, [], length, slice_range, IsTrue, IfOk};
+ghost use Rattle.vx_base.specs.Refusals.{Gives};
 ghost use Rattle.vx_base.specs.Bytes.{AreBytes};
 ghost use Rattle.vx_base.specs.Integers.{byte_width, numbers};
-ghost use Rattle.vx_base.specs.declared.errors.VortexError.TheVariants.{Memory};
 
 use crate::errors::VortexError;
 use crate::ptypes::PType;
@@ -29,8 +29,7 @@ impl Model for ByteBuffer {
 impl ByteBuffer {
     /// A buffer without bytes. It never fails.
     pub fn empty(_alloc: Global) -> Result<ByteBuffer, VortexError>
-        ensures ok { IfOk result (λ b. b ≡ []) }
-        ensures err { IsOkUnless result Memory }
+        ensures { Gives result (λ b. b ≡ []) }
     {
         Ok(ByteBuffer {
             bytes: Bytes::new(),
@@ -39,8 +38,7 @@ impl ByteBuffer {
 
     /// A buffer with a copy of these bytes. Fails only for want of memory.
     pub fn copy_from(alloc: Global, bytes: &[u8]) -> Result<ByteBuffer, VortexError>
-        ensures ok { IfOk result (λ b. b ≡ bytes.now) }
-        ensures err { IsOkUnless result Memory }
+        ensures { Gives result (λ b. b ≡ bytes.now) }
     {
         Ok(ByteBuffer {
             bytes: Bytes::copy_from_slice(alloc, bytes)?,
@@ -49,8 +47,7 @@ impl ByteBuffer {
 
     /// A buffer of the bytes of `vec`, with no copy of them. Fails only for want of memory.
     pub fn from_vec(_alloc: Global, vec: Vec<u8>) -> Result<ByteBuffer, VortexError>
-        ensures ok { IfOk result (λ b. b ≡ vec.items) }
-        ensures err { IsOkUnless result Memory }
+        ensures { Gives result (λ b. b ≡ vec.items) }
     {
         Ok(ByteBuffer {
             bytes: Bytes::from_vec(vec)?,
@@ -87,8 +84,7 @@ impl ByteBuffer {
     pub fn slice(&self, _alloc: Global, range: Range<usize>) -> Result<ByteBuffer, VortexError>
         requires start_le_end { range.start ≤ range.end }
         requires in_bounds { range.end ≤ length self.now }
-        ensures ok { IfOk result (λ b. b ≡ slice_range self.now range.start range.end) }
-        ensures err { IsOkUnless result Memory }
+        ensures { Gives result (λ b. b ≡ slice_range self.now range.start range.end) }
     {
         Ok(ByteBuffer {
             bytes: self.bytes.slice(range)?,
@@ -97,8 +93,7 @@ impl ByteBuffer {
 
     /// The same bytes, shared. Fails only for want of memory.
     pub fn try_clone(&self, _alloc: Global) -> Result<ByteBuffer, VortexError>
-        ensures ok { IfOk result (λ b. b ≡ self.now) }
-        ensures err { IsOkUnless result Memory }
+        ensures { Gives result (λ b. b ≡ self.now) }
     {
         Ok(ByteBuffer {
             bytes: self.bytes.clone()?,
@@ -126,10 +121,9 @@ pub fn slice_numbers(
 ) -> Result<ByteBuffer, VortexError>
     requires start_le_end { range.start ≤ range.end }
     requires in_bounds { range.end ≤ length (numbers ptype bytes.now) }
-    ensures ok { IfOk result (λ b. numbers ptype b
+    ensures ok { Gives result (λ b. numbers ptype b
         ≡ slice_range (numbers ptype bytes.now) range.start range.end) }
     ensures len { IfOk result (λ b. length b ≡ (range.end - range.start) * byte_width ptype) }
-    ensures err { IsOkUnless result Memory }
 {
     let _len = bytes.len();
     let width = ptype.byte_width();

@@ -1,9 +1,9 @@
 // Positions and sizes, as bytes of an integer type.
 
-ghost use Rattle.std.specs.Prelude.{◌≡◌, ◌≤ℤ◌, ◌*◌, ◌/◌, pos, length, map, IfOk, IsOkUnless};
+ghost use Rattle.std.specs.Prelude.{◌≡◌, ◌≤ℤ◌, ◌*◌, ◌/◌, pos, length, map, IfOk};
+ghost use Rattle.vx_base.specs.Refusals.{Gives};
 ghost use Rattle.std.specs.List.{All};
 ghost use Rattle.vx_base.specs.Integers.{byte_width, numbers, Holds};
-ghost use Rattle.vx_base.specs.declared.errors.VortexError.TheVariants.{Memory};
 
 use crate::byte_buffer::ByteBuffer;
 use crate::errors::VortexError;
@@ -16,8 +16,7 @@ use std::alloc::Global;
 /// out. Asks that none of the numbers is negative. Fails only for want of memory.
 pub fn read_counts(alloc: Global, ptype: PType, bytes: &[u8]) -> Result<Vec<usize>, VortexError>
     requires { All (λ z. pos 0 ≤ℤ z) (numbers ptype bytes.now) }
-    ensures ok { IfOk result (λ counts. map pos counts.items ≡ numbers ptype bytes.now) }
-    ensures err { IsOkUnless result Memory }
+    ensures { Gives result (λ counts. map pos counts.items ≡ numbers ptype bytes.now) }
 {
     match ptype {
         PType::U8 => read_native::<u8>(alloc, bytes),
@@ -33,8 +32,7 @@ pub fn read_counts(alloc: Global, ptype: PType, bytes: &[u8]) -> Result<Vec<usiz
 
 fn read_native<T: NativePType>(alloc: Global, bytes: &[u8]) -> Result<Vec<usize>, VortexError>
     requires { All (λ z. pos 0 ≤ℤ z) (numbers T.PTYPE bytes.now) }
-    ensures ok { IfOk result (λ counts. map pos counts.items ≡ numbers T.PTYPE bytes.now) }
-    ensures err { IsOkUnless result Memory }
+    ensures { Gives result (λ counts. map pos counts.items ≡ numbers T.PTYPE bytes.now) }
 {
     let mut counts = vec![in alloc; 0usize; bytes.len() / T::PTYPE.byte_width()]?;
     get_counts::<T>(bytes, &mut counts);
@@ -49,9 +47,8 @@ pub fn write_counts(
     counts: &[usize],
 ) -> Result<ByteBuffer, VortexError>
     requires { All (λ n. Holds ptype (pos n)) counts.now }
-    ensures ok { IfOk result (λ b. numbers ptype b ≡ map pos counts.now) }
+    ensures ok { Gives result (λ b. numbers ptype b ≡ map pos counts.now) }
     ensures len { IfOk result (λ b. length b ≡ length counts.now * byte_width ptype) }
-    ensures err { IsOkUnless result Memory }
 {
     match ptype {
         PType::U8 => write_native::<u8>(alloc, counts),
@@ -67,9 +64,8 @@ pub fn write_counts(
 
 fn write_native<T: NativePType>(alloc: Global, counts: &[usize]) -> Result<ByteBuffer, VortexError>
     requires { All (λ n. Holds T.PTYPE (pos n)) counts.now }
-    ensures ok { IfOk result (λ b. numbers T.PTYPE b ≡ map pos counts.now) }
+    ensures ok { Gives result (λ b. numbers T.PTYPE b ≡ map pos counts.now) }
     ensures len { IfOk result (λ b. length b ≡ length counts.now * byte_width T.PTYPE) }
-    ensures err { IsOkUnless result Memory }
 {
     let mut bytes = vec![in alloc; 0u8; counts.len() * T::PTYPE.byte_width()]?;
     put_counts::<T>(counts, &mut bytes);

@@ -1,7 +1,7 @@
 // What the rows of an array are.
 
-ghost use Rattle.std.specs.Prelude.{◌≡◌, ◌↔◌, true, IsTrue, IfOk, IsOkUnless};
-ghost use Rattle.vx_base.specs.declared.errors.VortexError.TheVariants.{Memory};
+ghost use Rattle.std.specs.Prelude.{◌≡◌, ◌↔◌, true, IsTrue};
+ghost use Rattle.vx_base.specs.Refusals.{Gives};
 ghost use Rattle.vx_base.specs.Kinds.{is_nullable_kind, or_nullable, with_nullable, is_integers, is_plain_booleans, is_plain_integers, is_records, integer_type, Kind, booleans, texts, binaries, records};
 ghost use Rattle.vx_base.specs.SameKind.{kind_eq, kinds_eq};
 ghost use Rattle.vx_base.specs.SameDType.{dtype_eq, dtype_equiv};
@@ -161,8 +161,7 @@ impl DType {
 
     /// The same data type, its parts shared.
     pub fn try_clone(&self, alloc: Global) -> Result<DType, VortexError>
-        ensures ok { IfOk result (λ d. dtype_meaning d ≡ dtype_meaning self.now) }
-        ensures err { IsOkUnless result Memory }
+        ensures { Gives result (λ d. dtype_meaning d ≡ dtype_meaning self.now) }
     {
         match self {
             DType::Bool(nullability) => Ok(DType::Bool(*nullability)),

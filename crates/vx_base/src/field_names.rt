@@ -1,9 +1,9 @@
 // The names of the fields of a record.
 
-ghost use Rattle.std.specs.Prelude.{◌≡◌, ◌<◌, length, bytes_eq, map, slice_get, Some, IfOk, IsOkUnless};
+ghost use Rattle.std.specs.Prelude.{◌≡◌, ◌<◌, length, bytes_eq, map, slice_get, Some};
+ghost use Rattle.vx_base.specs.Refusals.{Gives};
 ghost use Rattle.std.specs.Cmp.{partial_equiv_from_equiv};
 ghost use Rattle.vx_base.specs.SameKind.{name_equiv};
-ghost use Rattle.vx_base.specs.declared.errors.VortexError.TheVariants.{Memory};
 
 use crate::buffer::Buffer;
 use crate::errors::VortexError;
@@ -29,8 +29,7 @@ impl Model for FieldName {
 impl FieldName {
     /// A name with a copy of this text. Fails only for want of memory.
     pub fn try_new(alloc: Global, text: &str) -> Result<FieldName, VortexError>
-        ensures ok { IfOk result (λ n. n ≡ text.now) }
-        ensures err { IsOkUnless result Memory }
+        ensures { Gives result (λ n. n ≡ text.now) }
     {
         let text = RcStr::from_str(alloc, text)?;
         Ok(FieldName { text })
@@ -45,8 +44,7 @@ impl FieldName {
 
     /// The same name, its text shared. Fails only for want of memory.
     pub fn try_clone(&self, _alloc: Global) -> Result<FieldName, VortexError>
-        ensures ok { IfOk result (λ n. n ≡ self.now) }
-        ensures err { IsOkUnless result Memory }
+        ensures { Gives result (λ n. n ≡ self.now) }
     {
         let text = self.text.clone()?;
         Ok(FieldName { text })
@@ -80,8 +78,7 @@ impl Model for FieldNames {
 impl FieldNames {
     /// Names with copies of these texts, in order. Fails only for want of memory.
     pub fn try_new(alloc: Global, texts: &[&str]) -> Result<FieldNames, VortexError>
-        ensures ok { IfOk result (λ n. n ≡ map (λ text. text.now) texts.now) }
-        ensures err { IsOkUnless result Memory }
+        ensures { Gives result (λ n. n ≡ map (λ text. text.now) texts.now) }
     {
         let mut names = Vec::with_capacity(alloc, texts.len())?;
         for text in texts {
@@ -95,8 +92,7 @@ impl FieldNames {
         alloc: Global,
         names: Vec<FieldName>,
     ) -> Result<FieldNames, VortexError>
-        ensures ok { IfOk result (λ n. n ≡ names.items) }
-        ensures err { IsOkUnless result Memory }
+        ensures { Gives result (λ n. n ≡ names.items) }
     {
         let names = Buffer::from_vec(alloc, names)?;
         Ok(FieldNames { names })
@@ -126,8 +122,7 @@ impl FieldNames {
 
     /// The same names, shared. Fails only for want of memory.
     pub fn try_clone(&self, alloc: Global) -> Result<FieldNames, VortexError>
-        ensures ok { IfOk result (λ n. n ≡ self.now) }
-        ensures err { IsOkUnless result Memory }
+        ensures { Gives result (λ n. n ≡ self.now) }
     {
         let names = self.names.try_clone(alloc)?;
         Ok(FieldNames { names })

@@ -1,11 +1,11 @@
 // Numbers and booleans of the rows that are picked.
 
-ghost use Rattle.std.specs.Prelude.{◌≡◌, ◌<◌, ◌≤◌, ◌*◌, ◌/◌, ◌+◌, ◌++◌, length, map, IfOk, IsOkUnless};
+ghost use Rattle.std.specs.Prelude.{◌≡◌, ◌<◌, ◌≤◌, ◌*◌, ◌/◌, ◌+◌, ◌++◌, length, map, IfOk};
+ghost use Rattle.vx_base.specs.Refusals.{Gives};
 ghost use Rattle.std.specs.List.{All, flat_map};
 ghost use Rattle.vx_base.specs.Bits.{unpacked};
 ghost use Rattle.vx_base.specs.Integers.{byte_width, numbers};
 ghost use Rattle.vx_base.specs.Selections.{run_positions, number_of_position, bit_of_position, bytes_of_position};
-ghost use Rattle.vx_base.specs.declared.errors.VortexError.TheVariants.{Memory};
 
 use crate::bit_buffer::{BitBuffer, byte_of};
 use crate::bit_buffer_mut::{BitBufferMut, put_bit};
@@ -24,9 +24,8 @@ pub fn gather_numbers(
     selection: &Selection,
 ) -> Result<ByteBuffer, VortexError>
     requires { All (λ k. k < length bytes.now / byte_width ptype) selection.now }
-    ensures ok { IfOk result (λ b. numbers ptype b ≡ map (number_of_position (numbers ptype bytes.now)) selection.now) }
+    ensures ok { Gives result (λ b. numbers ptype b ≡ map (number_of_position (numbers ptype bytes.now)) selection.now) }
     ensures len { IfOk result (λ b. length b ≡ length selection.now * byte_width ptype) }
-    ensures err { IsOkUnless result Memory }
 {
     let picked = match ptype {
         PType::U8 | PType::I8 => gather_width::<1>(alloc, bytes, selection)?,
@@ -45,8 +44,7 @@ fn gather_width<const WIDTH: usize>(
 ) -> Result<Vec<u8>, VortexError>
     requires width { WIDTH ≤ 8 }
     requires within { All (λ k. k * WIDTH + WIDTH ≤ length bytes.now) selection.now }
-    ensures ok { IfOk result (λ picked. picked.items ≡ flat_map (bytes_of_position WIDTH bytes.now) selection.now) }
-    ensures err { IsOkUnless result Memory }
+    ensures { Gives result (λ picked. picked.items ≡ flat_map (bytes_of_position WIDTH bytes.now) selection.now) }
 {
     match selection.picks() {
         Picks::Positions(positions) => bytes_at::<WIDTH>(alloc, bytes, positions),
@@ -65,8 +63,7 @@ fn bytes_at<const WIDTH: usize>(
 ) -> Result<Vec<u8>, VortexError>
     requires width { WIDTH ≤ 8 }
     requires within { All (λ k. k * WIDTH + WIDTH ≤ length bytes.now) positions.now }
-    ensures ok { IfOk result (λ picked. picked.items ≡ flat_map (bytes_of_position WIDTH bytes.now) positions.now) }
-    ensures err { IsOkUnless result Memory }
+    ensures { Gives result (λ picked. picked.items ≡ flat_map (bytes_of_position WIDTH bytes.now) positions.now) }
 {
     let mut picked = vec![in alloc; 0u8; positions.len() * WIDTH]?;
     put_numbers_at::<WIDTH>(bytes, positions, &mut picked);
@@ -93,8 +90,7 @@ fn bytes_of_runs<const WIDTH: usize>(
     capacity: usize,
 ) -> Result<Vec<u8>, VortexError>
     requires { All (λ k. k * WIDTH + WIDTH ≤ length bytes.now) (flat_map run_positions runs.now) }
-    ensures ok { IfOk result (λ picked. picked.items ≡ flat_map (bytes_of_position WIDTH bytes.now) (flat_map run_positions runs.now)) }
-    ensures err { IsOkUnless result Memory }
+    ensures { Gives result (λ picked. picked.items ≡ flat_map (bytes_of_position WIDTH bytes.now) (flat_map run_positions runs.now)) }
 {
     let mut picked = Vec::with_capacity(alloc, capacity)?;
     for run in runs {
@@ -113,8 +109,7 @@ fn extend_run<const WIDTH: usize>(
     end: usize,
 ) -> Result<(), VortexError>
     requires { All (λ k. k * WIDTH + WIDTH ≤ length bytes.now) (run_positions (start, end)) }
-    ensures ok { IfOk result (λ _. picked.new.items ≡ picked.old.items ++ flat_map (bytes_of_position WIDTH bytes.now) (run_positions (start, end))) }
-    ensures err { IsOkUnless result Memory }
+    ensures { Gives result (λ _. picked.new.items ≡ picked.old.items ++ flat_map (bytes_of_position WIDTH bytes.now) (run_positions (start, end))) }
 {
     if start < end {
         picked.extend_from_slice(&bytes[start * WIDTH..end * WIDTH])?;
@@ -130,8 +125,7 @@ pub fn gather_bits(
     selection: &Selection,
 ) -> Result<BitBuffer, VortexError>
     requires { All (λ k. k < length bits.now) selection.now }
-    ensures ok { IfOk result (λ b. b ≡ map (bit_of_position bits.now) selection.now) }
-    ensures err { IsOkUnless result Memory }
+    ensures { Gives result (λ b. b ≡ map (bit_of_position bits.now) selection.now) }
 {
     match selection.picks() {
         Picks::Positions(positions) => bits_at(alloc, bits, positions),
@@ -142,8 +136,7 @@ pub fn gather_bits(
 // One boolean at a time.
 fn bits_at(alloc: Global, bits: &BitBuffer, positions: &[usize]) -> Result<BitBuffer, VortexError>
     requires { All (λ k. k < length bits.now) positions.now }
-    ensures ok { IfOk result (λ b. b ≡ map (bit_of_position bits.now) positions.now) }
-    ensures err { IsOkUnless result Memory }
+    ensures { Gives result (λ b. b ≡ map (bit_of_position bits.now) positions.now) }
 {
     let mut bytes = vec![in alloc; 0u8; positions.len().div_ceil(8)]?;
     put_bits_at(bits, positions, &mut bytes);
@@ -185,8 +178,7 @@ fn bits_of_runs(
     capacity: usize,
 ) -> Result<BitBuffer, VortexError>
     requires { All (λ k. k < length bits.now) (flat_map run_positions runs.now) }
-    ensures ok { IfOk result (λ b. b ≡ map (bit_of_position bits.now) (flat_map run_positions runs.now)) }
-    ensures err { IsOkUnless result Memory }
+    ensures { Gives result (λ b. b ≡ map (bit_of_position bits.now) (flat_map run_positions runs.now)) }
 {
     let mut picked = BitBufferMut::with_capacity(alloc, capacity)?;
     for run in runs {
@@ -204,8 +196,7 @@ fn append_run(
     end: usize,
 ) -> Result<(), VortexError>
     requires { All (λ k. k < length bits.now) (run_positions (start, end)) }
-    ensures ok { IfOk result (λ _. picked.new ≡ picked.old ++ map (bit_of_position bits.now) (run_positions (start, end))) }
-    ensures err { IsOkUnless result Memory }
+    ensures { Gives result (λ _. picked.new ≡ picked.old ++ map (bit_of_position bits.now) (run_positions (start, end))) }
 {
     for position in start..end {
         picked.append(bits.value(position))?;

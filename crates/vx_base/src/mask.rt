@@ -1,8 +1,8 @@
 // A list of booleans, one a row.
 
-ghost use Rattle.std.specs.Prelude.{◌≡◌, ◌<◌, ◌↔◌, Bool, true, false, length, replicate, count_by, IsTrue, IfOk, IsOkUnless};
+ghost use Rattle.std.specs.Prelude.{◌≡◌, ◌<◌, ◌↔◌, Bool, true, false, length, replicate, count_by, IsTrue};
+ghost use Rattle.vx_base.specs.Refusals.{Gives};
 ghost use Rattle.vx_base.specs.Bits.{bool_at};
-ghost use Rattle.vx_base.specs.declared.errors.VortexError.TheVariants.{Memory};
 
 use crate::bit_buffer::BitBuffer;
 use crate::errors::VortexError;
@@ -56,8 +56,7 @@ impl Mask {
 
     /// The booleans of a bit buffer, with no copy of them. It never fails.
     pub fn from_buffer(_alloc: Global, bits: BitBuffer) -> Result<Mask, VortexError>
-        ensures ok { IfOk result (λ m. m ≡ bits) }
-        ensures err { IsOkUnless result Memory }
+        ensures { Gives result (λ m. m ≡ bits) }
     {
         let len = bits.len();
         let true_count = bits.true_count();

@@ -1,7 +1,7 @@
 // Numbers of a type that is known when the program runs, as bytes.
 
-ghost use Rattle.std.specs.Prelude.{◌≡◌, ◌<◌, length, pos, slice_index_or};
-ghost use Rattle.vx_base.specs.Integers.{byte_width, Holds, number_of, bytes_of, numbers};
+ghost use Rattle.std.specs.Prelude.{◌≡◌, ◌<◌, length};
+ghost use Rattle.vx_base.specs.Integers.{byte_width, Holds, number_of, bytes_of, numbers, number_nth};
 
 use crate::ptypes::PType;
 
@@ -64,7 +64,7 @@ pub fn number_count(bytes: &[u8], ptype: PType) -> usize
 #[inline]
 pub fn int_at(bytes: &[u8], ptype: PType, i: usize) -> i128
     requires { i < length (numbers ptype bytes.now) }
-    ensures value { result ≡ slice_index_or (numbers ptype bytes.now) i (pos 0) }
+    ensures value { result ≡ number_nth (numbers ptype bytes.now) i }
     ensures holds { Holds ptype result }
 {
     let width = ptype.byte_width();

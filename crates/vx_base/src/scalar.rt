@@ -1,12 +1,12 @@
 // One row with its data type.
 
-ghost use Rattle.std.specs.Prelude.{◌≡◌, true, false, IsTrue, IfOk, IsOkUnless};
+ghost use Rattle.std.specs.Prelude.{◌≡◌, true, false, IsTrue};
+ghost use Rattle.vx_base.specs.Refusals.{Gives};
 ghost use Rattle.vx_base.specs.Rows.{null, boolean, whole, is_present, number_in, truth_of};
 ghost use Rattle.vx_base.specs.Kinds.{booleans, integers, is_nullable_kind, Fits};
 ghost use Rattle.vx_base.specs.Integers.{Holds};
 ghost use Rattle.vx_base.specs.DTypes.{dtype_meaning, is_nullable};
 ghost use Rattle.vx_base.specs.Scalars.{typed_row};
-ghost use Rattle.vx_base.specs.declared.errors.VortexError.TheVariants.{Memory};
 
 use crate::dtypes::DType;
 use crate::errors::VortexError;
@@ -112,8 +112,7 @@ impl Scalar {
 
     /// The same row, its data type shared. Fails only for want of memory.
     pub fn try_clone(&self, alloc: Global) -> Result<Scalar, VortexError>
-        ensures ok { IfOk result (λ s. s ≡ self.now) }
-        ensures err { IsOkUnless result Memory }
+        ensures { Gives result (λ s. s ≡ self.now) }
     {
         let dtype = self.dtype.try_clone(alloc)?;
         let value = self.value;

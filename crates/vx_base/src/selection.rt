@@ -1,8 +1,8 @@
 // Rows that are picked, by their positions or by runs of them.
 
-ghost use Rattle.std.specs.Prelude.{◌≡◌, ◌==◌, ◌<◌, ◌+◌, ◌*◌, ◌^◌, length, IfOk, IsOkUnless};
+ghost use Rattle.std.specs.Prelude.{◌≡◌, ◌==◌, ◌<◌, ◌+◌, ◌*◌, ◌^◌, length};
+ghost use Rattle.vx_base.specs.Refusals.{Gives};
 ghost use Rattle.std.specs.List.{All, flat_map};
-ghost use Rattle.vx_base.specs.declared.errors.VortexError.TheVariants.{Memory};
 ghost use Rattle.vx_base.specs.Selections.{run_positions, list_positions};
 
 use crate::errors::VortexError;
@@ -78,9 +78,8 @@ impl<'a> Selection<'a> {
     /// end of each list is below 2^64. Fails only for want of memory.
     pub fn list_runs(&self, alloc: Global, size: usize) -> Result<Vec<(usize, usize)>, VortexError>
         requires { All (λ k. k * size + size < 2 ^ 64) self.now }
-        ensures ok { IfOk result (λ runs.
+        ensures { Gives result (λ runs.
             flat_map run_positions runs.items ≡ flat_map (list_positions size) self.now) }
-        ensures err { IsOkUnless result Memory }
     {
         match &self.picks {
             Picks::Positions(positions) => runs_at(alloc, positions, size),
@@ -103,9 +102,8 @@ fn runs_at(
     size: usize,
 ) -> Result<Vec<(usize, usize)>, VortexError>
     requires { All (λ k. k * size + size < 2 ^ 64) positions.now }
-    ensures ok { IfOk result (λ runs.
+    ensures { Gives result (λ runs.
         flat_map run_positions runs.items ≡ flat_map (list_positions size) positions.now) }
-    ensures err { IsOkUnless result Memory }
 {
     let mut runs = Vec::with_capacity(alloc, positions.len())?;
     for position in positions {
@@ -122,9 +120,8 @@ fn runs_of_runs(
     size: usize,
 ) -> Result<Vec<(usize, usize)>, VortexError>
     requires { All (λ k. k * size + size < 2 ^ 64) (flat_map run_positions lists.now) }
-    ensures ok { IfOk result (λ runs. flat_map run_positions runs.items
+    ensures { Gives result (λ runs. flat_map run_positions runs.items
         ≡ flat_map (list_positions size) (flat_map run_positions lists.now)) }
-    ensures err { IsOkUnless result Memory }
 {
     let mut runs = Vec::with_capacity(alloc, lists.len())?;
     for list in lists {

@@ -1,10 +1,10 @@
 // The fields of a record: their names and data types.
 
-ghost use Rattle.std.specs.Prelude.{◌≡◌, ◌<◌, ◌&&◌, length, bytes_eq, IfOk, IsOkUnless};
+ghost use Rattle.std.specs.Prelude.{◌≡◌, ◌<◌, ◌&&◌, length, bytes_eq, IfOk};
+ghost use Rattle.vx_base.specs.Refusals.{Gives};
 ghost use Rattle.vx_base.specs.DTypes.{dtype_meaning, field_names, field_kinds, kinds_of};
 ghost use Rattle.std.specs.Cmp.Lexicographic.{pointwise};
 ghost use Rattle.vx_base.specs.SameKind.{kinds_eq};
-ghost use Rattle.vx_base.specs.declared.errors.VortexError.TheVariants.{Memory};
 
 use crate::dtypes::{DType, same_dtypes};
 use crate::errors::VortexError;
@@ -55,9 +55,8 @@ impl StructFields {
 
     /// The same fields, shared. Fails only for want of memory.
     pub fn try_clone(&self, alloc: Global) -> Result<StructFields, VortexError>
-        ensures names { IfOk result (λ f. field_names f ≡ field_names self.now) }
+        ensures names { Gives result (λ f. field_names f ≡ field_names self.now) }
         ensures kinds { IfOk result (λ f. field_kinds f ≡ field_kinds self.now) }
-        ensures err { IsOkUnless result Memory }
     {
         let names = self.names.try_clone(alloc)?;
         let dtypes = self.dtypes.clone()?;

@@ -14,7 +14,7 @@ pub loop-position-preserved : goal.loop-position-preserved
 loop-position-preserved c =
     (c.in_ok-append.ensures.ok ∙ grown (bit_of_position c.args.bits.now) c.args.picked.now c.loop-position.picked c.args.start c.loop-position.position c.value.result c.loop-position.auto.position c.loop-position.invariant.0 c.value.ensures, λ h. absurd (omega arith))
 
-pub returns-clause-ok : goal.returns-clause-ok
-returns-clause-ok c =
+pub returns : goal.returns
+returns c =
     let end : c.loop-position.position - c.args.start ≡ c.args.end - c.args.start = size c.args.start c.args.end c.loop-position.position c.loop-position.auto.position c.loop-position.auto.position-end c.loop-position-test.false c.loop-position.invariant.1 in
     c.loop-position.invariant.0 ∙ ap (λ n. c.args.picked.now ++ map (bit_of_position c.args.bits.now) (range_with_len c.args.start n)) end

@@ -13,5 +13,5 @@ loop-run-preserved c =
     let runs = c.args.runs.now in
     let i = c.loop-run.run-index in
     let f = bit_of_position c.args.bits.now in
-    c.in_ok-append_run.ensures.ok ∙ ap (λ bs. bs ++ map f (run_positions (get_or runs i (0, 0)))) c.loop-run.invariant
+    c.in_ok-append_run.ensures ∙ ap (λ bs. bs ++ map f (run_positions (get_or runs i (0, 0)))) c.loop-run.invariant
     ∙ sym (ap (map f) (runs_more run_positions runs i (0, 0) c.loop-run-test.true) ∙ map-append f (flat_map run_positions (take i runs)) (run_positions (get_or runs i (0, 0))))

@@ -13,5 +13,5 @@ loop-run-preserved g c =
     let runs = c.args.runs.now in
     let i = c.loop-run.run-index in
     let f = bytes_of_position g.row.WIDTH c.args.bytes.now in
-    c.in_ok-extend_run.ensures.ok ∙ ap (λ bs. bs ++ flat_map f (run_positions (get_or runs i (0, 0)))) c.loop-run.invariant
+    c.in_ok-extend_run.ensures ∙ ap (λ bs. bs ++ flat_map f (run_positions (get_or runs i (0, 0)))) c.loop-run.invariant
     ∙ sym (ap (flat_map f) (runs_more run_positions runs i (0, 0) c.loop-run-test.true) ∙ flat_map-append f (flat_map run_positions (take i runs)) (run_positions (get_or runs i (0, 0))))

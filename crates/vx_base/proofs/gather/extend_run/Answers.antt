@@ -38,8 +38,8 @@ slice_bounds-extend_from_slice-start g c =
     let r = room g.row.WIDTH c.args.start c.args.end (length c.args.bytes.now) c.if-start-end.true h in
     r.0
 
-pub returns-in_ok-extend_from_slice-clause-ok : goal.returns-in_ok-extend_from_slice-clause-ok
-returns-in_ok-extend_from_slice-clause-ok g c =
+pub returns-in_ok-extend_from_slice : goal.returns-in_ok-extend_from_slice
+returns-in_ok-extend_from_slice g c =
     let bs = c.args.bytes.now in
     let whole : c.args.start + (c.args.end - c.args.start) ≡ c.args.end = omega arith in
     let part : flat_map (bytes_of_position g.row.WIDTH bs) (run_positions (c.args.start, c.args.end)) ≡ slice_range bs (c.args.start * g.row.WIDTH) (c.args.end * g.row.WIDTH)

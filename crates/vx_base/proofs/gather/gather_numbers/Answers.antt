@@ -1,8 +1,8 @@
 use Rattle.std.proofs.Common.{◌*◌, ◌≡◌, ◌⊎◌, length, map, ap, ◌∙◌, inl, inr, sym, refl}
-use Rattle.std.proofs.lemmas.Result.{IfOk-weaker}
 use Rattle.vx_base.specs.Integers.{byte_width, numbers}
 use Rattle.vx_base.specs.Selections.{number_of_position}
 use Rattle.vx_base.specs.declared.ptypes.PType.{PType}
+use Rattle.vx_base.proofs.Refused.{Gives-weaker, Gives-IfOk}
 use Rattle.vx_base.proofs.Gathered.{gathered}
 use Rattle.vx_base.proofs.gather.gather_numbers.Goals as goal
 use Rattle.vx_base.proofs.gather.gather_numbers.Goals.{in-U8+in_ok-picked-in-U8, in-U16+in_ok-picked-in-U16, in-U32+in_ok-picked-in-U32, in-U64+in_ok-picked-in-U64}
@@ -20,10 +20,10 @@ picked c =
     let ps = c.args.selection.now in
     let items = c.match-ptype.picked.items in
     elim c.match-ptype.branch [
-      | in-U8+in_ok-picked-in-U8 w ↦ gathered 1 t bs ps items (one_of t _ _ refl w.in-U8.is) c.requires (rw w.picked-is w.in_ok-picked-in-U8.ensures.ok)
-      | in-U16+in_ok-picked-in-U16 w ↦ gathered 2 t bs ps items (one_of t _ _ refl w.in-U16.is) c.requires (rw w.picked-is w.in_ok-picked-in-U16.ensures.ok)
-      | in-U32+in_ok-picked-in-U32 w ↦ gathered 4 t bs ps items (one_of t _ _ refl w.in-U32.is) c.requires (rw w.picked-is w.in_ok-picked-in-U32.ensures.ok)
-      | in-U64+in_ok-picked-in-U64 w ↦ gathered 8 t bs ps items (one_of t _ _ refl w.in-U64.is) c.requires (rw w.picked-is w.in_ok-picked-in-U64.ensures.ok)
+      | in-U8+in_ok-picked-in-U8 w ↦ gathered 1 t bs ps items (one_of t _ _ refl w.in-U8.is) c.requires (rw w.picked-is w.in_ok-picked-in-U8.ensures)
+      | in-U16+in_ok-picked-in-U16 w ↦ gathered 2 t bs ps items (one_of t _ _ refl w.in-U16.is) c.requires (rw w.picked-is w.in_ok-picked-in-U16.ensures)
+      | in-U32+in_ok-picked-in-U32 w ↦ gathered 4 t bs ps items (one_of t _ _ refl w.in-U32.is) c.requires (rw w.picked-is w.in_ok-picked-in-U32.ensures)
+      | in-U64+in_ok-picked-in-U64 w ↦ gathered 8 t bs ps items (one_of t _ _ refl w.in-U64.is) c.requires (rw w.picked-is w.in_ok-picked-in-U64.ensures)
     ]
 
 pub returns-clause-ok : goal.returns-clause-ok
@@ -31,11 +31,11 @@ returns-clause-ok c =
     let t = c.args.ptype in
     let items = c.match-ptype.picked.items in
     let all = picked c in
-    IfOk-weaker c.from_vec.result (λ b. b ≡ items) (λ b. numbers t b ≡ map (number_of_position (numbers t c.args.bytes.now)) c.args.selection.now) (λ b e. ap (numbers t) e ∙ all.0) c.from_vec.ensures.ok
+    Gives-weaker c.from_vec.result (λ b. b ≡ items) (λ b. numbers t b ≡ map (number_of_position (numbers t c.args.bytes.now)) c.args.selection.now) (λ b e. ap (numbers t) e ∙ all.0) c.from_vec.ensures
 
 pub returns-clause-len : goal.returns-clause-len
 returns-clause-len c =
     let t = c.args.ptype in
     let items = c.match-ptype.picked.items in
     let all = picked c in
-    IfOk-weaker c.from_vec.result (λ b. b ≡ items) (λ b. length b ≡ length c.args.selection.now * byte_width t) (λ b e. ap length e ∙ all.1) c.from_vec.ensures.ok
+    Gives-IfOk c.from_vec.result (λ b. b ≡ items) (λ b. length b ≡ length c.args.selection.now * byte_width t) (λ b e. ap length e ∙ all.1) c.from_vec.ensures
