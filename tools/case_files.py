@@ -1,4 +1,4 @@
-"""Reads the cases of cases/*.md and of docs/SCRIPT.md.
+"""Reads the cases of cases/*.md, of docs/SCRIPT.md and of README.md.
 
 A case is a fenced block whose first line begins with ```vx: the lines up to the line --- are a
 script, the rest is what it prints. The status that is wanted is 1 where the last line printed tells
@@ -44,7 +44,7 @@ def read_case(name: str, marks: List[str], lines: List[str]) -> Case:
 
 
 def read_file(path: pathlib.Path) -> List[Case]:
-    """The cases of a file, of which every fenced block is one."""
+    """The cases of a file, of which every fenced block is one; README.md has others too."""
     cases: List[Case] = []
     title = ""
     opened = None
@@ -55,11 +55,13 @@ def read_file(path: pathlib.Path) -> List[Case]:
             if line.startswith("```"):
                 name = f"{path.relative_to(ROOT)}:{number}: {title}"
                 words = line[3:].split()
-                if words[:1] != ["vx"]:
+                if words[:1] != ["vx"] and path.name != "README.md":
                     raise SystemExit(f"{name}: no case")
-                opened = (name, words[1:], [])
+                opened = (name, words, [])
         elif line == "```":
-            cases.append(read_case(*opened))
+            name, words, block = opened
+            if words[0] == "vx":
+                cases.append(read_case(name, words[1:], block))
             opened = None
         else:
             opened[2].append(line)
@@ -70,5 +72,5 @@ def read_file(path: pathlib.Path) -> List[Case]:
 
 def read_all() -> List[Case]:
     """The cases of every file."""
-    paths = sorted((ROOT / "cases").glob("*.md")) + [ROOT / "docs" / "SCRIPT.md"]
+    paths = sorted((ROOT / "cases").glob("*.md")) + [ROOT / "docs" / "SCRIPT.md", ROOT / "README.md"]
     return [case for path in paths for case in read_file(path)]
