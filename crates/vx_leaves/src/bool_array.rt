@@ -11,8 +11,8 @@ ghost use Rattle.vx_leaves.specs.Leaves.{is_bools, validity_fault};
 use crate::checks::check_validity;
 use std::alloc::Global;
 use std::marker::Model;
-use vx_base::{BitBuffer, DType, VortexError};
-use vx_tree::{ArrayRef, Layout, Validity};
+use vx_base::{BitBuffer, VortexError};
+use vx_tree::{ArrayRef, Layout, TypedArray, Validity};
 
 /// An array of truth values, one to a bit.
 #[derive(Drop)]
@@ -51,51 +51,27 @@ impl BoolArray {
         let array = ArrayRef::from_parts(alloc, Layout::Bool { bits, validity })?;
         Ok(BoolArray { array })
     }
+}
 
-    /// How many rows there are.
-    pub fn len(&self) -> usize
-        ensures { result ≡ tree_len self.now }
-    {
-        self.array.len()
+impl TypedArray for BoolArray {
+    ghost as_tree = { λ a. a };
+
+    ghost has_layout = { is_bools };
+
+    fn is_layout(layout: &Layout) -> bool {
+        matches!(layout, Layout::Bool { .. })
     }
 
-    /// Whether there is no row.
-    pub fn is_empty(&self) -> bool
-        ensures { result ≡ (tree_len self.now == 0) }
-    {
-        self.array.is_empty()
+    fn from_array(array: ArrayRef) -> Self {
+        BoolArray { array }
     }
 
-    /// What the rows are.
-    pub fn dtype(&self) -> &DType
-        ensures { dtype_meaning result.now ≡ kind_of self.now }
-    {
-        self.array.dtype()
-    }
-
-    /// The array, whatever its layout.
-    pub fn as_array(&self) -> &ArrayRef
-        ensures { result.now ≡ self.now }
-    {
+    fn as_array(&self) -> &ArrayRef {
         &self.array
     }
 
-    /// The array, whatever its layout.
-    pub fn into_array(self) -> ArrayRef
-        ensures { result ≡ self }
-    {
+    fn into_array(self) -> ArrayRef {
         let BoolArray { array } = self;
         array
-    }
-
-    /// The array as one of truth values; an array of another layout comes back.
-    pub fn try_from_array(array: ArrayRef) -> Result<BoolArray, ArrayRef>
-        ensures own { IfOk result (λ a. (a ≡ array) × (is_bools array ≡ true)) }
-        ensures other { IfErr result (λ a. (a ≡ array) × (is_bools array ≡ false)) }
-    {
-        if matches!(array.layout(), Layout::Bool { .. }) {
-            return Ok(BoolArray { array });
-        }
-        Err(array)
     }
 }

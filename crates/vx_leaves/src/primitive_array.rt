@@ -14,8 +14,8 @@ ghost use Rattle.vx_leaves.specs.Leaves.{is_primitive, validity_fault, IsPrimiti
 use crate::checks::check_validity;
 use std::alloc::Global;
 use std::marker::Model;
-use vx_base::{Buffer, ByteBuffer, DType, NativePType, PType, VortexError};
-use vx_tree::{ArrayRef, Layout, Validity};
+use vx_base::{Buffer, ByteBuffer, NativePType, PType, VortexError};
+use vx_tree::{ArrayRef, Layout, TypedArray, Validity};
 
 /// An array of whole numbers of one type, in their bytes.
 #[derive(Drop)]
@@ -54,52 +54,29 @@ impl PrimitiveArray {
         let bytes = buffer.into_byte_buffer(alloc)?;
         primitive_array(alloc, T::PTYPE, bytes, buffer.len(), validity)
     }
+}
 
-    /// How many rows there are.
-    pub fn len(&self) -> usize
-        ensures { result ≡ tree_len self.now }
-    {
-        self.array.len()
+impl TypedArray for PrimitiveArray {
+    ghost as_tree = { λ a. a };
+
+    ghost has_layout = { is_primitive };
+
+    fn is_layout(layout: &Layout) -> bool {
+        matches!(layout, Layout::Primitive { .. })
     }
 
-    /// Whether there is no row.
-    pub fn is_empty(&self) -> bool
-        ensures { result ≡ (tree_len self.now == 0) }
-    {
-        self.array.is_empty()
+    fn from_array(array: ArrayRef) -> Self {
+        PrimitiveArray { array }
     }
 
-    /// What the rows are.
-    pub fn dtype(&self) -> &DType
-        ensures { dtype_meaning result.now ≡ kind_of self.now }
-    {
-        self.array.dtype()
-    }
-
-    /// The array, whatever its layout.
-    pub fn as_array(&self) -> &ArrayRef
-        ensures { result.now ≡ self.now }
-    {
+    fn as_array(&self) -> &ArrayRef {
         &self.array
     }
 
-    /// The array, whatever its layout.
-    pub fn into_array(self) -> ArrayRef
-        ensures { result ≡ self }
-    {
+    fn into_array(self) -> ArrayRef {
+        let _ = &self.array;
         let PrimitiveArray { array } = self;
         array
-    }
-
-    /// The array as one of whole numbers; an array of another layout comes back.
-    pub fn try_from_array(array: ArrayRef) -> Result<PrimitiveArray, ArrayRef>
-        ensures own { IfOk result (λ a. (a ≡ array) × (is_primitive array ≡ true)) }
-        ensures other { IfErr result (λ a. (a ≡ array) × (is_primitive array ≡ false)) }
-    {
-        if matches!(array.layout(), Layout::Primitive { .. }) {
-            return Ok(PrimitiveArray { array });
-        }
-        Err(array)
     }
 }
 

@@ -3,13 +3,31 @@
 use crate::{BoolArray, PrimitiveArray};
 use std::test::Fail;
 use vx_base::{BitBuffer, Buffer, DType, Nullability, VortexError};
-use vx_tree::Validity;
+use vx_tree::{Layout, TypedArray, Validity};
+
+// The first bit, through the layout, with no case that cannot be.
+fn first_bit(array: &BoolArray) -> Option<bool> {
+    let Layout::Bool { bits, .. } = array.as_array().layout() else {
+        unreachable!();
+    };
+    if bits.is_empty() {
+        None
+    } else {
+        Some(bits.value(0))
+    }
+}
+
+// How many rows there are, in an array of any one layout.
+fn rows_of<A: TypedArray>(array: &A) -> usize {
+    if array.is_empty() { 0 } else { array.len() }
+}
 
 #[test]
 fn bools_of_bits(rt: HostRuntime) -> Result<(), Fail> {
     let bits = BitBuffer::from_bools(rt.alloc(), &[true, false])?;
     let array = BoolArray::try_new(rt.alloc(), bits, Validity::AllValid)?;
-    assert!(rt; array.len() == 2 && !array.is_empty());
+    assert!(rt; first_bit(&array) == Some(true) && rows_of(&array) == 2);
+    assert!(rt; array.try_clone(rt.alloc())?.len() == 2);
     assert!(rt; matches!(array.dtype(), DType::Bool(Nullability::Nullable)));
     Ok(())
 }

@@ -1,6 +1,9 @@
+pub mod Given
 pub mod Masks
-pub mod Indices
+pub mod Positions
 pub mod Sliced
+pub mod Selected
+pub mod Nulled
 pub mod Taken
 pub mod Fitting
 pub mod Worked

@@ -3,9 +3,9 @@ use Rattle.std.proofs.Common.{ℕ, ◌≡◌, Bool, true, false, List, length, m
 use Rattle.std.specs.List.{range_with_len}
 use Rattle.std.proofs.lemmas.List.FromFn.{fill_by_all}
 use Rattle.std.proofs.lemmas.List.{get_or-replicate, length-replicate}
-use Rattle.vx_base.specs.Rows.{truth_of}
-use Rattle.vx_base.specs.Kinds.{booleans}
-use Rattle.vx_tree.specs.Tree.{Tree, bools, Valid, non_nullable, all_valid, all_invalid, by_array}
+use Rattle.vx_base.specs.Rows.{Row, truth_of}
+use Rattle.vx_base.specs.Kinds.{Kind, booleans}
+use Rattle.vx_tree.specs.Tree.{Tree, bools, constant, Valid, non_nullable, all_valid, all_invalid, by_array}
 use Rattle.vx_tree.specs.Meaning.{row_at, tree_len, kind_of, is_valid_at, valid_mask}
 
 -- a constant state gives the same boolean for each row
@@ -29,3 +29,8 @@ bits_are_truths t bits non_nullable e k = rw e (fill_by_all (λ i. truth_of (row
 bits_are_truths t bits all_valid e k = let h = rw e at k in cc
 bits_are_truths t bits all_invalid e k = let h = rw e at k in cc
 bits_are_truths t bits (by_array m) e k = let h = rw e at k in cc
+
+-- a truth value, however often
+pub truths_of_constant : (t : Tree) (k : Kind) (r : Row) (n : ℕ) → t ≡ constant k r n → replicate n (truth_of r) ≡ map (λ i. truth_of (row_at t i)) (range_with_len 0 (tree_len t))
+truths_of_constant t k r n e =
+    rw e (fill_by_all (λ i. truth_of r) (replicate n (truth_of r)) n false (length-replicate n (truth_of r)) (λ i l. get_or-replicate n i (truth_of r) false l))

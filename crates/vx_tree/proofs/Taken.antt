@@ -1,123 +1,114 @@
--- What taking gives, layout by layout.
-use Rattle.std.proofs.Common.{ℕ, ◌<◌, ◌≡◌, Bool, false, List, length, get_or, map, Option, Some, None, refl, sym, ◌∙◌, ap, zero-add}
-use Rattle.std.specs.Prelude.{ℤ, pos, ◌||◌, IfSome}
+-- Taking: what is selected, with the nulls of the indices.
+use Rattle.std.proofs.Common.{ℕ, ◌<◌, ◌≡◌, Bool, true, false, List, length, map, get_or, Option, Some, None, refl, sym, ◌∙◌, ap, subst, zero-add, arith}
+use Rattle.std.specs.Prelude.{is_some, IfSome, slice_index, if◌then◌else◌}
 use Rattle.std.specs.List.{range_with_len}
-use Rattle.std.proofs.lemmas.List.FromFn.{get_or-map-range_with_len, length-map-range_with_len}
-use Rattle.std.proofs.lemmas.List.{length-map, get_or-map}
-use Rattle.vx_base.specs.declared.ptypes.PType.{PType}
-use Rattle.vx_base.specs.Integers.{numbers}
-use Rattle.vx_base.specs.Bits.{bool_at}
-use Rattle.vx_base.specs.Picks.{picked_number, picked_bit}
-use Rattle.vx_base.specs.Rows.{count_in, truth_of}
-use Rattle.vx_base.specs.Kinds.{booleans, integers, lists}
-use Rattle.vx_tree.specs.Tree.{Tree, bools, primitive, list_view, Valid, non_nullable, all_valid, all_invalid, by_array}
-use Rattle.vx_tree.specs.Meaning.{row_at, tree_len, kind_of, is_valid_at, nullable, picked, number_nth}
-use Rattle.vx_tree.specs.Shapes.{State, bool_shape, primitive_shape, list_view_shape, never_null, none_null, every_null, told, state_of, is_nullable_state, taken_state}
-use Rattle.vx_tree.specs.Formed.{ValidFits}
-use Rattle.vx_tree.specs.Operations.{IsTaken, IsValidTaken, IsCountsTaken, ValidHasAll, AreWithin, position_at, picked_truth, picked_count}
+use Rattle.std.proofs.lemmas.List.{length-map, get_or-map, get_or_default}
+use Rattle.std.proofs.lemmas.List.FromFn.{get_or-map-range_with_len, length-map-range_with_len, fill_by_all}
+use Rattle.vx_base.specs.Refusals.{not_implemented, Refusal}
+use Rattle.vx_base.specs.Rows.{Row, null, position_in, is_present}
+use Rattle.vx_base.specs.Kinds.{or_nullable, is_integers, is_nullable_kind}
+use Rattle.vx_tree.specs.Tree.{Tree, Valid}
+use Rattle.vx_tree.specs.Meaning.{row_at, rows, tree_len, kind_of, is_valid_at, nullable, picked}
+use Rattle.vx_tree.specs.Shapes.{Shape, bool_shape, primitive_shape, constant_shape, dictionary_shape, fixed_list_shape, list_view_shape, struct_shape, view_shape, state_of, shape_of, selected_shape, nulled_shape}
+use Rattle.vx_tree.specs.Faults.{take_fault, indices_fault, rows_fault, dictionary_fault}
+use Rattle.vx_tree.specs.Operations.{IsTakenAt, IsSelected, IsNulled, IsNulls, IsValidityOf, IsPosition, ArePositions, AreBelow, or_zero, positions, pick, picks}
 
--- ---- states
+-- ---- at positions
 
-pub nullable-state : (v : Valid) → nullable v ≡ is_nullable_state (state_of v)
-nullable-state non_nullable = refl
-nullable-state all_valid = refl
-nullable-state all_invalid = refl
-nullable-state (by_array t) = refl
+-- what is selected and then nulled is taken
+pub taken_of_selected : (t s r : Tree) (qs : List ℕ) (u : Valid) → IsSelected t qs s → IsNulled s u r → IsTakenAt t qs u r
+taken_of_selected t s r qs u h n =
+    record {
+      len = n.len ∙ h.len;
+      kind = n.kind ∙ ap (or_nullable (nullable u)) h.kind;
+      shape = n.shape ∙ ap (λ x. nulled_shape x (state_of u)) h.shape;
+      rows = λ i l. n.rows i (rw h.len l) ∙ ap (λ x. if is_valid_at u i then x else null) (h.rows i l);
+    }
 
-pub nullable-taken_state : (s index : State) → is_nullable_state (taken_state s index) ≡ (is_nullable_state index || is_nullable_state s)
-nullable-taken_state never_null never_null = refl
-nullable-taken_state never_null none_null = refl
-nullable-taken_state never_null every_null = refl
-nullable-taken_state never_null told = refl
-nullable-taken_state none_null never_null = refl
-nullable-taken_state none_null none_null = refl
-nullable-taken_state none_null every_null = refl
-nullable-taken_state none_null told = refl
-nullable-taken_state every_null never_null = refl
-nullable-taken_state every_null none_null = refl
-nullable-taken_state every_null every_null = refl
-nullable-taken_state every_null told = refl
-nullable-taken_state told never_null = refl
-nullable-taken_state told none_null = refl
-nullable-taken_state told every_null = refl
-nullable-taken_state told told = refl
+-- rows of null are taken where the validity is nowhere true
+pub taken_of_nulls : (t r : Tree) (qs : List ℕ) (u : Valid) → ((i : ℕ) → i < length qs → is_valid_at u i ≡ false) → IsNulls t (length qs) u r → IsTakenAt t qs u r
+taken_of_nulls t r qs u none n =
+    record {
+      len = n.len;
+      kind = n.kind;
+      shape = n.shape;
+      rows = λ i l. n.rows i l ∙ sym (ap (λ b. if b then row_at t (slice_index qs i) else null) (none i l));
+    }
 
--- a taken validity is nullable where either side is
-pub nullable_taken : (v w : Valid) (index : State) → state_of w ≡ taken_state (state_of v) index → nullable w ≡ (is_nullable_state index || nullable v)
-nullable_taken v w index e =
-    nullable-state w ∙ ap is_nullable_state e ∙ nullable-taken_state (state_of v) index ∙ ap (λ b. is_nullable_state index || b) (sym (nullable-state v))
-
--- a validity that fits can be read at positions within
-pub ValidHasAll-from_fits : (v : Valid) (n : ℕ) (ps : List (Option ℕ)) → ValidFits v n → AreWithin n ps → ValidHasAll v ps
-ValidHasAll-from_fits non_nullable n ps h w = tt
-ValidHasAll-from_fits all_valid n ps h w = tt
-ValidHasAll-from_fits all_invalid n ps h w = tt
-ValidHasAll-from_fits (by_array t) n ps h w = (h.kind, rw h.len w)
-
--- ---- rows, at one position
-
-bool_row : (bits new : List Bool) (v w : Valid) (i : ℕ) (p : Option ℕ) → is_valid_at w i ≡ picked_truth (is_valid_at v) p → bool_at new i ≡ picked_bit bits p
-    → row_at (bools new w) i ≡ picked (row_at (bools bits v)) p
-bool_row bits new v w i None a b = rw a refl
-bool_row bits new v w i (Some k) a b = rw (a, b) refl
-
-number_row : (t : PType) (bs new : List ℕ) (v w : Valid) (i : ℕ) (p : Option ℕ) → is_valid_at w i ≡ picked_truth (is_valid_at v) p → number_nth (numbers t new) i ≡ picked_number (numbers t bs) p
-    → row_at (primitive t new w) i ≡ picked (row_at (primitive t bs v)) p
-number_row t bs new v w i None a b = rw a refl
-number_row t bs new v w i (Some k) a b = rw (a, b) refl
-
-list_row : (e o s o2 s2 : Tree) (v w : Valid) (f f2 : Bool) (i : ℕ) (p : Option ℕ) → is_valid_at w i ≡ picked_truth (is_valid_at v) p
-    → count_in (row_at o2 i) ≡ picked_count (λ k. count_in (row_at o k)) p → count_in (row_at s2 i) ≡ picked_count (λ k. count_in (row_at s k)) p
-    → row_at (list_view e o2 s2 w f2) i ≡ picked (row_at (list_view e o s v f)) p
-list_row e o s o2 s2 v w f f2 i None a b c = rw a refl
-list_row e o s o2 s2 v w f f2 i (Some k) a b c = rw (a, b, c) refl
-
--- ---- layouts
-
-pub bools_taken : (t u : Tree) (bits new : List Bool) (v w : Valid) (ps : List (Option ℕ)) (index : State) → t ≡ bools bits v → u ≡ bools new w
-    → new ≡ map (picked_bit bits) ps → IsValidTaken v ps index w → IsTaken t ps index u
-bools_taken t u bits new v w ps index p q e h =
-    rw (p, q) (record {
-      len = ap length e ∙ length-map ps (picked_bit bits);
-      kind = ap booleans (nullable_taken v w index h.state);
-      shape = ap bool_shape h.state;
-      rows = λ i l. bool_row bits new v w i (position_at ps i) (h.bits i l) (ap (λ (bs : List Bool). bool_at bs i) e ∙ get_or-map (picked_bit bits) ps i None false l);
-    })
-
-pub numbers_taken : (t u : Tree) (p : PType) (bs new : List ℕ) (v w : Valid) (ps : List (Option ℕ)) (index : State) → t ≡ primitive p bs v → u ≡ primitive p new w
-    → numbers p new ≡ map (picked_number (numbers p bs)) ps → IsValidTaken v ps index w → IsTaken t ps index u
-numbers_taken t u p bs new v w ps index a b e h =
-    rw (a, b) (record {
-      len = ap length e ∙ length-map ps (picked_number (numbers p bs));
-      kind = ap (integers p) (nullable_taken v w index h.state);
-      shape = ap primitive_shape h.state;
-      rows = λ i l. number_row p bs new v w i (position_at ps i) (h.bits i l) (ap (λ (zs : List ℤ). number_nth zs i) e ∙ get_or-map (picked_number (numbers p bs)) ps i None (pos 0) l);
-    })
-
-pub lists_taken : (t u e o s o2 s2 : Tree) (v w : Valid) (f : Bool) (ps : List (Option ℕ)) (index : State) → t ≡ list_view e o s v f → u ≡ list_view e o2 s2 w false
-    → IsCountsTaken o ps o2 → IsCountsTaken s ps s2 → IsValidTaken v ps index w → IsTaken t ps index u
-lists_taken t u e o s o2 s2 v w f ps index a b x y h =
-    rw (a, b) (record {
-      len = x.len;
-      kind = ap (lists (kind_of e)) (nullable_taken v w index h.state);
-      shape = ap (λ st. list_view_shape e st false) h.state;
-      rows = λ i l. list_row e o s o2 s2 v w f false i (position_at ps i) (h.bits i l) (ap count_in (x.counts i l)) (ap count_in (y.counts i l));
-    })
-
--- a validity array that is taken
-pub valid_taken : (v w : Valid) (m n : Tree) (bits new : List Bool) (ps : List (Option ℕ)) (index : State) → v ≡ by_array m → w ≡ by_array n → n ≡ bools new non_nullable
-    → bits ≡ map (λ i. truth_of (row_at m i)) (range_with_len 0 (tree_len m)) → new ≡ map (picked_bit bits) ps → AreWithin (tree_len m) ps → IsValidTaken v ps index w
-valid_taken v w m n bits new ps index a b c d e h =
-    rw (a, b, c) (record {
-      fits = record { len = ap length e ∙ length-map ps (picked_bit bits); kind = refl };
-      state = refl;
-      bits = λ i l. ap (λ (bs : List Bool). bool_at bs i) e ∙ get_or-map (picked_bit bits) ps i None false l ∙ truth bits m d (position_at ps i) (h i None l);
-    })
+-- what is selected needs a dictionary where the array does
+pub dictionary_fault-selected : (t s : Tree) (qs : List ℕ) (nulls : Bool) → IsSelected t qs s → dictionary_fault (shape_of t) nulls ≡ None → dictionary_fault (shape_of s) nulls ≡ None
+dictionary_fault-selected t s qs nulls h e = ap (λ x. dictionary_fault x nulls) h.shape ∙ kept (shape_of t) ∙ e
   where
-    truth : (bits : List Bool) (m : Tree) → bits ≡ map (λ i. truth_of (row_at m i)) (range_with_len 0 (tree_len m)) → (p : Option ℕ) → IfSome p (λ k. k < tree_len m) → picked_bit bits p ≡ picked_truth (λ i. truth_of (row_at m i)) p
-    truth bits m d None h = refl
-    truth bits m d (Some k) h = ap (λ (bs : List Bool). get_or bs k false) d ∙ get_or-map-range_with_len (λ i. truth_of (row_at m i)) 0 (tree_len m) k k false h (zero-add k)
+    kept : (x : Shape) → dictionary_fault (selected_shape x) nulls ≡ dictionary_fault x nulls
+    kept (bool_shape s) = refl
+    kept (primitive_shape s) = refl
+    kept (constant_shape s) = refl
+    kept (dictionary_shape s f) = refl
+    kept (fixed_list_shape s) = refl
+    kept (list_view_shape e s f) = refl
+    kept (struct_shape s) = refl
+    kept (view_shape bs s) = refl
 
--- there are as many of the truths of an array as of its rows
-pub truths_long : (m : Tree) (bits : List Bool) → bits ≡ map (λ i. truth_of (row_at m i)) (range_with_len 0 (tree_len m)) → length bits ≡ tree_len m
-truths_long m bits d = ap length d ∙ length-map-range_with_len (λ i. truth_of (row_at m i)) 0 (tree_len m)
+-- ---- by indices
+
+below_or_zero : (n : ℕ) (p : Option ℕ) → 0 < n → IfSome p (λ k. k < n) → or_zero p < n
+below_or_zero n None some h = some
+below_or_zero n (Some k) some h = h
+
+-- positions within are below, where there are rows
+pub positions_below : (indices : Tree) (n : ℕ) (qs : List ℕ) → ArePositions indices n qs → 0 < n → AreBelow n qs
+positions_below indices n qs h some = λ i d l.
+    let P : ℕ → Type 0 = λ k. k < n in
+    let inside : i < tree_len indices = rw h.len at l in
+    let p = h.each i inside in
+    let same : get_or qs i d ≡ or_zero (position_in (row_at indices i)) = get_or_default qs i d 0 l ∙ p.told in
+    subst P (sym same) (below_or_zero n (position_in (row_at indices i)) some p.within)
+
+not_some : (p : Option ℕ) → IfSome p (λ k. k < 0) → is_some p ≡ false
+not_some None h = refl
+not_some (Some k) h = absurd (omega arith)
+
+-- and there is none, where there are none
+pub positions_none : (indices : Tree) (n : ℕ) (qs : List ℕ) (v : Valid) → n ≡ 0 → ArePositions indices n qs → IsValidityOf indices v → (i : ℕ) → i < length qs → is_valid_at v i ≡ false
+positions_none indices n qs v e h valid i l =
+    let inside : i < tree_len indices = rw h.len at l in
+    let p = h.each i inside in
+    let P : ℕ → Type 0 = λ m. IfSome (position_in (row_at indices i)) (λ k. k < m) in
+    valid.bits i inside ∙ sym p.present ∙ not_some (position_in (row_at indices i)) (subst P e p.within)
+
+-- the row of one index
+taken_row : (t : Tree) (k : ℕ) (b : Bool) (p : Option ℕ) → b ≡ is_some p → k ≡ or_zero p → IfSome p (λ n. n < tree_len t) → (if b then row_at t k else null) ≡ pick (rows t) p
+taken_row t k b None e same w = rw e refl
+taken_row t k b (Some n) e same w = rw (e, same) (sym (get_or-map-range_with_len (row_at t) 0 (tree_len t) n n null w (zero-add n)))
+
+long_rows : (t : Tree) → length (rows t) ≡ tree_len t
+long_rows t = length-map-range_with_len (row_at t) 0 (tree_len t)
+
+-- the position of one index
+position_of_row : (t : Tree) (i : ℕ) → i < tree_len t → get_or (positions (rows t)) i None ≡ position_in (row_at t i)
+position_of_row t i l =
+    get_or-map position_in (rows t) i null None (rw (long_rows t) l) ∙ ap position_in (get_or-map-range_with_len (row_at t) 0 (tree_len t) i i null l (zero-add i))
+
+-- the rows at positions
+pub rows_taken : (t r indices : Tree) (n : ℕ) (qs : List ℕ) (v : Valid) → n ≡ tree_len t → ArePositions indices n qs → IsValidityOf indices v → IsTakenAt t qs v r → rows r ≡ picks (rows t) (positions (rows indices))
+rows_taken t r indices n qs v e h valid taken =
+    let ps = positions (rows indices) in
+    let many : length ps ≡ tree_len indices = length-map (rows indices) position_in ∙ long_rows indices in
+    let long : length (picks (rows t) ps) ≡ length qs = length-map ps (pick (rows t)) ∙ many ∙ sym h.len in
+    rw taken.len (sym (fill_by_all (row_at r) (picks (rows t) ps) (length qs) null long (λ i l. sym (one i l))))
+  where
+    one : (i : ℕ) → i < length qs → row_at r i ≡ get_or (picks (rows t) (positions (rows indices))) i null
+    one i l =
+        let inside : i < tree_len indices = rw h.len at l in
+        let p = h.each i inside in
+        let ps = positions (rows indices) in
+        let many : length ps ≡ tree_len indices = length-map (rows indices) position_in ∙ long_rows indices in
+        let P : ℕ → Type 0 = λ m. IfSome (position_in (row_at indices i)) (λ k. k < m) in
+        let within : IfSome (position_in (row_at indices i)) (λ k. k < tree_len t) = subst P e p.within in
+        taken.rows i l ∙ taken_row t (slice_index qs i) (is_valid_at v i) (position_in (row_at indices i)) (valid.bits i inside ∙ sym p.present) p.told within
+        ∙ ap (pick (rows t)) (sym (position_of_row indices i inside)) ∙ sym (get_or-map (pick (rows t)) ps i None null (rw many inside))
+
+-- with indices that are integers and faultless, only the rows taken have a fault
+pub take_fault-of : (t indices : Tree) (n : ℕ) (nulls : Bool) → is_integers (kind_of indices) ≡ true → indices_fault (tree_len t) indices ≡ None → n ≡ tree_len indices → nulls ≡ is_nullable_kind (kind_of indices)
+    → take_fault t indices ≡ rows_fault t n nulls
+take_fault-of t indices n nulls ints none e f = rw (ints, none, e, f) refl

@@ -1,6 +1,6 @@
 -- Every row of an array fits the array's kind.
-use Rattle.std.specs.Prelude.{◌<◌, ℕ, [], length, slice_index_or}
-use Rattle.vx_base.specs.Kinds.{Fits}
+use Rattle.std.specs.Prelude.{◌≡◌, ◌<◌, ◌^◌, ℕ, [], length, slice_index_or}
+use Rattle.vx_base.specs.Kinds.{Kind, Fits}
 use Rattle.vx_views.specs.Views.{AreBytes}
 use Rattle.vx_tree.specs.Tree.{Tree, bools, primitive, constant, dictionary, fixed_list, list_view, structure, view_array, Trees, no_trees, tree, Valid, non_nullable, all_valid, all_invalid, by_array}
 use Rattle.vx_tree.specs.Meaning.{tree_len, kind_of, row_at}
@@ -27,6 +27,13 @@ abbrev mutual
   ValidityFormed all_valid = Unit {0}
   ValidityFormed all_invalid = Unit {0}
   ValidityFormed (by_array t) = AllFormed t
+
+-- what an array keeps beside its parts: their length, which a machine word holds, and their kind
+pub record IsKept (t : Tree) (len : ℕ) (kind : Kind) : Type 0 where
+  pub same_len : len ≡ tree_len t
+  pub short : len < 2 ^ 64
+  pub same_kind : kind ≡ kind_of t
+  pub formed : AllFormed t
 
 -- of an array that is well formed at every depth each row fits the kind
 abbrev pub RowsFit : Type 0

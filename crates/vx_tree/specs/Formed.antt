@@ -1,9 +1,9 @@
 -- What is true of the parts of every array.
-use Rattle.std.specs.Prelude.{◌≡◌, ◌≤◌, ◌<◌, ◌+◌, ◌*◌, ◌^◌, ℕ, Bool, true, false, IsTrue, List, [], length, take, pos, negsuc, Some, replicate, slice_index_or, IsUtf8}
+use Rattle.std.specs.Prelude.{◌≡◌, ◌≤◌, ◌<◌, ◌+◌, ◌*◌, ℕ, Bool, true, false, IsTrue, List, [], length, take, pos, negsuc, Some, replicate, slice_index_or, IsUtf8}
 use Rattle.std.proofs.Common.{arith}
 use Rattle.vx_base.specs.Integers.{byte_width, numbers}
 use Rattle.vx_base.specs.Rows.{Row, null, boolean, whole, bytes, text, items, record_of, count_in, position_in}
-use Rattle.vx_base.specs.Kinds.{Kind, booleans, is_integers, is_plain_integers, Fits}
+use Rattle.vx_base.specs.Kinds.{booleans, is_integers, is_plain_integers, Fits}
 use Rattle.vx_views.specs.Views.{view_value, view_size, view_prefix, Resolves}
 use Rattle.vx_tree.specs.Tree.{Tree, bools, primitive, constant, dictionary, fixed_list, list_view, structure, view_array, Trees, no_trees, tree, Valid, non_nullable, all_valid, all_invalid, by_array}
 use Rattle.vx_tree.specs.Meaning.{tree_len, kind_of, row_at, is_valid_at}
@@ -127,12 +127,5 @@ WellFormed (fixed_list e k v n) = ValidFits v n × (tree_len e ≡ n * k)
 WellFormed (list_view e o s v f) = ValidFits v (tree_len o) × IsListView e o s f
 WellFormed (structure ns ts v n) = ValidFits v n × IsStruct ns ts n
 WellFormed (view_array vs bs u v) = ValidFits v (length vs) × IsViewArray vs bs u v
-
--- what an array keeps beside its parts: their length, which a machine word holds, and their kind
-pub record IsKept (t : Tree) (len : ℕ) (kind : Kind) : Type 0 where
-  pub same_len : len ≡ tree_len t
-  pub short : len < 2 ^ 64
-  pub same_kind : kind ≡ kind_of t
-  pub formed : WellFormed t
 
 pub ruleset valid_reads = (ValidReads-from_fits, ValidCovers-from_fits)

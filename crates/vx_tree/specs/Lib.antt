@@ -1,9 +1,9 @@
-pub mod Codes
 pub mod Tree
 pub mod Meaning
 pub mod Shapes
 pub mod Formed
 pub mod Parts
+pub mod Layouts
 pub mod Falls
 pub mod Faults
 pub mod Operations

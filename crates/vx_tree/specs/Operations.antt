@@ -1,15 +1,16 @@
--- What slicing and taking give, row by row.
-use Rattle.std.specs.Prelude.{◌≡◌, ◌<◌, ◌+◌, ℕ, ℤ, Bool, false, pos, List, length, map, Option, Some, None, is_some, IsSome, IfSome, slice_index_or}
+-- What slicing, selecting and taking give, row by row.
+use Rattle.std.specs.Prelude.{◌≡◌, ◌<◌, ◌+◌, ◌&&◌, ℕ, pos, Bool, false, List, length, map, Option, Some, None, is_some, IfSome, slice_index, slice_index_or, if◌then◌else◌}
 use Rattle.std.specs.List.{All}
 use Rattle.vx_base.specs.declared.ptypes.PType.{PType}
-use Rattle.vx_base.specs.Rows.{Row, null, whole, position_in, count_in, is_present}
-use Rattle.vx_base.specs.Kinds.{or_nullable, booleans}
+use Rattle.vx_base.specs.Rows.{Row, null, whole, position_in, is_present}
+use Rattle.vx_base.specs.Kinds.{or_nullable, booleans, integers, is_nullable_kind}
 use Rattle.vx_tree.specs.Tree.{Tree, bools, primitive, Valid, non_nullable, all_valid, all_invalid, by_array}
-use Rattle.vx_tree.specs.Meaning.{tree_len, kind_of, row_at, is_valid_at, nullable, picked}
-use Rattle.vx_tree.specs.Shapes.{State, state_of, is_nullable_state, taken_state, shape_of, sliced_shape, taken_shape}
+use Rattle.vx_tree.specs.Meaning.{tree_len, kind_of, row_at, rows, is_valid_at, nullable}
+use Rattle.vx_tree.specs.Shapes.{state_of, tree_state, taken_state, shape_of, sliced_shape, selected_shape, nulled_shape, taken_shape}
 use Rattle.vx_tree.specs.Formed.{ValidFits}
 
--- n rows from a start on
+-- ---- slicing: n rows from a start on
+
 pub record IsSlice (t : Tree) (start n : ℕ) (r : Tree) : Type 0 where
   pub len : tree_len r ≡ n
   pub kind : kind_of r ≡ kind_of t
@@ -22,66 +23,96 @@ pub record IsValidSlice (v : Valid) (start n : ℕ) (w : Valid) : Type 0 where
   pub state : state_of w ≡ state_of v
   pub bits : (i : ℕ) → i < n → is_valid_at w i ≡ is_valid_at v (start + i)
 
--- the position at a place of a list of them
-abbrev pub position_at : List (Option ℕ) → ℕ → Option ℕ
-position_at ps i = slice_index_or ps i None
+-- ---- selecting: the rows at positions
 
--- each position that is there is below n
-abbrev pub AreWithin : ℕ → List (Option ℕ) → Type 0
-AreWithin n ps = All (λ p. IfSome p (λ k. k < n)) ps
-
--- every position is there
-abbrev pub AreThere : List (Option ℕ) → Type 0
-AreThere ps = All (λ p. IsSome p) ps
-
--- a truth value at an optional position: false where there is none
-abbrev pub picked_truth : (ℕ → Bool) → Option ℕ → Bool
-picked_truth f None = false
-picked_truth f (Some k) = f k
-
--- a count at an optional position: 0 where there is none
-abbrev pub picked_count : (ℕ → ℕ) → Option ℕ → ℕ
-picked_count f None = 0
-picked_count f (Some k) = f k
-
--- the validity of the indices that name these positions: a null index names none
-pub record IsIndexValidity (ps : List (Option ℕ)) (v : Valid) : Type 0 where
-  pub fits : ValidFits v (length ps)
-  pub bits : (i : ℕ) → i < length ps → is_valid_at v i ≡ is_some (position_at ps i)
+-- each position is below n
+abbrev pub AreBelow : ℕ → List ℕ → Type 0
+AreBelow n ps = All (λ k. k < n) ps
 
 -- the validity can be read at each of the positions
-abbrev pub ValidHasAll : Valid → List (Option ℕ) → Type 0
-ValidHasAll non_nullable ps = Unit {0}
-ValidHasAll all_valid ps = Unit {0}
-ValidHasAll all_invalid ps = Unit {0}
-ValidHasAll (by_array t) ps = (kind_of t ≡ booleans false) × AreWithin (tree_len t) ps
+abbrev pub ValidHasAll : Valid → List ℕ → Type 0
+ValidHasAll (by_array t) ps = (kind_of t ≡ booleans false) × AreBelow (tree_len t) ps
+ValidHasAll _ ps = Unit {0}
 
--- the rows at these positions, taken by indices whose validity has that state
-pub record IsTaken (t : Tree) (ps : List (Option ℕ)) (index : State) (r : Tree) : Type 0 where
-  pub len : tree_len r ≡ length ps
-  pub kind : kind_of r ≡ or_nullable (is_nullable_state index) (kind_of t)
-  pub shape : shape_of r ≡ taken_shape (shape_of t) index
-  pub rows : (i : ℕ) → i < length ps → row_at r i ≡ picked (row_at t) (position_at ps i)
-
-pub record IsValidTaken (v : Valid) (ps : List (Option ℕ)) (index : State) (w : Valid) : Type 0 where
-  pub fits : ValidFits w (length ps)
-  pub state : state_of w ≡ taken_state (state_of v) index
-  pub bits : (i : ℕ) → i < length ps → is_valid_at w i ≡ picked_truth (is_valid_at v) (position_at ps i)
-
--- the counts at these positions, 0 where there is none, of the same kind
-pub record IsCountsTaken (t : Tree) (ps : List (Option ℕ)) (r : Tree) : Type 0 where
+pub record IsSelected (t : Tree) (ps : List ℕ) (r : Tree) : Type 0 where
   pub len : tree_len r ≡ length ps
   pub kind : kind_of r ≡ kind_of t
-  pub counts : (i : ℕ) → i < length ps → row_at r i ≡ whole (pos (picked_count (λ k. count_in (row_at t k)) (position_at ps i)))
+  pub shape : shape_of r ≡ selected_shape (shape_of t)
+  pub rows : (i : ℕ) → i < length ps → row_at r i ≡ row_at t (slice_index ps i)
 
--- each row that is present names a position
-abbrev pub TellsPresent : Tree → Type 0
-TellsPresent t = (i : ℕ) → i < tree_len t → is_some (position_in (row_at t i)) ≡ is_present (row_at t i)
+pub record IsValidSelected (v : Valid) (ps : List ℕ) (w : Valid) : Type 0 where
+  pub fits : ValidFits w (length ps)
+  pub state : state_of w ≡ state_of v
+  pub bits : (i : ℕ) → i < length ps → is_valid_at w i ≡ is_valid_at v (slice_index ps i)
 
--- the row of a number, null where there is none
-abbrev pub number_row : Option ℤ → Row
-number_row None = null
-number_row (Some z) = whole z
+-- ---- nulls: the same rows, null where another validity is not true
+
+pub record IsNulled (t : Tree) (u : Valid) (r : Tree) : Type 0 where
+  pub len : tree_len r ≡ tree_len t
+  pub kind : kind_of r ≡ or_nullable (nullable u) (kind_of t)
+  pub shape : shape_of r ≡ nulled_shape (shape_of t) (state_of u)
+  pub rows : (i : ℕ) → i < tree_len t → row_at r i ≡ (if is_valid_at u i then row_at t i else null)
+
+pub record IsValidNulled (v u : Valid) (n : ℕ) (w : Valid) : Type 0 where
+  pub fits : ValidFits w n
+  pub state : state_of w ≡ taken_state (state_of v) (state_of u)
+  pub bits : (i : ℕ) → i < n → is_valid_at w i ≡ (is_valid_at v i && is_valid_at u i)
+
+-- n rows of null, by a validity that is nowhere true
+pub record IsValidNulls (v u : Valid) (n : ℕ) (w : Valid) : Type 0 where
+  pub fits : ValidFits w n
+  pub state : state_of w ≡ taken_state (state_of v) (state_of u)
+  pub bits : (i : ℕ) → i < n → is_valid_at w i ≡ false
+
+-- n rows of null in the layout of an array, by a validity that is nowhere true
+pub record IsNulls (t : Tree) (n : ℕ) (u : Valid) (r : Tree) : Type 0 where
+  pub len : tree_len r ≡ n
+  pub kind : kind_of r ≡ or_nullable (nullable u) (kind_of t)
+  pub shape : shape_of r ≡ taken_shape (shape_of t) (state_of u)
+  pub rows : (i : ℕ) → i < n → row_at r i ≡ null
+
+-- n counts of a type that are all 0
+pub record IsZeroes (p : PType) (n : ℕ) (t : Tree) : Type 0 where
+  pub len : tree_len t ≡ n
+  pub kind : kind_of t ≡ integers p false
+  pub rows : (i : ℕ) → i < n → row_at t i ≡ whole (pos 0)
+
+-- ---- taking: the rows at positions, null where a validity is not true
+
+pub record IsTakenAt (t : Tree) (ps : List ℕ) (u : Valid) (r : Tree) : Type 0 where
+  pub len : tree_len r ≡ length ps
+  pub kind : kind_of r ≡ or_nullable (nullable u) (kind_of t)
+  pub shape : shape_of r ≡ taken_shape (shape_of t) (state_of u)
+  pub rows : (i : ℕ) → i < length ps → row_at r i ≡ (if is_valid_at u i then row_at t (slice_index ps i) else null)
+
+-- the validity of an array's rows
+pub record IsValidityOf (t : Tree) (v : Valid) : Type 0 where
+  pub fits : ValidFits v (tree_len t)
+  pub state : state_of v ≡ tree_state t
+  pub kind : nullable v ≡ is_nullable_kind (kind_of t)
+  pub bits : (i : ℕ) → i < tree_len t → is_valid_at v i ≡ is_present (row_at t i)
+
+-- ---- indices
+
+-- the position, 0 where there is none
+abbrev pub or_zero : Option ℕ → ℕ
+or_zero None = 0
+or_zero (Some k) = k
+
+-- the positions that rows of integers name
+abbrev pub positions : List Row → List (Option ℕ)
+positions rs = map position_in rs
+
+-- the position below a bound that a row names, 0 where it is null
+pub record IsPosition (bound : ℕ) (r : Row) (k : ℕ) : Type 0 where
+  pub told : k ≡ or_zero (position_in r)
+  pub within : IfSome (position_in r) (λ p. p < bound)
+  pub present : is_some (position_in r) ≡ is_present r
+
+-- the positions below a bound that the rows of an array name, 0 where they are null
+pub record ArePositions (t : Tree) (bound : ℕ) (ps : List ℕ) : Type 0 where
+  pub len : length ps ≡ tree_len t
+  pub each : (i : ℕ) → i < tree_len t → IsPosition bound (row_at t i) (slice_index ps i)
 
 -- numbers under a mask, as an array: null where the mask is false
 abbrev pub masked_numbers : PType → List ℕ → List Bool → Tree
@@ -97,7 +128,3 @@ pick rs (Some k) = slice_index_or rs k null
 -- the rows of a list at these positions
 abbrev pub picks : List Row → List (Option ℕ) → List Row
 picks rs ps = map (pick rs) ps
-
--- the positions that rows of integers name
-abbrev pub positions : List Row → List (Option ℕ)
-positions rs = map position_in rs

@@ -1,7 +1,7 @@
 -- The layout of an array, with what slicing and taking keep of it.
 use Rattle.std.specs.Prelude.{ℕ, Bool, true, false, List, if◌then◌else◌}
-use Rattle.vx_base.specs.Rows.{is_present}
-use Rattle.vx_base.specs.Kinds.{is_nullable_kind}
+use Rattle.vx_base.specs.Rows.{Row, is_present}
+use Rattle.vx_base.specs.Kinds.{Kind, is_nullable_kind}
 use Rattle.vx_tree.specs.Tree.{Tree, bools, primitive, constant, dictionary, fixed_list, list_view, structure, view_array, Valid, non_nullable, all_valid, all_invalid, by_array}
 
 -- the state of a validity
@@ -34,11 +34,15 @@ taken_state none_null told = told
 taken_state every_null index = every_null
 taken_state told index = told
 
+-- the state of one row, however often
+abbrev pub row_state : Kind → Row → State
+row_state k r = if is_present r then (if is_nullable_kind k then none_null else never_null) else every_null
+
 -- the state of an array: a constant's by its row, a dictionary's is its values' taken by its codes
 abbrev pub tree_state : Tree → State
 tree_state (bools bits v) = state_of v
 tree_state (primitive t bs v) = state_of v
-tree_state (constant k r n) = if is_present r then (if is_nullable_kind k then none_null else never_null) else every_null
+tree_state (constant k r n) = row_state k r
 tree_state (dictionary c v f) = taken_state (tree_state v) (tree_state c)
 tree_state (fixed_list e k v n) = state_of v
 tree_state (list_view e o s v f) = state_of v
@@ -49,8 +53,8 @@ tree_state (view_array vs bs u v) = state_of v
 pub data Shape : Type 0 where
   bool_shape : State → Shape
   primitive_shape : State → Shape
-  constant_shape : Shape
-  dictionary_shape : Bool → Shape
+  constant_shape : State → Shape
+  dictionary_shape : State → Bool → Shape
   fixed_list_shape : State → Shape
   list_view_shape : Tree → State → Bool → Shape
   struct_shape : State → Shape
@@ -59,8 +63,8 @@ pub data Shape : Type 0 where
 abbrev pub shape_of : Tree → Shape
 shape_of (bools bits v) = bool_shape (state_of v)
 shape_of (primitive t bs v) = primitive_shape (state_of v)
-shape_of (constant k r n) = constant_shape
-shape_of (dictionary c v f) = dictionary_shape f
+shape_of (constant k r n) = constant_shape (row_state k r)
+shape_of (dictionary c v f) = dictionary_shape (taken_state (tree_state v) (tree_state c)) f
 shape_of (fixed_list e k v n) = fixed_list_shape (state_of v)
 shape_of (list_view e o s v f) = list_view_shape e (state_of v) f
 shape_of (structure ns ts v n) = struct_shape (state_of v)
@@ -70,27 +74,40 @@ shape_of (view_array vs bs u v) = view_shape bs (state_of v)
 abbrev pub sliced_shape : Shape → Shape
 sliced_shape (bool_shape s) = bool_shape s
 sliced_shape (primitive_shape s) = primitive_shape s
-sliced_shape constant_shape = constant_shape
-sliced_shape (dictionary_shape f) = dictionary_shape false
+sliced_shape (constant_shape s) = constant_shape s
+sliced_shape (dictionary_shape s f) = dictionary_shape s false
 sliced_shape (fixed_list_shape s) = fixed_list_shape s
 sliced_shape (list_view_shape e s f) = list_view_shape e s f
 sliced_shape (struct_shape s) = struct_shape s
 sliced_shape (view_shape bs s) = view_shape bs s
 
--- taking by nullable indices makes a constant a dictionary
-abbrev pub taken_constant : State → Shape
-taken_constant never_null = constant_shape
-taken_constant none_null = dictionary_shape false
-taken_constant every_null = dictionary_shape false
-taken_constant told = dictionary_shape false
+-- selecting keeps all of it, but clears a list view's flag and a dictionary's
+abbrev pub selected_shape : Shape → Shape
+selected_shape (bool_shape s) = bool_shape s
+selected_shape (primitive_shape s) = primitive_shape s
+selected_shape (constant_shape s) = constant_shape s
+selected_shape (dictionary_shape s f) = dictionary_shape s false
+selected_shape (fixed_list_shape s) = fixed_list_shape s
+selected_shape (list_view_shape e s f) = list_view_shape e s false
+selected_shape (struct_shape s) = struct_shape s
+selected_shape (view_shape bs s) = view_shape bs s
 
--- taking keeps the layout and what is kept whole, takes the state, and clears a flag
+-- nulls make a constant a dictionary, where null may stand among them
+abbrev pub nulled_constant : State → State → Shape
+nulled_constant s never_null = constant_shape s
+nulled_constant s index = dictionary_shape (taken_state s index) false
+
+-- nulls of a validity of some state take that state, and clear a dictionary's flag
+abbrev pub nulled_shape : Shape → State → Shape
+nulled_shape (bool_shape s) index = bool_shape (taken_state s index)
+nulled_shape (primitive_shape s) index = primitive_shape (taken_state s index)
+nulled_shape (constant_shape s) index = nulled_constant s index
+nulled_shape (dictionary_shape s f) index = dictionary_shape (taken_state s index) false
+nulled_shape (fixed_list_shape s) index = fixed_list_shape (taken_state s index)
+nulled_shape (list_view_shape e s f) index = list_view_shape e (taken_state s index) f
+nulled_shape (struct_shape s) index = struct_shape (taken_state s index)
+nulled_shape (view_shape bs s) index = view_shape bs (taken_state s index)
+
+-- taking selects, and takes the nulls of the indices
 abbrev pub taken_shape : Shape → State → Shape
-taken_shape (bool_shape s) index = bool_shape (taken_state s index)
-taken_shape (primitive_shape s) index = primitive_shape (taken_state s index)
-taken_shape constant_shape index = taken_constant index
-taken_shape (dictionary_shape f) index = dictionary_shape false
-taken_shape (fixed_list_shape s) index = fixed_list_shape (taken_state s index)
-taken_shape (list_view_shape e s f) index = list_view_shape e (taken_state s index) false
-taken_shape (struct_shape s) index = struct_shape (taken_state s index)
-taken_shape (view_shape bs s) index = view_shape bs (taken_state s index)
+taken_shape s index = nulled_shape (selected_shape s) index

@@ -5,7 +5,7 @@ use base.Stored.{Gv, gnil, gnum, gcons, Coded, coded_ℕ, coded_bool, coded_list
 use Rattle.vx_base.specs.declared.ptypes.PType.{PType}
 use Rattle.vx_base.specs.Rows.{Row}
 use Rattle.vx_base.specs.Kinds.{Kind}
-use Rattle.vx_tree.specs.Codes.{first, rest, tag, number, code_type, code_type-inj, code_row, code_row-inj, code_kind, code_kind-inj}
+use Rattle.vx_base.specs.Codes.{first, rest, tag, number, code_type, code_type-inj, code_row, code_row-inj, code_kind, code_kind-inj}
 
 mutual
   -- the eight layouts

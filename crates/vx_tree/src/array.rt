@@ -3,14 +3,16 @@
 ghost use Rattle.std.specs.Prelude.{◌≡◌, ◌==◌, IfOk, IsOkUnless};
 ghost use Rattle.vx_base.specs.DTypes.{dtype_meaning};
 ghost use Rattle.vx_base.specs.declared.errors.VortexError.TheVariants.{Memory};
+ghost use Rattle.vx_views.specs.Views.{AreBytes};
 ghost use Rattle.vx_tree.specs.Meaning.{tree_len, kind_of};
 ghost use Rattle.vx_tree.specs.Formed.{WellFormed};
+ghost use Rattle.vx_tree.specs.Fitting.{AllFormed};
 ghost use Rattle.vx_tree.specs.Parts.{tree_of};
 
 use std::alloc::Global;
 use std::marker::Model;
 use std::rc::Rc;
-use vx_base::{BitBuffer, ByteBuffer, DType, PType, VortexError, number_count};
+use vx_base::{BitBuffer, ByteBuffer, DType, PType, Scalar, VortexError, number_count};
 
 /// A column of rows: a layout whose parts are shared, with the data type and the number of its
 /// rows. Its parts are well formed at every depth.
@@ -57,6 +59,11 @@ pub enum Layout {
         bytes: ByteBuffer,
         validity: Validity,
     },
+    /// One row, `len` times.
+    Constant {
+        scalar: Scalar,
+        len: usize,
+    },
     /// Row `i` is the list of `sizes[i]` rows of the elements from `offsets[i]` on. A set flag
     /// says that each list ends where the next one begins, null rows counted.
     ListView {
@@ -70,7 +77,7 @@ pub enum Layout {
 
 impl Model for ArrayRef {
     ghost use Rattle.vx_tree.specs.Tree.{Tree, tree_code, depth};
-    ghost use Rattle.vx_tree.specs.Formed.{IsKept};
+    ghost use Rattle.vx_tree.specs.Fitting.{IsKept};
 
     ghost Value = { Tree };
 
@@ -128,10 +135,18 @@ impl ArrayRef {
         ensures ok { IfOk result (λ a. a ≡ tree_of layout) }
         ensures err { IsOkUnless result Memory }
     {
+        layout.known();
         let len = layout.len();
         let dtype = layout.dtype(alloc)?;
         let node = Rc::new(alloc, Node { dtype, len, layout })?;
         Ok(ArrayRef { node })
+    }
+
+    // What is always true of it, at every depth. It does nothing.
+    pub(crate) fn known(&self)
+        ensures { AllFormed self.now }
+    {
+        let _ = &self.node;
     }
 
     /// The same array, its parts shared.
@@ -145,6 +160,37 @@ impl ArrayRef {
 }
 
 impl Layout {
+    // What is true at every depth of parts that are well formed. It does nothing.
+    fn known(&self)
+        requires { WellFormed (tree_of self.now) }
+        ensures { AllFormed (tree_of self.now) }
+    {
+        match self {
+            Layout::Bool { validity, .. } => validity.known(),
+            Layout::Primitive {
+                bytes,
+                validity,
+                ..
+            } => {
+                are_bytes(bytes.as_slice());
+                validity.known();
+            }
+            Layout::Constant { .. } => {}
+            Layout::ListView {
+                elements,
+                offsets,
+                sizes,
+                validity,
+                ..
+            } => {
+                elements.known();
+                offsets.known();
+                sizes.known();
+                validity.known();
+            }
+        }
+    }
+
     // How many rows the parts have.
     fn len(&self) -> usize
         ensures { result ≡ tree_len (tree_of self.now) }
@@ -152,6 +198,7 @@ impl Layout {
         match self {
             Layout::Bool { bits, .. } => bits.len(),
             Layout::Primitive { ptype, bytes, .. } => number_count(bytes.as_slice(), *ptype),
+            Layout::Constant { len, .. } => *len,
             Layout::ListView { offsets, .. } => offsets.len(),
         }
     }
@@ -168,6 +215,7 @@ impl Layout {
                 validity,
                 ..
             } => Ok(DType::Primitive(*ptype, validity.nullability())),
+            Layout::Constant { scalar, .. } => scalar.dtype().try_clone(alloc),
             Layout::ListView {
                 elements,
                 validity,
@@ -178,4 +226,11 @@ impl Layout {
             }
         }
     }
+}
+
+// The elements of a slice of bytes are bytes. It does nothing.
+fn are_bytes(bytes: &[u8])
+    ensures { AreBytes bytes.now }
+{
+    let _ = bytes.len();
 }

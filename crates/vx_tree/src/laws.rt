@@ -1,12 +1,23 @@
 // Laws of arrays, each proved as the contract of a function that does nothing.
 
-ghost use Rattle.std.specs.Prelude.{◌≡◌, ◌-◌, ◌^◌, Some, None};
+ghost use Rattle.std.specs.Prelude.{◌≡◌, ◌<◌, ◌-◌, ◌^◌, ℕ, Some, None};
+ghost use Rattle.vx_base.specs.Kinds.{Fits};
 ghost use Rattle.vx_base.specs.Refusals.{out_of_bounds, negative, overflow, mismatched_types};
 ghost use Rattle.vx_tree.specs.Fitting.{AllFormed, RowsFit};
 ghost use Rattle.vx_tree.specs.Faults.{slice_fault, take_fault, take_overflow};
-ghost use Rattle.vx_tree.specs.Meaning.{rows};
+ghost use Rattle.vx_tree.specs.Meaning.{tree_len, kind_of, row_at, rows};
 ghost use Rattle.vx_tree.specs.Operations.{picks};
 ghost use Rattle.vx_tree.specs.Worked.{signed_numbers, signed_rows, some_booleans, some_boolean_rows, all_null, all_null_rows, same_pair, same_pair_rows, dictionary_with_nulls, dictionary_rows, empty_lists, empty_list_rows, pairs, pair_rows, overlapping_lists, overlapping_rows, last_none_first, taken_rows, some_records, record_rows, some_texts, text_rows, some_bytes, bytes_rows, faulty_indices, negative_indices, null_indices};
+
+use crate::array::ArrayRef;
+
+/// The rows of every array fit its data type.
+#[tactic(auto, using(crate::proofs::Fitting::rows_fit))]
+pub fn rows_fit_their_dtype(array: &ArrayRef)
+    ensures { (i : ℕ) → i < tree_len array.now → Fits (kind_of array.now) (row_at array.now i) }
+{
+    array.known();
+}
 
 /// Of an array that is well formed at every depth, each row fits the array's data type.
 pub fn rows_fit_their_kind()

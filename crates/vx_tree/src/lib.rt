@@ -2,15 +2,22 @@
 #![tactic(auto)]
 
 mod array;
+mod indices;
 mod laws;
+mod layouts;
+mod nulls;
 mod read;
+mod select;
 mod slice;
 mod take;
 #[cfg(test)]
 mod tests;
+mod typed_array;
 mod validity;
 
 pub use crate::array::{ArrayRef, Layout, Validity};
 pub use crate::laws::{
-    faults_of_worked_arrays, rows_fit_their_kind, rows_of_worked_arrays, worked_arrays_are_formed,
+    faults_of_worked_arrays, rows_fit_their_dtype, rows_fit_their_kind, rows_of_worked_arrays,
+    worked_arrays_are_formed,
 };
+pub use crate::typed_array::TypedArray;

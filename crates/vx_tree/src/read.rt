@@ -1,16 +1,19 @@
 // Rows that are read one at a time, or as bits.
 
-ghost use Rattle.std.specs.Prelude.{◌≡◌, ◌<◌, ◌≤ℤ◌, ◌^◌, ◌-◌, pos, true, false, map, None, IfOk, IfErr, IfSome, IsSome, is_some, IsOkUnless};
+ghost use Rattle.std.specs.Prelude.{◌≡◌, ◌<◌, ◌≤ℤ◌, ◌^◌, ◌-◌, pos, true, false, map, None, IfOk, IfSome, IsSome, is_some};
 ghost use Rattle.std.specs.List.{range_with_len};
-ghost use Rattle.vx_base.specs.Refusals.{IsMemoryOr};
+ghost use Rattle.vx_base.specs.Refusals.{Gives, Refuses};
 ghost use Rattle.vx_base.specs.Integers.{Holds};
 ghost use Rattle.vx_base.specs.Rows.{is_present, truth_of, number_in};
 ghost use Rattle.vx_base.specs.Kinds.{booleans, is_integers, is_plain_integers, integer_type};
-ghost use Rattle.vx_base.specs.declared.errors.VortexError.TheVariants.{Memory};
 ghost use Rattle.vx_tree.specs.Meaning.{tree_len, kind_of, row_at};
+ghost use Rattle.vx_tree.specs.Parts.{valid_of};
 ghost use Rattle.vx_tree.specs.Faults.{position_fault};
+ghost use Rattle.vx_tree.specs.Operations.{IsValidityOf};
 
-use crate::array::{ArrayRef, Layout};
+use crate::array::{ArrayRef, Layout, Validity};
+use crate::layouts::bool::repeated_bit;
+use crate::layouts::constant::scalar_validity;
 use std::alloc::Global;
 use vx_base::{BitBuffer, VortexError, int_at};
 
@@ -19,8 +22,7 @@ impl ArrayRef {
     /// Whether row `i` is not null. Refuses `OutOfBounds` where `i` is not below the length.
     pub fn is_valid(&self, _alloc: Global, i: usize) -> Result<bool, VortexError>
         ensures valid { IfOk result (λ b. b ≡ is_present (row_at self.now i)) }
-        ensures accepted { IfOk result (λ _. position_fault (tree_len self.now) i ≡ None) }
-        ensures refused { IfErr result (IsMemoryOr (position_fault (tree_len self.now) i)) }
+        ensures refuses { Refuses result (position_fault (tree_len self.now) i) }
     {
         let len = self.len();
         if i >= len {
@@ -29,6 +31,7 @@ impl ArrayRef {
         match self.layout() {
             Layout::Bool { validity, .. } => Ok(validity.is_valid_at(i)),
             Layout::Primitive { validity, .. } => Ok(validity.is_valid_at(i)),
+            Layout::Constant { scalar, .. } => Ok(scalar.is_valid()),
             Layout::ListView { validity, .. } => Ok(validity.is_valid_at(i)),
         }
     }
@@ -56,6 +59,7 @@ impl ArrayRef {
                     None
                 }
             }
+            Layout::Constant { scalar, .. } => scalar.as_int(),
             _ => unreachable!(),
         }
     }
@@ -68,6 +72,7 @@ impl ArrayRef {
     {
         match self.layout() {
             Layout::Bool { bits, .. } => bits.value(i),
+            Layout::Constant { scalar, .. } => scalar.as_bool(),
             _ => unreachable!(),
         }
     }
@@ -75,12 +80,24 @@ impl ArrayRef {
     // The rows of an array of plain booleans, as bits.
     pub(crate) fn plain_bits(&self, alloc: Global) -> Result<BitBuffer, VortexError>
         requires { kind_of self.now ≡ booleans false }
-        ensures ok { IfOk result (λ b. b ≡ map (λ i. truth_of (row_at self.now i)) (range_with_len 0 (tree_len self.now))) }
-        ensures err { IsOkUnless result Memory }
+        ensures { Gives result (λ b. b ≡ map (λ i. truth_of (row_at self.now i)) (range_with_len 0 (tree_len self.now))) }
     {
         match self.layout() {
             Layout::Bool { bits, .. } => bits.try_clone(alloc),
+            Layout::Constant { scalar, len } => repeated_bit(alloc, scalar.as_bool(), *len),
             _ => unreachable!(),
+        }
+    }
+
+    // Which rows are valid, as the layout keeps it.
+    pub(crate) fn validity(&self, alloc: Global) -> Result<Validity, VortexError>
+        ensures { Gives result (λ v. IsValidityOf self.now (valid_of v)) }
+    {
+        match self.layout() {
+            Layout::Bool { validity, .. } => validity.try_clone(alloc),
+            Layout::Primitive { validity, .. } => validity.try_clone(alloc),
+            Layout::Constant { scalar, .. } => Ok(scalar_validity(scalar)),
+            Layout::ListView { validity, .. } => validity.try_clone(alloc),
         }
     }
 }

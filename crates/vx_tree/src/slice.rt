@@ -1,19 +1,16 @@
 // A part of an array.
 
-ghost use Rattle.std.specs.Prelude.{◌≡◌, ◌<◌, ◌≤◌, ◌-◌, None, IfOk, IfErr, IsOkUnless, slice_range};
-ghost use Rattle.vx_base.specs.Refusals.{IsMemoryOr};
-ghost use Rattle.vx_base.specs.declared.errors.VortexError.TheVariants.{Memory};
+ghost use Rattle.std.specs.Prelude.{◌≡◌, ◌<◌, ◌≤◌, ◌-◌, IfOk, slice_range};
+ghost use Rattle.vx_base.specs.Refusals.{Gives, Refuses};
 ghost use Rattle.vx_tree.specs.Meaning.{tree_len, kind_of, rows};
 ghost use Rattle.vx_tree.specs.Shapes.{shape_of, sliced_shape};
-ghost use Rattle.vx_tree.specs.Formed.{ValidCovers};
-ghost use Rattle.vx_tree.specs.Parts.{valid_of};
 ghost use Rattle.vx_tree.specs.Faults.{slice_fault};
-ghost use Rattle.vx_tree.specs.Operations.{IsSlice, IsValidSlice};
+ghost use Rattle.vx_tree.specs.Operations.{IsSlice};
 
-use crate::array::{ArrayRef, Layout, Validity};
+use crate::array::{ArrayRef, Layout};
 use std::alloc::Global;
 use std::ops::Range;
-use vx_base::{VortexError, slice_numbers};
+use vx_base::VortexError;
 
 impl ArrayRef {
     /// The rows from `range.start` up to `range.end`, in the same layout; values, elements and
@@ -25,8 +22,7 @@ impl ArrayRef {
         ensures kind { IfOk result (λ a. kind_of a ≡ kind_of self.now) }
         ensures shape { IfOk result (λ a. shape_of a ≡ sliced_shape (shape_of self.now)) }
         ensures by_row { IfOk result (IsSlice self.now range.start (range.end - range.start)) }
-        ensures accepted { IfOk result (λ _. slice_fault (tree_len self.now) range.start range.end ≡ None) }
-        ensures refused { IfErr result (IsMemoryOr (slice_fault (tree_len self.now) range.start range.end)) }
+        ensures refuses { Refuses result (slice_fault (tree_len self.now) range.start range.end) }
     {
         let len = self.len();
         if range.end > len {
@@ -46,80 +42,21 @@ impl ArrayRef {
 
     // The same, where the range lies within.
     #[cycle(slice)]
-    #[tactic(auto, using(crate::specs::Formed::valid_reads))]
-    fn slice_within(&self, alloc: Global, start: usize, end: usize) -> Result<ArrayRef, VortexError>
+    pub(crate) fn slice_within(
+        &self,
+        alloc: Global,
+        start: usize,
+        end: usize,
+    ) -> Result<ArrayRef, VortexError>
         requires start_le_end { start ≤ end }
         requires in_bounds { end ≤ tree_len self.now }
-        ensures ok { IfOk result (IsSlice self.now start (end - start)) }
-        ensures err { IsOkUnless result Memory }
+        ensures { Gives result (IsSlice self.now start (end - start)) }
     {
         match self.layout() {
-            Layout::Bool { bits, validity } => {
-                let bits = bits.slice(alloc, start..end)?;
-                let validity = validity.slice_within(alloc, start, end)?;
-                Ok(ArrayRef::from_parts(alloc, Layout::Bool { bits, validity })?)
-            }
-            Layout::Primitive {
-                ptype,
-                bytes,
-                validity,
-            } => {
-                let ptype = *ptype;
-                let bytes = slice_numbers(alloc, bytes, ptype, start..end)?;
-                let validity = validity.slice_within(alloc, start, end)?;
-                Ok(ArrayRef::from_parts(
-                    alloc,
-                    Layout::Primitive {
-                        ptype,
-                        bytes,
-                        validity,
-                    },
-                )?)
-            }
-            Layout::ListView {
-                elements,
-                offsets,
-                sizes,
-                validity,
-                flag,
-            } => {
-                let elements = elements.try_clone(alloc)?;
-                let offsets = offsets.slice_within(alloc, start, end)?;
-                let sizes = sizes.slice_within(alloc, start, end)?;
-                let validity = validity.slice_within(alloc, start, end)?;
-                let flag = *flag;
-                Ok(ArrayRef::from_parts(
-                    alloc,
-                    Layout::ListView {
-                        elements,
-                        offsets,
-                        sizes,
-                        validity,
-                        flag,
-                    },
-                )?)
-            }
-        }
-    }
-}
-
-impl Validity {
-    // The validity of the rows from `start` up to `end`, where they lie within.
-    #[cycle(slice)]
-    fn slice_within(&self, alloc: Global, start: usize, end: usize) -> Result<Validity, VortexError>
-        requires start_le_end { start ≤ end }
-        requires in_bounds { ValidCovers (valid_of self.now) end }
-        ensures ok { IfOk result (λ v. IsValidSlice (valid_of self.now) start (end - start) (valid_of v)) }
-        ensures err { IsOkUnless result Memory }
-    {
-        match self {
-            Validity::NonNullable => Ok(Validity::NonNullable),
-            Validity::AllValid => Ok(Validity::AllValid),
-            Validity::AllInvalid => Ok(Validity::AllInvalid),
-            Validity::Array(array) => {
-                let array = array.slice_within(alloc, start, end)?;
-                Ok(Validity::Array(array))
-            }
+            Layout::Bool { .. } => self.slice_bools(alloc, start, end),
+            Layout::Primitive { .. } => self.slice_primitive(alloc, start, end),
+            Layout::Constant { .. } => self.slice_constant(alloc, start, end),
+            Layout::ListView { .. } => self.slice_list_view(alloc, start, end),
         }
     }
 }

@@ -11,7 +11,7 @@ use crate::{
 };
 use std::alloc::Global;
 use std::process::Abort;
-use vx_base::{BitBuffer, ByteBuffer, Nullability, PType, VortexError};
+use vx_base::{BitBuffer, ByteBuffer, Nullability, PType, Scalar, Selection, VortexError};
 
 // ---- arrays
 
@@ -250,6 +250,24 @@ fn slice_of_numbers(rt: HostRuntime) -> Result<(), VortexError> {
 }
 
 #[test]
+fn slice_of_a_constant(rt: HostRuntime) -> Result<(), VortexError> {
+    let scalar = Scalar::int(-7, PType::I16, Nullability::Nullable);
+    let part = ArrayRef::constant(rt.alloc(), scalar, 5)?.slice(rt.alloc(), 1..3)?;
+    assert!(rt; part.len() == 2 && part.is_valid(rt.alloc(), 1)?);
+    assert!(rt; number(&rt, &part, 1) == Some(-7));
+    Ok(())
+}
+
+#[test]
+fn validity_by_a_constant(rt: HostRuntime) -> Result<(), VortexError> {
+    let scalar = Scalar::bool(true, Nullability::NonNullable);
+    let validity = Validity::Array(ArrayRef::constant(rt.alloc(), scalar, 2)?);
+    let bits = BitBuffer::from_bools(rt.alloc(), &[true, false])?;
+    let part = ArrayRef::bools(rt.alloc(), bits, validity)?.slice(rt.alloc(), 1..2)?;
+    expect_bool(&rt, rt.alloc(), &part, 0, Some(false))
+}
+
+#[test]
 fn slice_past_the_end(rt: HostRuntime) -> Result<(), VortexError> {
     let found = match lists(rt.alloc())?.slice(rt.alloc(), 5..4) {
         Err(VortexError::OutOfBounds { index: 4, len: 3 }) => true,
@@ -290,7 +308,7 @@ fn take_by_booleans(rt: HostRuntime) -> Result<(), VortexError> {
 fn take_at_positions(rt: HostRuntime) -> Result<(), VortexError> {
     let array = booleans(rt.alloc(), &[true, false, true])?;
     assert_eq!(rt; array.len(), 3);
-    let taken = array.take_positions(rt.alloc(), &[Some(1), Some(1), Some(0)])?;
+    let taken = array.select(rt.alloc(), &Selection::at_positions(&[1, 1, 0]))?;
     expect_bool(&rt, rt.alloc(), &taken, 1, Some(false))?;
     expect_bool(&rt, rt.alloc(), &taken, 2, Some(true))
 }

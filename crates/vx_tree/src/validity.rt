@@ -1,18 +1,21 @@
 // Which rows are valid.
 
-ghost use Rattle.std.specs.Prelude.{◌≡◌, ◌<◌, ◌≤◌, ◌-◌, IfOk, IfErr, None, IsOkUnless, map, false};
+ghost use Rattle.std.specs.Prelude.{◌≡◌, ◌<◌, ◌≤◌, ◌-◌, ℕ, IfOk, None, map, false, replicate};
 ghost use Rattle.std.specs.List.{range_with_len};
 ghost use Rattle.vx_base.specs.DTypes.{is_nullable};
-ghost use Rattle.vx_base.specs.Refusals.{IsMemoryOr};
-ghost use Rattle.vx_base.specs.declared.errors.VortexError.TheVariants.{Memory};
+ghost use Rattle.vx_base.specs.Refusals.{Gives, Refuses};
+ghost use Rattle.vx_tree.specs.Tree.{bools, by_array, non_nullable};
 ghost use Rattle.vx_tree.specs.Meaning.{tree_len, kind_of, row_at, is_valid_at, nullable, valid_mask};
-ghost use Rattle.vx_tree.specs.Formed.{IsLenOf, ValidReads};
+ghost use Rattle.vx_tree.specs.Formed.{IsLenOf, ValidFits, ValidReads, ValidCovers};
+ghost use Rattle.vx_tree.specs.Fitting.{ValidityFormed};
 ghost use Rattle.vx_tree.specs.Parts.{valid_of};
 ghost use Rattle.vx_tree.specs.Faults.{valid_type_fault, valid_len};
+ghost use Rattle.vx_tree.specs.Operations.{IsValidSlice, IsValidSelected, IsValidNulled, IsValidNulls, ValidHasAll};
 
-use crate::array::Validity;
+use crate::array::{ArrayRef, Validity};
+use crate::layouts::bool::repeated_bit;
 use std::alloc::Global;
-use vx_base::{Mask, Nullability, VortexError};
+use vx_base::{BitBuffer, Mask, Nullability, Selection, VortexError};
 
 impl Validity {
     /// Whether null may stand: in every state but `NonNullable`.
@@ -37,8 +40,7 @@ impl Validity {
 
     /// The same state, its array shared.
     pub fn try_clone(&self, alloc: Global) -> Result<Validity, VortexError>
-        ensures ok { IfOk result (λ v. valid_of v ≡ valid_of self.now) }
-        ensures err { IsOkUnless result Memory }
+        ensures { Gives result (λ v. valid_of v ≡ valid_of self.now) }
     {
         match self {
             Validity::NonNullable => Ok(Validity::NonNullable),
@@ -53,8 +55,7 @@ impl Validity {
     pub fn execute_mask(&self, alloc: Global, len: usize) -> Result<Mask, VortexError>
         requires { IsLenOf (valid_of self.now) len }
         ensures mask { IfOk result (λ m. m ≡ valid_mask (valid_of self.now) len) }
-        ensures accepted { IfOk result (λ _. valid_type_fault (valid_of self.now) ≡ None) }
-        ensures refused { IfErr result (IsMemoryOr (valid_type_fault (valid_of self.now))) }
+        ensures refuses { Refuses result (valid_type_fault (valid_of self.now)) }
     {
         match self {
             Validity::NonNullable => Ok(Mask::new_true(len)),
@@ -66,6 +67,22 @@ impl Validity {
                 }
                 Ok(Mask::from_buffer(alloc, array.plain_bits(alloc)?)?)
             }
+        }
+    }
+
+    // Whether null may stand.
+    pub(crate) fn is_nullable(&self) -> bool
+        ensures { result ≡ nullable (valid_of self.now) }
+    {
+        !matches!(self, Validity::NonNullable)
+    }
+
+    // What is always true of its array, at every depth. It does nothing.
+    pub(crate) fn known(&self)
+        ensures { ValidityFormed (valid_of self.now) }
+    {
+        if let Validity::Array(array) = self {
+            array.known();
         }
     }
 
@@ -81,4 +98,110 @@ impl Validity {
             Validity::Array(array) => array.truth_at(i),
         }
     }
+
+    // The validity of the rows from `start` up to `end`, where they lie within.
+    #[cycle(slice)]
+    pub(crate) fn slice_within(
+        &self,
+        alloc: Global,
+        start: usize,
+        end: usize,
+    ) -> Result<Validity, VortexError>
+        requires start_le_end { start ≤ end }
+        requires in_bounds { ValidCovers (valid_of self.now) end }
+        ensures { Gives result (λ v. IsValidSlice (valid_of self.now) start (end - start) (valid_of v)) }
+    {
+        match self {
+            Validity::NonNullable => Ok(Validity::NonNullable),
+            Validity::AllValid => Ok(Validity::AllValid),
+            Validity::AllInvalid => Ok(Validity::AllInvalid),
+            Validity::Array(array) => {
+                let array = array.slice_within(alloc, start, end)?;
+                Ok(Validity::Array(array))
+            }
+        }
+    }
+
+    // The validity of the rows that are picked.
+    #[cycle(select)]
+    #[tactic(auto, using(crate::proofs::Selected::booleans_can_be_selected))]
+    pub(crate) fn select_within(
+        &self,
+        alloc: Global,
+        selection: &Selection,
+    ) -> Result<Validity, VortexError>
+        requires { ValidHasAll (valid_of self.now) selection.now }
+        ensures { Gives result (λ w. IsValidSelected (valid_of self.now) selection.now (valid_of w)) }
+    {
+        match self {
+            Validity::NonNullable => Ok(Validity::NonNullable),
+            Validity::AllValid => Ok(Validity::AllValid),
+            Validity::AllInvalid => Ok(Validity::AllInvalid),
+            Validity::Array(array) => {
+                let array = array.select_within(alloc, selection)?;
+                Ok(Validity::Array(array))
+            }
+        }
+    }
+
+    // True where both are, of `len` rows.
+    pub(crate) fn nulled(
+        &self,
+        alloc: Global,
+        nulls: &Validity,
+        len: usize,
+    ) -> Result<Validity, VortexError>
+        requires mine { ValidFits (valid_of self.now) len }
+        requires theirs { ValidFits (valid_of nulls.now) len }
+        ensures { Gives result (λ w. IsValidNulled (valid_of self.now) (valid_of nulls.now) len (valid_of w)) }
+    {
+        match (self, nulls) {
+            (Validity::NonNullable, _) => nulls.try_clone(alloc),
+            (_, Validity::NonNullable) => self.try_clone(alloc),
+            (Validity::AllValid, _) => nulls.try_clone(alloc),
+            (Validity::AllInvalid, _) => Ok(Validity::AllInvalid),
+            (Validity::Array(_), Validity::AllValid) => self.try_clone(alloc),
+            (Validity::Array(_), Validity::AllInvalid) => nowhere_true(alloc, len),
+            (Validity::Array(array), Validity::Array(other)) => {
+                let bits = array.plain_bits(alloc)?;
+                let bits = bits.and(alloc, &other.plain_bits(alloc)?)?;
+                told_by(alloc, bits)
+            }
+        }
+    }
+
+    // In the state of nulls of this, nowhere true, for `len` rows. Asks that the nulls are nowhere
+    // true.
+    pub(crate) fn nulls(
+        &self,
+        alloc: Global,
+        len: usize,
+        nulls: &Validity,
+    ) -> Result<Validity, VortexError>
+        requires fits { ValidFits (valid_of nulls.now) len }
+        requires none { (i : ℕ) → i < len → is_valid_at (valid_of nulls.now) i ≡ false }
+        ensures { Gives result (λ w. IsValidNulls (valid_of self.now) (valid_of nulls.now) len (valid_of w)) }
+    {
+        match self {
+            Validity::NonNullable => nulls.try_clone(alloc),
+            Validity::AllValid => Validity::AllValid.nulled(alloc, nulls, len),
+            Validity::AllInvalid => Ok(Validity::AllInvalid),
+            Validity::Array(_) => nowhere_true(alloc, len),
+        }
+    }
+}
+
+// Valid where the bit is set.
+fn told_by(alloc: Global, bits: BitBuffer) -> Result<Validity, VortexError>
+    ensures { Gives result (λ v. valid_of v ≡ by_array (bools bits non_nullable)) }
+{
+    let array = ArrayRef::bools(alloc, bits, Validity::NonNullable)?;
+    Ok(Validity::Array(array))
+}
+
+// An array of booleans, none of them true.
+fn nowhere_true(alloc: Global, len: usize) -> Result<Validity, VortexError>
+    ensures { Gives result (λ v. valid_of v ≡ by_array (bools (replicate len false) non_nullable)) }
+{
+    told_by(alloc, repeated_bit(alloc, false, len)?)
 }

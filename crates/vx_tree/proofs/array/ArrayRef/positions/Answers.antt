@@ -8,7 +8,7 @@ use Rattle.vx_tree.specs.Tree.{Tree}
 use Rattle.vx_tree.specs.Parts.{tree_of, valid_of}
 use Rattle.vx_tree.specs.Meaning.{tree_len, valid_mask}
 use Rattle.vx_tree.specs.Operations.{masked_numbers}
-use Rattle.vx_tree.proofs.Indices.{AreSame, under_mask, mask_long, positions-same, indices_fault-same, TellsPresent-same}
+use Rattle.vx_tree.proofs.Positions.{AreSame, under_mask, mask_long, ArePositions-same, indices_fault-same}
 use Rattle.vx_tree.proofs.array.ArrayRef.positions.Goals as goal
 
 -- the numbers of this array are those under the mask that was made of its validity
@@ -21,27 +21,21 @@ masked_positions-requires c =
     let long = mask_long (valid_of c.in-Primitive.validity) c.in_ok-mask-in-Primitive.mask c.len.result c.in_ok-mask-in-Primitive.ensures.mask in
     rw c.as_slice.ensures (long ∙ rw (← c.layout.ensures.parts, c.in-Primitive.is) at c.len.ensures)
 
-pub returns-in_err-masked_positions-in-Primitive-clause-refused :
-    goal.returns-in_err-masked_positions-in-Primitive-clause-refused
-returns-in_err-masked_positions-in-Primitive-clause-refused c =
+pub returns-in_err-masked_positions-in-Primitive-clause-refuses :
+    goal.returns-in_err-masked_positions-in-Primitive-clause-refuses
+returns-in_err-masked_positions-in-Primitive-clause-refuses c =
     let same = read c.args.self.now c.layout.result.now c.in-Primitive.ptype c.in-Primitive.bytes c.in-Primitive.validity c.in_ok-mask-in-Primitive.mask c.len.result c.layout.ensures.parts c.in-Primitive.is c.len.ensures c.in_ok-mask-in-Primitive.ensures.mask in
     let p = err_from_is_err_and c.from_residual-in_err-masked_positions-in-Primitive.result c.from_residual-in_err-masked_positions-in-Primitive.ensures.1 in
-    rw (p.1, p.2, indices_fault-same c.args.len c.args.self.now (masked_numbers c.in-Primitive.ptype c.in-Primitive.bytes c.in_ok-mask-in-Primitive.mask) same) (rw c.as_slice.ensures at c.in_err-masked_positions-in-Primitive.ensures.refused)
+    rw (p.1, p.2, indices_fault-same c.args.len c.args.self.now (masked_numbers c.in-Primitive.ptype c.in-Primitive.bytes c.in_ok-mask-in-Primitive.mask) same) (rw c.as_slice.ensures at c.in_err-masked_positions-in-Primitive.ensures.refuses)
 
 pub returns-in_ok-masked_positions-in-Primitive-clause-ok :
     goal.returns-in_ok-masked_positions-in-Primitive-clause-ok
 returns-in_ok-masked_positions-in-Primitive-clause-ok c =
     let same = read c.args.self.now c.layout.result.now c.in-Primitive.ptype c.in-Primitive.bytes c.in-Primitive.validity c.in_ok-mask-in-Primitive.mask c.len.result c.layout.ensures.parts c.in-Primitive.is c.len.ensures c.in_ok-mask-in-Primitive.ensures.mask in
-    rw c.as_slice.ensures at c.in_ok-masked_positions-in-Primitive.ensures.ok ∙ sym (positions-same c.args.self.now (masked_numbers c.in-Primitive.ptype c.in-Primitive.bytes c.in_ok-mask-in-Primitive.mask) same)
+    ArePositions-same c.args.self.now (masked_numbers c.in-Primitive.ptype c.in-Primitive.bytes c.in_ok-mask-in-Primitive.mask) c.args.len _ same (rw c.as_slice.ensures at c.in_ok-masked_positions-in-Primitive.ensures.ok)
 
-pub returns-in_ok-masked_positions-in-Primitive-clause-present :
-    goal.returns-in_ok-masked_positions-in-Primitive-clause-present
-returns-in_ok-masked_positions-in-Primitive-clause-present c =
+pub returns-in_ok-masked_positions-in-Primitive-clause-refuses :
+    goal.returns-in_ok-masked_positions-in-Primitive-clause-refuses
+returns-in_ok-masked_positions-in-Primitive-clause-refuses c =
     let same = read c.args.self.now c.layout.result.now c.in-Primitive.ptype c.in-Primitive.bytes c.in-Primitive.validity c.in_ok-mask-in-Primitive.mask c.len.result c.layout.ensures.parts c.in-Primitive.is c.len.ensures c.in_ok-mask-in-Primitive.ensures.mask in
-    TellsPresent-same c.args.self.now (masked_numbers c.in-Primitive.ptype c.in-Primitive.bytes c.in_ok-mask-in-Primitive.mask) same (rw c.as_slice.ensures at c.in_ok-masked_positions-in-Primitive.ensures.present)
-
-pub returns-in_ok-masked_positions-in-Primitive-clause-accepted :
-    goal.returns-in_ok-masked_positions-in-Primitive-clause-accepted
-returns-in_ok-masked_positions-in-Primitive-clause-accepted c =
-    let same = read c.args.self.now c.layout.result.now c.in-Primitive.ptype c.in-Primitive.bytes c.in-Primitive.validity c.in_ok-mask-in-Primitive.mask c.len.result c.layout.ensures.parts c.in-Primitive.is c.len.ensures c.in_ok-mask-in-Primitive.ensures.mask in
-    indices_fault-same c.args.len c.args.self.now (masked_numbers c.in-Primitive.ptype c.in-Primitive.bytes c.in_ok-mask-in-Primitive.mask) same ∙ rw c.as_slice.ensures at c.in_ok-masked_positions-in-Primitive.ensures.accepted
+    indices_fault-same c.args.len c.args.self.now (masked_numbers c.in-Primitive.ptype c.in-Primitive.bytes c.in_ok-mask-in-Primitive.mask) same ∙ rw c.as_slice.ensures at c.in_ok-masked_positions-in-Primitive.ensures.refuses

@@ -1,0 +1,193 @@
+-- Rows that become null, layout by layout.
+use Rattle.std.proofs.Common.{ℕ, zero, suc, ◌<◌, ◌≡◌, Bool, true, false, List, [], ◌∷◌, length, map, replicate, refl, sym, ◌∙◌, ap, zero-add, arith}
+use Rattle.std.specs.List.{range_with_len}
+use Rattle.std.proofs.lemmas.List.{length-map, get_or-map, length-replicate, get_or-replicate}
+use Rattle.std.proofs.lemmas.List.FromFn.{length-map-range_with_len, get_or-map-range_with_len}
+use Rattle.std.specs.Prelude.{ℤ, pos, ◌||◌, ◌&&◌, if◌then◌else◌}
+use Rattle.vx_base.specs.declared.ptypes.PType.{PType}
+use Rattle.vx_base.specs.Integers.{numbers}
+use Rattle.vx_base.specs.Rows.{Row, null, whole, truth_of}
+use Rattle.vx_base.specs.Bits.{bool_at, both}
+use Rattle.vx_base.specs.Kinds.{Kind, booleans, integers, texts, binaries, lists, fixed_lists, records, or_nullable}
+use Rattle.vx_tree.specs.Tree.{Tree, bools, primitive, constant, dictionary, fixed_list, list_view, structure, view_array, Valid, non_nullable, all_valid, all_invalid, by_array}
+use Rattle.vx_tree.specs.Layouts.{is_constant}
+use Rattle.vx_tree.specs.Meaning.{row_at, tree_len, kind_of, is_valid_at, nullable, number_nth}
+use Rattle.vx_tree.specs.Shapes.{State, bool_shape, primitive_shape, list_view_shape, never_null, none_null, every_null, told, state_of, is_nullable_state, taken_state}
+use Rattle.vx_tree.specs.Formed.{ValidFits, IsMask}
+use Rattle.vx_tree.specs.Operations.{IsNulled, IsValidNulled, IsNulls, IsValidNulls, IsZeroes}
+use Rattle.vx_tree.proofs.Selected.{nullable-state}
+
+pub nullable-taken_state : (s index : State) → is_nullable_state (taken_state s index) ≡ (is_nullable_state index || is_nullable_state s)
+nullable-taken_state never_null never_null = refl
+nullable-taken_state never_null none_null = refl
+nullable-taken_state never_null every_null = refl
+nullable-taken_state never_null told = refl
+nullable-taken_state none_null never_null = refl
+nullable-taken_state none_null none_null = refl
+nullable-taken_state none_null every_null = refl
+nullable-taken_state none_null told = refl
+nullable-taken_state every_null never_null = refl
+nullable-taken_state every_null none_null = refl
+nullable-taken_state every_null every_null = refl
+nullable-taken_state every_null told = refl
+nullable-taken_state told never_null = refl
+nullable-taken_state told none_null = refl
+nullable-taken_state told every_null = refl
+nullable-taken_state told told = refl
+
+-- a validity is nullable where either side is
+pub nullable_nulled : (v u w : Valid) → state_of w ≡ taken_state (state_of v) (state_of u) → nullable w ≡ (nullable u || nullable v)
+nullable_nulled v u w e = rw (nullable-state v, nullable-state u) (nullable-state w ∙ ap is_nullable_state e ∙ nullable-taken_state (state_of v) (state_of u))
+
+-- a row under two validities
+two : (a b c : Bool) (r : Row) → a ≡ (b && c) → (if a then r else null) ≡ (if c then (if b then r else null) else null)
+two a true true r e = rw e refl
+two a true false r e = rw e refl
+two a false true r e = rw e refl
+two a false false r e = rw e refl
+
+-- ---- layouts
+
+pub bools_nulled : (t r : Tree) (bits : List Bool) (v u w : Valid) → t ≡ bools bits v → r ≡ bools bits w → IsValidNulled v u (length bits) w → IsNulled t u r
+bools_nulled t r bits v u w a b h =
+    rw (a, b) (record {
+      len = refl;
+      kind = ap booleans (nullable_nulled v u w h.state);
+      shape = ap bool_shape h.state;
+      rows = λ i l. two (is_valid_at w i) (is_valid_at v i) (is_valid_at u i) _ (h.bits i l);
+    })
+
+pub numbers_nulled : (t r : Tree) (p : PType) (bs : List ℕ) (v u w : Valid) → t ≡ primitive p bs v → r ≡ primitive p bs w → IsValidNulled v u (length (numbers p bs)) w → IsNulled t u r
+numbers_nulled t r p bs v u w a b h =
+    rw (a, b) (record {
+      len = refl;
+      kind = ap (integers p) (nullable_nulled v u w h.state);
+      shape = ap primitive_shape h.state;
+      rows = λ i l. two (is_valid_at w i) (is_valid_at v i) (is_valid_at u i) _ (h.bits i l);
+    })
+
+pub lists_nulled : (t r e o s : Tree) (v u w : Valid) (f : Bool) → t ≡ list_view e o s v f → r ≡ list_view e o s w f → IsValidNulled v u (tree_len o) w → IsNulled t u r
+lists_nulled t r e o s v u w f a b h =
+    rw (a, b) (record {
+      len = refl;
+      kind = ap (lists (kind_of e)) (nullable_nulled v u w h.state);
+      shape = ap (λ st. list_view_shape e st f) h.state;
+      rows = λ i l. two (is_valid_at w i) (is_valid_at v i) (is_valid_at u i) _ (h.bits i l);
+    })
+
+-- ---- validities
+
+length_both : (xs ys : List Bool) → length xs ≡ length ys → length (both xs ys) ≡ length xs
+length_both [] ys e = refl
+length_both (x ∷ xs) [] e = absurd (omega arith)
+length_both (x ∷ xs) (y ∷ ys) e = ap suc (length_both xs ys (omega arith))
+
+both_at : (xs ys : List Bool) (i : ℕ) → length xs ≡ length ys → i < length xs → bool_at (both xs ys) i ≡ (bool_at xs i && bool_at ys i)
+both_at [] ys i e l = absurd (omega arith)
+both_at (x ∷ xs) [] i e l = absurd (omega arith)
+both_at (x ∷ xs) (y ∷ ys) zero e l = refl
+both_at (x ∷ xs) (y ∷ ys) (suc i) e l = both_at xs ys i (omega arith) (omega arith)
+
+-- the truths of an array, as bits
+truth_at : (m : Tree) (xs : List Bool) (i : ℕ) → xs ≡ map (λ j. truth_of (row_at m j)) (range_with_len 0 (tree_len m)) → i < tree_len m → bool_at xs i ≡ truth_of (row_at m i)
+truth_at m xs i e l = ap (λ bs. bool_at bs i) e ∙ get_or-map-range_with_len (λ j. truth_of (row_at m j)) 0 (tree_len m) i i false l (zero-add i)
+
+truths_long : (m : Tree) (xs : List Bool) → xs ≡ map (λ j. truth_of (row_at m j)) (range_with_len 0 (tree_len m)) → length xs ≡ tree_len m
+truths_long m xs e = ap length e ∙ length-map-range_with_len (λ j. truth_of (row_at m j)) 0 (tree_len m)
+
+pub valid_both : (v u w : Valid) (m n : Tree) (xs ys bits : List Bool) (len : ℕ) → v ≡ by_array m → u ≡ by_array n → w ≡ by_array (bools bits non_nullable)
+    → xs ≡ map (λ i. truth_of (row_at m i)) (range_with_len 0 (tree_len m)) → ys ≡ map (λ i. truth_of (row_at n i)) (range_with_len 0 (tree_len n)) → bits ≡ both xs ys
+    → ValidFits v len → ValidFits u len → IsValidNulled v u len w
+valid_both v u w m n xs ys bits len a b c d e f mine theirs =
+    let first : IsMask m len = rw a at mine in
+    let second : IsMask n len = rw b at theirs in
+    let left : length xs ≡ len = truths_long m xs d ∙ first.len in
+    let right : length ys ≡ len = truths_long n ys e ∙ second.len in
+    let same : length xs ≡ length ys = left ∙ sym right in
+    rw (a, b, c) (record {
+      fits = record { len = ap length f ∙ length_both xs ys same ∙ left; kind = refl };
+      state = refl;
+      bits = λ i l.
+          let inside : i < length xs = rw left l in
+          let here : i < tree_len m = rw first.len l in
+          let there : i < tree_len n = rw second.len l in
+          ap (λ bs. bool_at bs i) f ∙ both_at xs ys i same inside ∙ ap (λ b. b && bool_at ys i) (truth_at m xs i d here) ∙ ap (λ b. truth_of (row_at m i) && b) (truth_at n ys i e there);
+    })
+
+-- ---- rows of null
+
+null_row : (b : Bool) (r : Row) → b ≡ false → (if b then r else null) ≡ null
+null_row b r e = rw e refl
+
+pub bools_nulls : (t r : Tree) (bits new : List Bool) (v u w : Valid) (n : ℕ) → t ≡ bools bits v → r ≡ bools new w → length new ≡ n → IsValidNulls v u n w → IsNulls t n u r
+bools_nulls t r bits new v u w n a b long h =
+    rw (a, b) (record {
+      len = long;
+      kind = ap booleans (nullable_nulled v u w h.state);
+      shape = ap bool_shape h.state;
+      rows = λ i l. null_row (is_valid_at w i) _ (h.bits i l);
+    })
+
+pub numbers_nulls : (t r : Tree) (p : PType) (bs new : List ℕ) (v u w : Valid) (n : ℕ) → t ≡ primitive p bs v → r ≡ primitive p new w → length (numbers p new) ≡ n → IsValidNulls v u n w → IsNulls t n u r
+numbers_nulls t r p bs new v u w n a b long h =
+    rw (a, b) (record {
+      len = long;
+      kind = ap (integers p) (nullable_nulled v u w h.state);
+      shape = ap primitive_shape h.state;
+      rows = λ i l. null_row (is_valid_at w i) _ (h.bits i l);
+    })
+
+pub lists_nulls : (t r e o s o2 s2 : Tree) (v u w : Valid) (f : Bool) (p : PType) (n : ℕ) → t ≡ list_view e o s v f → r ≡ list_view e o2 s2 w false → IsZeroes p n o2 → IsValidNulls v u n w → IsNulls t n u r
+lists_nulls t r e o s o2 s2 v u w f p n a b z h =
+    rw (a, b) (record {
+      len = z.len;
+      kind = ap (lists (kind_of e)) (nullable_nulled v u w h.state);
+      shape = ap (λ st. list_view_shape e st false) h.state;
+      rows = λ i l. null_row (is_valid_at w i) _ (h.bits i l);
+    })
+
+pub zeroes_made : (t : Tree) (p : PType) (bs : List ℕ) (n : ℕ) → t ≡ primitive p bs non_nullable → numbers p bs ≡ map pos (replicate n 0) → IsZeroes p n t
+zeroes_made t p bs n a e =
+    rw a (record {
+      len = ap length e ∙ length-map (replicate n 0) pos ∙ length-replicate {A = ℕ} n 0;
+      kind = refl;
+      rows = λ i l. ap whole (ap (λ (zs : List ℤ). number_nth zs i) e ∙ get_or-map pos (replicate n 0) i 0 (pos 0) (rw (length-replicate {A = ℕ} n 0) l) ∙ ap pos (get_or-replicate n i 0 0 l));
+    })
+
+-- ---- a constant, by nulls that are none
+
+never : (u : Valid) → nullable u ≡ false → u ≡ non_nullable
+never non_nullable e = refl
+never all_valid e = absurd (cc)
+never all_invalid e = absurd (cc)
+never (by_array t) e = absurd (cc)
+
+same_kind : (k : Kind) → or_nullable false k ≡ k
+same_kind (booleans n) = refl
+same_kind (integers t n) = refl
+same_kind (texts n) = refl
+same_kind (binaries n) = refl
+same_kind (lists k n) = refl
+same_kind (fixed_lists k size n) = refl
+same_kind (records names ks n) = refl
+
+pub constant_nulled : (t : Tree) (u : Valid) → is_constant t ≡ true → nullable u ≡ false → IsNulled t u t
+constant_nulled (constant k r n) u c e =
+    rw (never u e) (record { len = refl; kind = sym (same_kind k); shape = refl; rows = λ i l. refl })
+constant_nulled (bools bits v) u c e = absurd (cc)
+constant_nulled (primitive p bs v) u c e = absurd (cc)
+constant_nulled (dictionary x v f) u c e = absurd (cc)
+constant_nulled (fixed_list x k v n) u c e = absurd (cc)
+constant_nulled (list_view x o s v f) u c e = absurd (cc)
+constant_nulled (structure ns ts v n) u c e = absurd (cc)
+constant_nulled (view_array vs bs x v) u c e = absurd (cc)
+
+pub constant_nulls : (t s : Tree) (u : Valid) (k : Kind) (r : Row) (m n : ℕ) → t ≡ constant k r m → s ≡ constant k r n → nullable u ≡ false → ((i : ℕ) → i < n → is_valid_at u i ≡ false) → IsNulls t n u s
+constant_nulls t s u k r m n a b e none =
+    let plain = never u e in
+    rw (a, b) (record {
+      len = refl;
+      kind = rw plain (sym (same_kind k));
+      shape = rw plain refl;
+      rows = λ i l. let h : is_valid_at u i ≡ false = none i l in let h2 : true ≡ false = ap (λ x. is_valid_at x i) (sym plain) ∙ h in absurd (cc);
+    })

@@ -1,0 +1,5 @@
+use Rattle.vx_tree.proofs.Positions.{AreRead}
+use Rattle.vx_tree.proofs.array.ArrayRef.fill_positions.Given as goal
+
+abbrev pub invariant-loop-row : goal.invariant-loop-row
+invariant-loop-row l = AreRead l.self l.len l.row l.out

@@ -1,0 +1,19 @@
+-- The layout of an array.
+use Rattle.std.specs.Prelude.{Bool, true, false}
+use Rattle.vx_tree.specs.Tree.{Tree, bools, primitive, constant, list_view}
+
+abbrev pub is_bools : Tree → Bool
+is_bools (bools bits v) = true
+is_bools _ = false
+
+abbrev pub is_primitive : Tree → Bool
+is_primitive (primitive t bs v) = true
+is_primitive _ = false
+
+abbrev pub is_constant : Tree → Bool
+is_constant (constant k r n) = true
+is_constant _ = false
+
+abbrev pub is_list_view : Tree → Bool
+is_list_view (list_view e o s v f) = true
+is_list_view _ = false

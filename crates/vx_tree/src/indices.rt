@@ -1,0 +1,217 @@
+// Rows of whole numbers as positions.
+
+ghost use Rattle.std.specs.Prelude.{◌≡◌, ◌<◌, ◌≤ℤ◌, ◌*◌, ◌-◌, ◌^◌, pos, true, length, IfOk, slice_index_or};
+ghost use Rattle.vx_base.specs.Refusals.{Refuses, Tests};
+ghost use Rattle.vx_base.specs.Integers.{numbers};
+ghost use Rattle.vx_base.specs.Rows.{whole};
+ghost use Rattle.vx_base.specs.Kinds.{is_integers};
+ghost use Rattle.vx_tree.specs.Tree.{primitive, non_nullable};
+ghost use Rattle.vx_tree.specs.Meaning.{tree_len, kind_of, row_at, number_nth};
+ghost use Rattle.vx_tree.specs.Faults.{indices_fault, index_fault};
+ghost use Rattle.vx_tree.specs.Operations.{IsPosition, ArePositions, masked_numbers};
+
+use crate::array::{ArrayRef, Layout};
+use std::alloc::Global;
+use vx_base::{Mask, NativePType, PType, VortexError, int_at};
+
+impl ArrayRef {
+    // The positions that the rows name, each below `len`, with 0 for a null row, or the first fault
+    // among them.
+    pub(crate) fn positions(&self, alloc: Global, len: usize) -> Result<Vec<usize>, VortexError>
+        requires { is_integers (kind_of self.now) ≡ true }
+        ensures ok { IfOk result (λ ps. ArePositions self.now len ps.items) }
+        ensures refuses { Refuses result (indices_fault len self.now) }
+    {
+        match self.layout() {
+            Layout::Primitive {
+                ptype,
+                bytes,
+                validity,
+            } => {
+                let mask = validity.execute_mask(alloc, self.len())?;
+                Ok(masked_positions(alloc, *ptype, bytes.as_slice(), &mask, len)?)
+            }
+            _ => {
+                let mut positions = vec![in alloc; 0; self.len()]?;
+                self.fill_positions(len, &mut positions)?;
+                Ok(positions)
+            }
+        }
+    }
+
+    // Writes them, in any layout, row by row.
+    fn fill_positions(&self, len: usize, out: &mut [usize]) -> Result<(), VortexError>
+        requires ints { is_integers (kind_of self.now) ≡ true }
+        requires room { length out.old ≡ tree_len self.now }
+        ensures ok { IfOk result (λ _. ArePositions self.now len out.new) }
+        ensures tests { Tests result (indices_fault len self.now) }
+    {
+        for row in 0..out.len() {
+            out[row] = self.position(row, len)?;
+        }
+        Ok(())
+    }
+
+    // The position that a row names, below `len`, 0 where it is null, or its fault.
+    fn position(&self, row: usize, len: usize) -> Result<usize, VortexError>
+        requires ints { is_integers (kind_of self.now) ≡ true }
+        requires in_bounds { row < tree_len self.now }
+        ensures ok { IfOk result (IsPosition len (row_at self.now row)) }
+        ensures tests { Tests result (index_fault len row (row_at self.now row)) }
+    {
+        match self.int_at(row) {
+            Some(number) => position_of(number, row, len),
+            None => Ok(0),
+        }
+    }
+}
+
+// The positions that numbers under a mask name, each below `len`, or the first fault among them.
+fn masked_positions(
+    alloc: Global,
+    ptype: PType,
+    bytes: &[u8],
+    mask: &Mask,
+    len: usize,
+) -> Result<Vec<usize>, VortexError>
+    requires { length mask.now ≡ length (numbers ptype bytes.now) }
+    ensures ok { IfOk result (λ ps. ArePositions (masked_numbers ptype bytes.now mask.now) len ps.items) }
+    ensures refuses { Refuses result (indices_fault len (masked_numbers ptype bytes.now mask.now)) }
+{
+    match ptype {
+        PType::U8 => typed_positions::<u8>(alloc, bytes, mask, len),
+        PType::U16 => typed_positions::<u16>(alloc, bytes, mask, len),
+        PType::U32 => typed_positions::<u32>(alloc, bytes, mask, len),
+        PType::U64 => typed_positions::<u64>(alloc, bytes, mask, len),
+        PType::I8 => typed_positions::<i8>(alloc, bytes, mask, len),
+        PType::I16 => typed_positions::<i16>(alloc, bytes, mask, len),
+        PType::I32 => typed_positions::<i32>(alloc, bytes, mask, len),
+        PType::I64 => typed_positions::<i64>(alloc, bytes, mask, len),
+    }
+}
+
+// The same for numbers of one type.
+fn typed_positions<T: NativePType>(
+    alloc: Global,
+    bytes: &[u8],
+    mask: &Mask,
+    len: usize,
+) -> Result<Vec<usize>, VortexError>
+    requires { length mask.now ≡ length (numbers T.PTYPE bytes.now) }
+    ensures ok { IfOk result (λ ps. ArePositions (masked_numbers T.PTYPE bytes.now mask.now) len ps.items) }
+    ensures refuses { Refuses result (indices_fault len (masked_numbers T.PTYPE bytes.now mask.now)) }
+{
+    let mut positions = vec![in alloc; 0; mask.len()]?;
+    fill_numbers::<T>(bytes, mask, len, &mut positions)?;
+    Ok(positions)
+}
+
+// Writes the positions that numbers name, 0 where the mask is false.
+fn fill_numbers<T: NativePType>(
+    bytes: &[u8],
+    mask: &Mask,
+    len: usize,
+    out: &mut [usize],
+) -> Result<(), VortexError>
+    requires numbers { length mask.now ≡ length (numbers T.PTYPE bytes.now) }
+    requires room { length out.old ≡ length mask.now }
+    ensures ok { IfOk result (λ _. ArePositions (masked_numbers T.PTYPE bytes.now mask.now) len out.new) }
+    ensures tests { Tests result (indices_fault len (masked_numbers T.PTYPE bytes.now mask.now)) }
+{
+    if mask.all_true() {
+        fill_plain::<T>(bytes, len, out)
+    } else {
+        fill_masked::<T>(bytes, mask, len, out)
+    }
+}
+
+// Writes them where no number is null.
+fn fill_plain<T: NativePType>(
+    bytes: &[u8],
+    len: usize,
+    out: &mut [usize],
+) -> Result<(), VortexError>
+    requires { length out.old ≡ length (numbers T.PTYPE bytes.now) }
+    ensures ok { IfOk result (λ _. ArePositions (primitive T.PTYPE bytes.now non_nullable) len out.new) }
+    ensures tests { Tests result (indices_fault len (primitive T.PTYPE bytes.now non_nullable)) }
+{
+    for row in 0..out.len() {
+        out[row] = number_position(bytes, T::PTYPE, row, len)?;
+    }
+    Ok(())
+}
+
+// Writes them, the mask read for each.
+fn fill_masked<T: NativePType>(
+    bytes: &[u8],
+    mask: &Mask,
+    len: usize,
+    out: &mut [usize],
+) -> Result<(), VortexError>
+    requires numbers { length mask.now ≡ length (numbers T.PTYPE bytes.now) }
+    requires room { length out.old ≡ length mask.now }
+    ensures ok { IfOk result (λ _. ArePositions (masked_numbers T.PTYPE bytes.now mask.now) len out.new) }
+    ensures tests { Tests result (indices_fault len (masked_numbers T.PTYPE bytes.now mask.now)) }
+{
+    for row in 0..out.len() {
+        out[row] = masked_position(bytes, T::PTYPE, mask, row, len)?;
+    }
+    Ok(())
+}
+
+// The position that a number names, where the mask is true.
+#[inline]
+fn masked_position(
+    bytes: &[u8],
+    ptype: PType,
+    mask: &Mask,
+    row: usize,
+    len: usize,
+) -> Result<usize, VortexError>
+    requires numbers { length mask.now ≡ length (numbers ptype bytes.now) }
+    requires in_bounds { row < length mask.now }
+    ensures ok { IfOk result (IsPosition len (row_at (masked_numbers ptype bytes.now mask.now) row)) }
+    ensures tests { Tests result (index_fault len row (row_at (masked_numbers ptype bytes.now mask.now) row)) }
+{
+    if mask.value(row) {
+        number_position(bytes, ptype, row, len)
+    } else {
+        Ok(0)
+    }
+}
+
+// The position that the number of a row names.
+#[inline]
+fn number_position(bytes: &[u8], ptype: PType, row: usize, len: usize) -> Result<usize, VortexError>
+    requires { row < length (numbers ptype bytes.now) }
+    ensures ok { IfOk result (IsPosition len (whole (number_nth (numbers ptype bytes.now) row))) }
+    ensures tests { Tests result (index_fault len row (whole (number_nth (numbers ptype bytes.now) row))) }
+{
+    position_of(int_at(bytes, ptype, row), row, len)
+}
+
+// The position that a number names, below `len`, or its fault.
+#[inline]
+fn position_of(number: i128, row: usize, len: usize) -> Result<usize, VortexError>
+    requires { number ≤ℤ pos (2 ^ 64 - 1) }
+    ensures ok { IfOk result (IsPosition len (whole number)) }
+    ensures tests { Tests result (index_fault len row (whole number)) }
+{
+    if number < 0 {
+        return Err(VortexError::Negative { row });
+    }
+    let index = to_position(number);
+    if index >= len {
+        return Err(VortexError::OutOfBounds { index, len });
+    }
+    Ok(index)
+}
+
+// A number that is not negative, as a position.
+fn to_position(number: i128) -> usize
+    requires low { pos 0 ≤ℤ number }
+    requires high { number ≤ℤ pos (2 ^ 64 - 1) }
+    ensures { pos result ≡ number }
+{
+    number as usize
+}

@@ -1,0 +1,113 @@
+// Truth values, one to a bit.
+
+ghost use Rattle.std.specs.Prelude.{◌≡◌, ◌<◌, ◌≤◌, ◌-◌, ℕ, true, false, length, replicate};
+ghost use Rattle.vx_base.specs.Refusals.{Gives};
+ghost use Rattle.vx_tree.specs.Tree.{bools};
+ghost use Rattle.vx_tree.specs.Layouts.{is_bools};
+ghost use Rattle.vx_tree.specs.Meaning.{tree_len, is_valid_at};
+ghost use Rattle.vx_tree.specs.Formed.{ValidFits};
+ghost use Rattle.vx_tree.specs.Parts.{valid_of};
+ghost use Rattle.vx_tree.specs.Operations.{IsSlice, IsSelected, IsNulled, IsNulls, AreBelow};
+
+use crate::array::{ArrayRef, Layout, Validity};
+use std::alloc::Global;
+use vx_base::{BitBuffer, BitBufferMut, Selection, VortexError, gather_bits};
+
+impl ArrayRef {
+    /// Truth values, null where the validity is false. Asks that the validity is that of as many
+    /// rows as there are bits.
+    pub fn bools(
+        alloc: Global,
+        bits: BitBuffer,
+        validity: Validity,
+    ) -> Result<ArrayRef, VortexError>
+        requires { ValidFits (valid_of validity) (length bits) }
+        ensures { Gives result (λ a. a ≡ bools bits (valid_of validity)) }
+    {
+        ArrayRef::from_parts(alloc, Layout::Bool { bits, validity })
+    }
+
+    #[cycle(slice)]
+    #[tactic(auto, using(crate::specs::Formed::valid_reads))]
+    pub(crate) fn slice_bools(
+        &self,
+        alloc: Global,
+        start: usize,
+        end: usize,
+    ) -> Result<ArrayRef, VortexError>
+        requires layout { is_bools self.now ≡ true }
+        requires start_le_end { start ≤ end }
+        requires in_bounds { end ≤ tree_len self.now }
+        ensures { Gives result (IsSlice self.now start (end - start)) }
+    {
+        let Layout::Bool { bits, validity } = self.layout() else {
+            unreachable!();
+        };
+        let bits = bits.slice(alloc, start..end)?;
+        let validity = validity.slice_within(alloc, start, end)?;
+        ArrayRef::bools(alloc, bits, validity)
+    }
+
+    #[cycle(select)]
+    pub(crate) fn select_bools(
+        &self,
+        alloc: Global,
+        selection: &Selection,
+    ) -> Result<ArrayRef, VortexError>
+        requires layout { is_bools self.now ≡ true }
+        requires within { AreBelow (tree_len self.now) selection.now }
+        ensures { Gives result (IsSelected self.now selection.now) }
+    {
+        let Layout::Bool { bits, validity } = self.layout() else {
+            unreachable!();
+        };
+        let bits = gather_bits(alloc, bits, selection)?;
+        let validity = validity.select_within(alloc, selection)?;
+        ArrayRef::bools(alloc, bits, validity)
+    }
+
+    pub(crate) fn nulled_bools(
+        &self,
+        alloc: Global,
+        nulls: &Validity,
+    ) -> Result<ArrayRef, VortexError>
+        requires layout { is_bools self.now ≡ true }
+        requires fits { ValidFits (valid_of nulls.now) (tree_len self.now) }
+        ensures { Gives result (IsNulled self.now (valid_of nulls.now)) }
+    {
+        let Layout::Bool { bits, validity } = self.layout() else {
+            unreachable!();
+        };
+        let validity = validity.nulled(alloc, nulls, bits.len())?;
+        ArrayRef::bools(alloc, bits.try_clone(alloc)?, validity)
+    }
+
+    pub(crate) fn null_bools(
+        &self,
+        alloc: Global,
+        len: usize,
+        nulls: &Validity,
+    ) -> Result<ArrayRef, VortexError>
+        requires layout { is_bools self.now ≡ true }
+        requires fits { ValidFits (valid_of nulls.now) len }
+        requires none { (i : ℕ) → i < len → is_valid_at (valid_of nulls.now) i ≡ false }
+        ensures { Gives result (IsNulls self.now len (valid_of nulls.now)) }
+    {
+        let Layout::Bool { validity, .. } = self.layout() else {
+            unreachable!();
+        };
+        let validity = validity.nulls(alloc, len, nulls)?;
+        ArrayRef::bools(alloc, repeated_bit(alloc, false, len)?, validity)
+    }
+}
+
+// One bit, however often.
+pub(crate) fn repeated_bit(alloc: Global, bit: bool, len: usize) -> Result<BitBuffer, VortexError>
+    ensures { Gives result (λ b. b ≡ replicate len bit) }
+{
+    let mut bits = BitBufferMut::with_capacity(alloc, len)?;
+    for _ in 0..len {
+        bits.append(bit)?;
+    }
+    bits.freeze()
+}

@@ -1,0 +1,109 @@
+// One row, however often.
+
+ghost use Rattle.std.specs.Prelude.{◌≡◌, ◌<◌, ◌≤◌, ◌-◌, ℕ, true, false};
+ghost use Rattle.vx_base.specs.Kinds.{is_nullable_kind};
+ghost use Rattle.vx_base.specs.Rows.{is_present};
+ghost use Rattle.vx_base.specs.Refusals.{Gives};
+ghost use Rattle.vx_tree.specs.Tree.{constant};
+ghost use Rattle.vx_tree.specs.Layouts.{is_constant};
+ghost use Rattle.vx_tree.specs.Meaning.{tree_len, is_valid_at, nullable};
+ghost use Rattle.vx_tree.specs.Shapes.{state_of, row_state};
+ghost use Rattle.vx_tree.specs.Formed.{ValidFits};
+ghost use Rattle.vx_tree.specs.Parts.{valid_of};
+ghost use Rattle.vx_tree.specs.Operations.{IsSlice, IsSelected, IsNulled, IsNulls, AreBelow};
+
+use crate::array::{ArrayRef, Layout, Validity};
+use std::alloc::Global;
+use vx_base::{Scalar, Selection, VortexError};
+
+impl ArrayRef {
+    /// The row `len` times.
+    pub fn constant(alloc: Global, scalar: Scalar, len: usize) -> Result<ArrayRef, VortexError>
+        ensures { Gives result (λ a. a ≡ constant scalar.kind scalar.row len) }
+    {
+        let _fits = scalar.dtype();
+        ArrayRef::from_parts(alloc, Layout::Constant { scalar, len })
+    }
+
+    pub(crate) fn slice_constant(
+        &self,
+        alloc: Global,
+        start: usize,
+        end: usize,
+    ) -> Result<ArrayRef, VortexError>
+        requires layout { is_constant self.now ≡ true }
+        requires start_le_end { start ≤ end }
+        requires in_bounds { end ≤ tree_len self.now }
+        ensures { Gives result (IsSlice self.now start (end - start)) }
+    {
+        let Layout::Constant { scalar, .. } = self.layout() else {
+            unreachable!();
+        };
+        ArrayRef::constant(alloc, scalar.try_clone(alloc)?, end - start)
+    }
+
+    pub(crate) fn select_constant(
+        &self,
+        alloc: Global,
+        selection: &Selection,
+    ) -> Result<ArrayRef, VortexError>
+        requires layout { is_constant self.now ≡ true }
+        requires within { AreBelow (tree_len self.now) selection.now }
+        ensures { Gives result (IsSelected self.now selection.now) }
+    {
+        let Layout::Constant { scalar, .. } = self.layout() else {
+            unreachable!();
+        };
+        ArrayRef::constant(alloc, scalar.try_clone(alloc)?, selection.len())
+    }
+
+    // Asks that null may not stand among the nulls, so that there is none.
+    #[tactic(auto, using(crate::proofs::Nulled::constant_nulled))]
+    pub(crate) fn nulled_constant(
+        &self,
+        alloc: Global,
+        nulls: &Validity,
+    ) -> Result<ArrayRef, VortexError>
+        requires layout { is_constant self.now ≡ true }
+        requires plain { nullable (valid_of nulls.now) ≡ false }
+        ensures { Gives result (IsNulled self.now (valid_of nulls.now)) }
+    {
+        self.try_clone(alloc)
+    }
+
+    // Asks the same, so that there is no row.
+    #[tactic(auto, using(crate::proofs::Nulled::constant_nulls))]
+    pub(crate) fn null_constant(
+        &self,
+        alloc: Global,
+        len: usize,
+        nulls: &Validity,
+    ) -> Result<ArrayRef, VortexError>
+        requires layout { is_constant self.now ≡ true }
+        requires plain { nullable (valid_of nulls.now) ≡ false }
+        requires none { (i : ℕ) → i < len → is_valid_at (valid_of nulls.now) i ≡ false }
+        ensures { Gives result (IsNulls self.now len (valid_of nulls.now)) }
+    {
+        let Layout::Constant { scalar, .. } = self.layout() else {
+            unreachable!();
+        };
+        ArrayRef::constant(alloc, scalar.try_clone(alloc)?, len)
+    }
+}
+
+// The validity of rows that are all this one.
+pub(crate) fn scalar_validity(scalar: &Scalar) -> Validity
+    ensures state { state_of (valid_of result) ≡ row_state scalar.now.kind scalar.now.row }
+    ensures fits { (n : ℕ) → ValidFits (valid_of result) n }
+    ensures bits { (i : ℕ) → is_valid_at (valid_of result) i ≡ is_present scalar.now.row }
+    ensures nullable { nullable (valid_of result) ≡ is_nullable_kind scalar.now.kind }
+{
+    let dtype = scalar.dtype();
+    if !scalar.is_valid() {
+        Validity::AllInvalid
+    } else if dtype.is_nullable() {
+        Validity::AllValid
+    } else {
+        Validity::NonNullable
+    }
+}

@@ -1,0 +1,154 @@
+// Lists that lie anywhere among shared elements.
+
+ghost use Rattle.std.specs.Prelude.{◌≡◌, ◌<◌, ◌≤◌, ◌-◌, ℕ, true, false};
+ghost use Rattle.vx_base.specs.Refusals.{Gives};
+ghost use Rattle.vx_tree.specs.Tree.{list_view};
+ghost use Rattle.vx_tree.specs.Layouts.{is_list_view};
+ghost use Rattle.vx_tree.specs.Meaning.{tree_len, is_valid_at};
+ghost use Rattle.vx_tree.specs.Formed.{ValidFits, WellFormed};
+ghost use Rattle.vx_tree.specs.Parts.{valid_of};
+ghost use Rattle.vx_tree.specs.Operations.{IsSlice, IsSelected, IsNulled, IsNulls, AreBelow};
+
+use crate::array::{ArrayRef, Layout, Validity};
+use std::alloc::Global;
+use vx_base::{Selection, VortexError};
+
+impl ArrayRef {
+    /// Lists, null where the validity is false. Asks that offsets and sizes are counts, as many of
+    /// one as of the other and of the validity, that each list ends within the elements, and that
+    /// a set flag holds.
+    pub fn list_view(
+        alloc: Global,
+        elements: ArrayRef,
+        offsets: ArrayRef,
+        sizes: ArrayRef,
+        validity: Validity,
+        flag: bool,
+    ) -> Result<ArrayRef, VortexError>
+        requires { WellFormed (list_view elements offsets sizes (valid_of validity) flag) }
+        ensures { Gives result (λ a. a ≡ list_view elements offsets sizes (valid_of validity) flag) }
+    {
+        ArrayRef::from_parts(
+            alloc,
+            Layout::ListView {
+                elements,
+                offsets,
+                sizes,
+                validity,
+                flag,
+            },
+        )
+    }
+
+    #[cycle(slice)]
+    #[tactic(auto, using(crate::specs::Formed::valid_reads))]
+    pub(crate) fn slice_list_view(
+        &self,
+        alloc: Global,
+        start: usize,
+        end: usize,
+    ) -> Result<ArrayRef, VortexError>
+        requires layout { is_list_view self.now ≡ true }
+        requires start_le_end { start ≤ end }
+        requires in_bounds { end ≤ tree_len self.now }
+        ensures { Gives result (IsSlice self.now start (end - start)) }
+    {
+        let Layout::ListView {
+            elements,
+            offsets,
+            sizes,
+            validity,
+            flag,
+        } = self.layout()
+        else {
+            unreachable!();
+        };
+        let elements = elements.try_clone(alloc)?;
+        let offsets = offsets.slice_within(alloc, start, end)?;
+        let sizes = sizes.slice_within(alloc, start, end)?;
+        let validity = validity.slice_within(alloc, start, end)?;
+        ArrayRef::list_view(alloc, elements, offsets, sizes, validity, *flag)
+    }
+
+    #[cycle(select)]
+    #[tactic(auto, using(crate::proofs::Selected::counts_can_be_selected))]
+    pub(crate) fn select_list_view(
+        &self,
+        alloc: Global,
+        selection: &Selection,
+    ) -> Result<ArrayRef, VortexError>
+        requires layout { is_list_view self.now ≡ true }
+        requires within { AreBelow (tree_len self.now) selection.now }
+        ensures { Gives result (IsSelected self.now selection.now) }
+    {
+        let Layout::ListView {
+            elements,
+            offsets,
+            sizes,
+            validity,
+            ..
+        } = self.layout()
+        else {
+            unreachable!();
+        };
+        let elements = elements.try_clone(alloc)?;
+        let offsets = offsets.select_within(alloc, selection)?;
+        let sizes = sizes.select_within(alloc, selection)?;
+        let validity = validity.select_within(alloc, selection)?;
+        ArrayRef::list_view(alloc, elements, offsets, sizes, validity, false)
+    }
+
+    pub(crate) fn nulled_list_view(
+        &self,
+        alloc: Global,
+        nulls: &Validity,
+    ) -> Result<ArrayRef, VortexError>
+        requires layout { is_list_view self.now ≡ true }
+        requires fits { ValidFits (valid_of nulls.now) (tree_len self.now) }
+        ensures { Gives result (IsNulled self.now (valid_of nulls.now)) }
+    {
+        let Layout::ListView {
+            elements,
+            offsets,
+            sizes,
+            validity,
+            flag,
+        } = self.layout()
+        else {
+            unreachable!();
+        };
+        let validity = validity.nulled(alloc, nulls, offsets.len())?;
+        let elements = elements.try_clone(alloc)?;
+        let offsets = offsets.try_clone(alloc)?;
+        let sizes = sizes.try_clone(alloc)?;
+        ArrayRef::list_view(alloc, elements, offsets, sizes, validity, *flag)
+    }
+
+    pub(crate) fn null_lists(
+        &self,
+        alloc: Global,
+        len: usize,
+        nulls: &Validity,
+    ) -> Result<ArrayRef, VortexError>
+        requires layout { is_list_view self.now ≡ true }
+        requires fits { ValidFits (valid_of nulls.now) len }
+        requires none { (i : ℕ) → i < len → is_valid_at (valid_of nulls.now) i ≡ false }
+        ensures { Gives result (IsNulls self.now len (valid_of nulls.now)) }
+    {
+        let Layout::ListView {
+            elements,
+            offsets,
+            sizes,
+            validity,
+            ..
+        } = self.layout()
+        else {
+            unreachable!();
+        };
+        let elements = elements.try_clone(alloc)?;
+        let offsets = ArrayRef::zeroes(alloc, offsets.dtype().as_ptype(), len)?;
+        let sizes = ArrayRef::zeroes(alloc, sizes.dtype().as_ptype(), len)?;
+        let validity = validity.nulls(alloc, len, nulls)?;
+        ArrayRef::list_view(alloc, elements, offsets, sizes, validity, false)
+    }
+}

@@ -1,0 +1,152 @@
+// Whole numbers of one type, one after another.
+
+ghost use Rattle.std.specs.Prelude.{◌≡◌, ◌<◌, ◌≤◌, ◌-◌, ◌*◌, ℕ, pos, true, false, length, map, replicate, IfOk, IsOkUnless};
+ghost use Rattle.vx_base.specs.Integers.{byte_width, numbers};
+ghost use Rattle.vx_base.specs.Refusals.{Gives};
+ghost use Rattle.vx_base.specs.declared.errors.VortexError.TheVariants.{Memory};
+ghost use Rattle.vx_tree.specs.Tree.{primitive};
+ghost use Rattle.vx_tree.specs.Layouts.{is_primitive};
+ghost use Rattle.vx_tree.specs.Meaning.{tree_len, is_valid_at};
+ghost use Rattle.vx_tree.specs.Formed.{ValidFits, WellFormed};
+ghost use Rattle.vx_tree.specs.Parts.{valid_of};
+ghost use Rattle.vx_tree.specs.Operations.{IsSlice, IsSelected, IsNulled, IsNulls, IsZeroes, AreBelow};
+
+use crate::array::{ArrayRef, Layout, Validity};
+use std::alloc::Global;
+use vx_base::{
+    ByteBuffer, PType, Selection, VortexError, gather_numbers, slice_numbers, write_counts,
+};
+
+impl ArrayRef {
+    /// Whole numbers, null where the validity is false. Asks that the bytes are those of whole
+    /// numbers, and that the validity is that of as many rows.
+    pub fn primitive(
+        alloc: Global,
+        ptype: PType,
+        bytes: ByteBuffer,
+        validity: Validity,
+    ) -> Result<ArrayRef, VortexError>
+        requires { WellFormed (primitive ptype bytes (valid_of validity)) }
+        ensures { Gives result (λ a. a ≡ primitive ptype bytes (valid_of validity)) }
+    {
+        ArrayRef::from_parts(
+            alloc,
+            Layout::Primitive {
+                ptype,
+                bytes,
+                validity,
+            },
+        )
+    }
+
+    #[cycle(slice)]
+    #[tactic(auto, using(crate::specs::Formed::valid_reads))]
+    pub(crate) fn slice_primitive(
+        &self,
+        alloc: Global,
+        start: usize,
+        end: usize,
+    ) -> Result<ArrayRef, VortexError>
+        requires layout { is_primitive self.now ≡ true }
+        requires start_le_end { start ≤ end }
+        requires in_bounds { end ≤ tree_len self.now }
+        ensures { Gives result (IsSlice self.now start (end - start)) }
+    {
+        let Layout::Primitive {
+            ptype,
+            bytes,
+            validity,
+        } = self.layout()
+        else {
+            unreachable!();
+        };
+        let bytes = slice_numbers(alloc, bytes, *ptype, start..end)?;
+        let validity = validity.slice_within(alloc, start, end)?;
+        ArrayRef::primitive(alloc, *ptype, bytes, validity)
+    }
+
+    #[cycle(select)]
+    pub(crate) fn select_primitive(
+        &self,
+        alloc: Global,
+        selection: &Selection,
+    ) -> Result<ArrayRef, VortexError>
+        requires layout { is_primitive self.now ≡ true }
+        requires within { AreBelow (tree_len self.now) selection.now }
+        ensures { Gives result (IsSelected self.now selection.now) }
+    {
+        let Layout::Primitive {
+            ptype,
+            bytes,
+            validity,
+        } = self.layout()
+        else {
+            unreachable!();
+        };
+        let bytes = gather_numbers(alloc, *ptype, bytes.as_slice(), selection)?;
+        let validity = validity.select_within(alloc, selection)?;
+        ArrayRef::primitive(alloc, *ptype, bytes, validity)
+    }
+
+    pub(crate) fn nulled_primitive(
+        &self,
+        alloc: Global,
+        nulls: &Validity,
+    ) -> Result<ArrayRef, VortexError>
+        requires layout { is_primitive self.now ≡ true }
+        requires fits { ValidFits (valid_of nulls.now) (tree_len self.now) }
+        ensures { Gives result (IsNulled self.now (valid_of nulls.now)) }
+    {
+        let Layout::Primitive {
+            ptype,
+            bytes,
+            validity,
+        } = self.layout()
+        else {
+            unreachable!();
+        };
+        let validity = validity.nulled(alloc, nulls, self.len())?;
+        ArrayRef::primitive(alloc, *ptype, bytes.try_clone(alloc)?, validity)
+    }
+
+    pub(crate) fn null_numbers(
+        &self,
+        alloc: Global,
+        len: usize,
+        nulls: &Validity,
+    ) -> Result<ArrayRef, VortexError>
+        requires layout { is_primitive self.now ≡ true }
+        requires fits { ValidFits (valid_of nulls.now) len }
+        requires none { (i : ℕ) → i < len → is_valid_at (valid_of nulls.now) i ≡ false }
+        ensures { Gives result (IsNulls self.now len (valid_of nulls.now)) }
+    {
+        let Layout::Primitive {
+            ptype,
+            validity,
+            ..
+        } = self.layout()
+        else {
+            unreachable!();
+        };
+        let validity = validity.nulls(alloc, len, nulls)?;
+        ArrayRef::primitive(alloc, *ptype, zero_numbers(alloc, *ptype, len)?, validity)
+    }
+
+    // Counts that are all 0.
+    pub(crate) fn zeroes(alloc: Global, ptype: PType, len: usize) -> Result<ArrayRef, VortexError>
+        ensures { Gives result (IsZeroes ptype len) }
+    {
+        let bytes = zero_numbers(alloc, ptype, len)?;
+        ArrayRef::primitive(alloc, ptype, bytes, Validity::NonNullable)
+    }
+}
+
+// Numbers that are all 0.
+fn zero_numbers(alloc: Global, ptype: PType, len: usize) -> Result<ByteBuffer, VortexError>
+    ensures ok { IfOk result (λ b. numbers ptype b ≡ map pos (replicate len 0)) }
+    ensures len { IfOk result (λ b. length b ≡ len * byte_width ptype) }
+    ensures err { IsOkUnless result Memory }
+{
+    let counts = vec![in alloc; 0; len]?;
+    write_counts(alloc, ptype, &counts)
+}
