@@ -1,14 +1,11 @@
 // Arrays of truth values.
 
-ghost use Rattle.std.specs.Prelude.{◌≡◌, ◌==◌, true, false, None, length, IfOk, IfErr};
-ghost use Rattle.vx_base.specs.DTypes.{dtype_meaning};
-ghost use Rattle.vx_base.specs.Refusals.{IsMemoryOr};
+ghost use Rattle.std.specs.Prelude.{◌≡◌, true, length, IfOk};
+ghost use Rattle.vx_base.specs.Refusals.{Refuses};
 ghost use Rattle.vx_tree.specs.Tree.{bools};
-ghost use Rattle.vx_tree.specs.Meaning.{tree_len, kind_of};
 ghost use Rattle.vx_tree.specs.Parts.{valid_of};
 ghost use Rattle.vx_leaves.specs.Leaves.{is_bools, validity_fault};
 
-use crate::checks::check_validity;
 use std::alloc::Global;
 use std::marker::Model;
 use vx_base::{BitBuffer, VortexError};
@@ -44,11 +41,10 @@ impl BoolArray {
         validity: Validity,
     ) -> Result<BoolArray, VortexError>
         ensures parts { IfOk result (λ a. a ≡ bools bits (valid_of validity)) }
-        ensures accepted { IfOk result (λ _. validity_fault (valid_of validity) (length bits) ≡ None) }
-        ensures refused { IfErr result (IsMemoryOr (validity_fault (valid_of validity) (length bits))) }
+        ensures refuses { Refuses result (validity_fault (valid_of validity) (length bits)) }
     {
-        check_validity(&validity, bits.len())?;
-        let array = ArrayRef::from_parts(alloc, Layout::Bool { bits, validity })?;
+        validity.check(bits.len())?;
+        let array = ArrayRef::bools(alloc, bits, validity)?;
         Ok(BoolArray { array })
     }
 }

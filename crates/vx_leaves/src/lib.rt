@@ -2,7 +2,6 @@
 #![tactic(auto)]
 
 mod bool_array;
-mod checks;
 mod primitive_array;
 
 pub use crate::bool_array::BoolArray;

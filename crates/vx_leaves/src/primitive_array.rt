@@ -1,17 +1,13 @@
 // Arrays of whole numbers.
 
-ghost use Rattle.std.specs.Prelude.{◌≡◌, ◌==◌, ◌*◌, true, false, None, length, map, IfOk, IfErr, IsOkUnless};
-ghost use Rattle.vx_base.specs.DTypes.{dtype_meaning};
-ghost use Rattle.vx_base.specs.Refusals.{IsMemoryOr};
+ghost use Rattle.std.specs.Prelude.{◌≡◌, ◌*◌, true, length, map, IfOk};
+ghost use Rattle.vx_base.specs.Refusals.{Gives, Refuses};
 ghost use Rattle.vx_base.specs.Integers.{byte_width, numbers};
-ghost use Rattle.vx_base.specs.declared.errors.VortexError.TheVariants.{Memory};
 ghost use Rattle.vx_tree.specs.Formed.{ValidFits};
 ghost use Rattle.vx_tree.specs.Tree.{primitive};
-ghost use Rattle.vx_tree.specs.Meaning.{tree_len, kind_of};
 ghost use Rattle.vx_tree.specs.Parts.{valid_of};
 ghost use Rattle.vx_leaves.specs.Leaves.{is_primitive, validity_fault, IsPrimitive};
 
-use crate::checks::check_validity;
 use std::alloc::Global;
 use std::marker::Model;
 use vx_base::{Buffer, ByteBuffer, NativePType, PType, VortexError};
@@ -47,10 +43,9 @@ impl PrimitiveArray {
         validity: Validity,
     ) -> Result<PrimitiveArray, VortexError>
         ensures parts { IfOk result (IsPrimitive T.PTYPE (map T.value buffer) (valid_of validity)) }
-        ensures accepted { IfOk result (λ _. validity_fault (valid_of validity) (length buffer) ≡ None) }
-        ensures refused { IfErr result (IsMemoryOr (validity_fault (valid_of validity) (length buffer))) }
+        ensures refuses { Refuses result (validity_fault (valid_of validity) (length buffer)) }
     {
-        check_validity(&validity, buffer.len())?;
+        validity.check(buffer.len())?;
         let bytes = buffer.into_byte_buffer(alloc)?;
         primitive_array(alloc, T::PTYPE, bytes, buffer.len(), validity)
     }
@@ -91,16 +86,8 @@ fn primitive_array(
     requires whole { length bytes ≡ len * byte_width ptype }
     requires count { length (numbers ptype bytes) ≡ len }
     requires fits { ValidFits (valid_of validity) len }
-    ensures parts { IfOk result (λ a. a ≡ primitive ptype bytes (valid_of validity)) }
-    ensures err { IsOkUnless result Memory }
+    ensures { Gives result (λ a. a ≡ primitive ptype bytes (valid_of validity)) }
 {
-    let array = ArrayRef::from_parts(
-        alloc,
-        Layout::Primitive {
-            ptype,
-            bytes,
-            validity,
-        },
-    )?;
+    let array = ArrayRef::primitive(alloc, ptype, bytes, validity)?;
     Ok(PrimitiveArray { array })
 }

@@ -1,5 +1,5 @@
 -- Every row of an array fits the array's kind.
-use Rattle.std.proofs.Common.{ℕ, zero, suc, ◌+◌, ◌*◌, ◌^◌, ◌<◌, ◌≤◌, ◌≡◌, Bool, true, false, List, [], ◌∷◌, length, take, drop, refl, ◌∙◌, arith, length-take}
+use Rattle.std.proofs.Common.{ℕ, zero, suc, ◌+◌, ◌*◌, ◌^◌, ◌<◌, ◌≤◌, ◌≡◌, Bool, true, false, List, [], ◌∷◌, length, take, drop, refl, sym, ◌∙◌, subst, arith}
 use Rattle.std.specs.Prelude.{pos, IsTrue, if◌then◌else◌, ◌||◌, slice_range, slice_index_or, IsUtf8}
 use Rattle.std.proofs.Math.Nat.{mul-le-mul_right}
 use Rattle.std.proofs.lemmas.List.{get_or-drop}
@@ -9,10 +9,14 @@ use Rattle.vx_base.specs.Rows.{Row, null, boolean, whole, bytes, text, items, re
 use Rattle.vx_base.specs.Kinds.{Kind, booleans, integers, texts, binaries, lists, fixed_lists, records, is_nullable_kind, or_nullable, Fits, AllFit, FieldsFit, IsShort, row_count}
 use Rattle.vx_base.proofs.NumberBytes.{holds-number_of, below_4}
 use Rattle.vx_base.proofs.NumberLists.{get_numbers, length_numbers}
-use Rattle.vx_views.specs.Views.{AreBytes, number_le, view_value, view_size, is_inline, buffer_at, view_block, view_offset}
+use Rattle.vx_base.specs.Bytes.{AreBytes}
+use Rattle.vx_views.specs.Views.{IsView, view_value, buffer_at}
+use Rattle.vx_views.specs.Sound.{IsSoundView}
+use Rattle.vx_views.proofs.SoundViews.{value-bytes, value-short}
 use Rattle.vx_tree.specs.Tree.{bools, primitive, constant, dictionary, fixed_list, list_view, structure, view_array, Trees, no_trees, tree, Valid, non_nullable, all_valid, all_invalid, by_array}
-use Rattle.vx_tree.specs.Meaning.{tree_len, kind_of, kinds_of, row_at, fields_at, rows_range, picked, is_valid_at, nullable, number_nth}
-use Rattle.vx_tree.specs.Formed.{AllLen, column_count, IsCode}
+use Rattle.vx_tree.specs.Meaning.{tree_len, kind_of, kinds_of, row_at, fields_at, rows_range, picked, is_valid_at, nullable, is_texts, value_row}
+use Rattle.vx_base.specs.Selections.{number_of_position}
+use Rattle.vx_tree.specs.Formed.{AllLen, column_count, IsCode, value_kind}
 use Rattle.vx_tree.specs.Fitting.{ColumnsFormed, RowsFit}
 
 -- ---- one row
@@ -118,33 +122,22 @@ bytes_taken (suc n) (b ∷ bs) h (suc i) = bytes_taken n bs (λ j. h (suc j)) i
 bytes_dropped : (n : ℕ) (bs : List ℕ) → AreBytes bs → AreBytes (drop n bs)
 bytes_dropped n bs h i = rw (get_or-drop n bs i 0) (h (n + i))
 
-number_fits : (t : PType) (bs : List ℕ) (i : ℕ) → AreBytes bs → i < length (numbers t bs) → Holds t (number_nth (numbers t bs) i)
+number_fits : (t : PType) (bs : List ℕ) (i : ℕ) → AreBytes bs → i < length (numbers t bs) → Holds t (number_of_position (numbers t bs) i)
 number_fits t bs i h l =
     let part : AreBytes (take (byte_width t) (drop (i * byte_width t) bs)) = bytes_taken (byte_width t) (drop (i * byte_width t) bs) (bytes_dropped (i * byte_width t) bs h) in
     rw (get_numbers t bs i (pos 0) (rw (length_numbers t bs) at l)) (holds-number_of t (take (byte_width t) (drop (i * byte_width t) bs)) part)
 
-size_below : (view : List ℕ) → AreBytes view → view_size view < 2 ^ 32
-unfolding number_le
-size_below view h = below_4 (slice_range view 0 4) (bytes_taken 4 view h)
+value_fits : (u n : Bool) (value : List ℕ) → (IsTrue u → IsUtf8 value) → AreBytes value → IsShort value → Fits (value_kind u n) (value_row u value)
+value_fits true n value good all short = (good refl, short)
+value_fits false n value good all short = (all, short)
 
-short_part : (bs : List ℕ) (from size : ℕ) → length (slice_range bs from (from + size)) ≤ size
-short_part bs from size = simp length-take (omega (arith))
+value_nullable : (u n : Bool) → IsTrue n → IsTrue (is_nullable_kind (value_kind u n))
+value_nullable true n h = h
+value_nullable false n h = h
 
-short_value : (buffers : List (List ℕ)) (view : List ℕ) → AreBytes view → IsShort (view_value buffers view)
-short_value buffers view h = either (is_inline view) (slice_range view 4 (4 + view_size view)) (slice_range (buffer_at buffers (view_block view)) (view_offset view) (view_offset view + view_size view))
-    (omega (arith, short_part view 4 (view_size view), size_below view h)) (omega (arith, short_part (buffer_at buffers (view_block view)) (view_offset view) (view_size view), size_below view h))
-  where
-    either : (b : Bool) (xs ys : List ℕ) → IsShort xs → IsShort ys → IsShort (if b then xs else ys)
-    either true xs ys h k = h
-    either false xs ys h k = k
-
-view_fits : (u n : Bool) (value : List ℕ) → (IsTrue u → IsUtf8 value) → IsShort value → Fits (if u then texts n else binaries n) (if u then text value else bytes value)
-view_fits true n value good short = (good refl, short)
-view_fits false n value good short = short
-
-view_nullable : (u n : Bool) → IsTrue n → IsTrue (is_nullable_kind (if u then texts n else binaries n))
-view_nullable true n h = h
-view_nullable false n h = h
+view_fits : (buffers : List (List ℕ)) (view : List ℕ) (u n : Bool) → IsSoundView buffers u view → IsView view → ((block : ℕ) → AreBytes (buffer_at buffers block)) → Fits (value_kind u n) (value_row u (view_value buffers view))
+view_fits buffers view u n sound formed all =
+    value_fits u n (view_value buffers view) sound.utf8 (value-bytes buffers view formed all) (omega (arith, value-short buffers view formed))
 
 -- ---- every layout
 
@@ -162,9 +155,10 @@ mutual
       (λ b. range_fits (kind_of e) (row_at e) (tree_len e) (count_in (row_at o i)) (count_in (row_at s i)) (rows_fit e h.1) (h.0.1.within i l)) (valid_or_nullable v i)
   rows_fit (structure ns ts v n) h i l =
       masked_fits (records ns (kinds_of ts) (nullable v)) _ (is_valid_at v i) (λ b. fields_fit ts h.1 ns n i h.0.1.named h.0.1.lens l) (valid_or_nullable v i)
-  rows_fit (view_array vs bs u v) h i l =
-      masked_fits (if u then texts (nullable v) else binaries (nullable v)) _ (is_valid_at v i)
-      (λ b. view_fits u (nullable v) (view_value bs (slice_index_or vs i [])) (h.0.1.good i l b).utf8 (short_value bs (slice_index_or vs i []) (h.1 i l))) (λ b. view_nullable u (nullable v) (valid_or_nullable v i b))
+  rows_fit (view_array vs bs k v) h i l =
+      let P : Kind → Type 0 = λ x. Fits x (row_at (view_array vs bs k v) i) in
+      subst P (sym h.0.1.kind) (masked_fits (value_kind (is_texts k) (nullable v)) (value_row (is_texts k) (view_value bs (slice_index_or vs i []))) (is_valid_at v i)
+      (λ b. view_fits bs (slice_index_or vs i []) (is_texts k) (nullable v) (h.0.1.sound i l b) (h.1.each_view i l) h.1.each_buffer) (λ b. value_nullable (is_texts k) (nullable v) (valid_or_nullable v i b)))
 
   fields_fit : (ts : Trees) → ColumnsFormed ts → (ns : List (List ℕ)) (n i : ℕ) → length ns ≡ column_count ts → AllLen n ts → i < n → FieldsFit ns (kinds_of ts) (fields_at ts ns i)
   fields_fit no_trees h [] n i named lens l = tt

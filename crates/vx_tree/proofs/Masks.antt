@@ -4,7 +4,7 @@ use Rattle.std.specs.List.{range_with_len}
 use Rattle.std.proofs.lemmas.List.FromFn.{fill_by_all}
 use Rattle.std.proofs.lemmas.List.{get_or-replicate, length-replicate}
 use Rattle.vx_base.specs.Rows.{Row, truth_of}
-use Rattle.vx_base.specs.Kinds.{Kind, booleans}
+use Rattle.vx_base.specs.Kinds.{Kind, booleans, integers, texts, binaries, lists, fixed_lists, records, is_plain_booleans}
 use Rattle.vx_tree.specs.Tree.{Tree, bools, constant, Valid, non_nullable, all_valid, all_invalid, by_array}
 use Rattle.vx_tree.specs.Meaning.{row_at, tree_len, kind_of, is_valid_at, valid_mask}
 
@@ -34,3 +34,14 @@ bits_are_truths t bits (by_array m) e k = let h = rw e at k in cc
 pub truths_of_constant : (t : Tree) (k : Kind) (r : Row) (n : ℕ) → t ≡ constant k r n → replicate n (truth_of r) ≡ map (λ i. truth_of (row_at t i)) (range_with_len 0 (tree_len t))
 truths_of_constant t k r n e =
     rw e (fill_by_all (λ i. truth_of r) (replicate n (truth_of r)) n false (length-replicate n (truth_of r)) (λ i l. get_or-replicate n i (truth_of r) false l))
+
+-- plain booleans are the one kind that passes the test
+pub plain_booleans : (k : Kind) → is_plain_booleans k ≡ true → k ≡ booleans false
+plain_booleans (booleans true) h = cc
+plain_booleans (booleans false) h = refl
+plain_booleans (integers t n) h = cc
+plain_booleans (texts n) h = cc
+plain_booleans (binaries n) h = cc
+plain_booleans (lists k n) h = cc
+plain_booleans (fixed_lists k size n) h = cc
+plain_booleans (records names ks n) h = cc

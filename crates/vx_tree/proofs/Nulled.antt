@@ -11,7 +11,8 @@ use Rattle.vx_base.specs.Bits.{bool_at, both}
 use Rattle.vx_base.specs.Kinds.{Kind, booleans, integers, texts, binaries, lists, fixed_lists, records, or_nullable}
 use Rattle.vx_tree.specs.Tree.{Tree, bools, primitive, constant, dictionary, fixed_list, list_view, structure, view_array, Valid, non_nullable, all_valid, all_invalid, by_array}
 use Rattle.vx_tree.specs.Layouts.{is_constant}
-use Rattle.vx_tree.specs.Meaning.{row_at, tree_len, kind_of, is_valid_at, nullable, number_nth}
+use Rattle.vx_tree.specs.Meaning.{row_at, tree_len, kind_of, is_valid_at, nullable}
+use Rattle.vx_base.specs.Selections.{number_of_position}
 use Rattle.vx_tree.specs.Shapes.{State, bool_shape, primitive_shape, list_view_shape, never_null, none_null, every_null, told, state_of, is_nullable_state, taken_state}
 use Rattle.vx_tree.specs.Formed.{ValidFits, IsMask}
 use Rattle.vx_tree.specs.Operations.{IsNulled, IsValidNulled, IsNulls, IsValidNulls, IsZeroes}
@@ -151,7 +152,7 @@ zeroes_made t p bs n a e =
     rw a (record {
       len = ap length e ∙ length-map (replicate n 0) pos ∙ length-replicate {A = ℕ} n 0;
       kind = refl;
-      rows = λ i l. ap whole (ap (λ (zs : List ℤ). number_nth zs i) e ∙ get_or-map pos (replicate n 0) i 0 (pos 0) (rw (length-replicate {A = ℕ} n 0) l) ∙ ap pos (get_or-replicate n i 0 0 l));
+      rows = λ i l. ap whole (ap (λ (zs : List ℤ). number_of_position zs i) e ∙ get_or-map pos (replicate n 0) i 0 (pos 0) (rw (length-replicate {A = ℕ} n 0) l) ∙ ap pos (get_or-replicate n i 0 0 l));
     })
 
 -- ---- a constant, by nulls that are none

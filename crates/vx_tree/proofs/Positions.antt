@@ -16,7 +16,8 @@ use Rattle.vx_base.specs.Refusals.{Refusal, first_fault}
 use Rattle.vx_base.specs.Rows.{Row, null, boolean, whole, bytes, text, items, record_of, number_in, position_in, is_present}
 use Rattle.vx_base.proofs.MaskCounts.{all_true_from_count}
 use Rattle.vx_tree.specs.Tree.{Tree, primitive, Valid, non_nullable}
-use Rattle.vx_tree.specs.Meaning.{tree_len, row_at, is_valid_at, valid_mask, number_nth}
+use Rattle.vx_tree.specs.Meaning.{tree_len, row_at, is_valid_at, valid_mask}
+use Rattle.vx_base.specs.Selections.{number_of_position}
 use Rattle.vx_tree.specs.Faults.{index_fault, indices_fault}
 use Rattle.vx_tree.specs.Operations.{IsPosition, ArePositions, masked_numbers, or_zero}
 
@@ -122,7 +123,7 @@ indices_fault-same len t u h = each (tree_len t) (λ i l. ap (index_fault len i)
 -- numbers are those under the mask of their validity
 pub under_mask : (t : Tree) (p : PType) (bs : List ℕ) (v : Valid) (mask : List Bool) → t ≡ primitive p bs v → mask ≡ valid_mask v (tree_len t) → AreSame t (masked_numbers p bs mask)
 under_mask t p bs v mask e m =
-    rw e (record { len = refl; rows = λ i l. ap (λ b. if b then whole (number_nth (numbers p bs) i) else null) (sym (bit i (rw e l))) })
+    rw e (record { len = refl; rows = λ i l. ap (λ b. if b then whole (number_of_position (numbers p bs) i) else null) (sym (bit i (rw e l))) })
   where
     bit : (i : ℕ) → i < tree_len t → bool_at mask i ≡ is_valid_at v i
     bit i l = ap (λ bits. bool_at bits i) m ∙ get_or-map-range_with_len (is_valid_at v) 0 (tree_len t) i i false l (zero-add i)
@@ -135,7 +136,7 @@ mask_long v mask n m = ap length m ∙ length-map-range_with_len (is_valid_at v)
 pub masked_plain : (p : PType) (bs : List ℕ) (mask : List Bool) → length mask ≡ length (numbers p bs) → count_by (λ b. b) mask ≡ length mask → AreSame (masked_numbers p bs mask) (primitive p bs non_nullable)
 masked_plain p bs mask long counted = record {
   len = refl;
-  rows = λ i l. ap (λ b. if b then whole (number_nth (numbers p bs) i) else null) (bit i l);
+  rows = λ i l. ap (λ b. if b then whole (number_of_position (numbers p bs) i) else null) (bit i l);
 }
   where
     bit : (i : ℕ) → i < length (numbers p bs) → bool_at mask i ≡ true

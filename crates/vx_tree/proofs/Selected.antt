@@ -9,7 +9,7 @@ use Rattle.vx_base.specs.Rows.{truth_of}
 use Rattle.vx_base.specs.Kinds.{booleans, integers, lists, is_plain_integers}
 use Rattle.vx_base.specs.Selections.{number_of_position, bit_of_position}
 use Rattle.vx_tree.specs.Tree.{Tree, bools, primitive, constant, dictionary, fixed_list, list_view, structure, view_array, Valid, non_nullable, all_valid, all_invalid, by_array}
-use Rattle.vx_tree.specs.Meaning.{row_at, kind_of, is_valid_at, nullable, number_nth}
+use Rattle.vx_tree.specs.Meaning.{row_at, kind_of, is_valid_at, nullable}
 use Rattle.vx_tree.specs.Shapes.{bool_shape, primitive_shape, list_view_shape, state_of, is_nullable_state}
 use Rattle.vx_tree.specs.Formed.{ValidFits, IsCounts}
 use Rattle.vx_tree.specs.Faults.{take_overflow}
@@ -65,7 +65,7 @@ bool_row : (bits new : List Bool) (v w : Valid) (i k : ℕ) → is_valid_at w i 
     → row_at (bools new w) i ≡ row_at (bools bits v) k
 bool_row bits new v w i k a b = rw (a, b) refl
 
-number_row : (t : PType) (bs new : List ℕ) (v w : Valid) (i k : ℕ) → is_valid_at w i ≡ is_valid_at v k → number_nth (numbers t new) i ≡ number_nth (numbers t bs) k
+number_row : (t : PType) (bs new : List ℕ) (v w : Valid) (i k : ℕ) → is_valid_at w i ≡ is_valid_at v k → number_of_position (numbers t new) i ≡ number_of_position (numbers t bs) k
     → row_at (primitive t new w) i ≡ row_at (primitive t bs v) k
 number_row t bs new v w i k a b = rw (a, b) refl
 
@@ -92,7 +92,7 @@ numbers_selected t u p bs new v w ps a b e h =
       len = ap length e ∙ length-map ps (number_of_position (numbers p bs));
       kind = ap (integers p) (nullable_same v w h.state);
       shape = ap primitive_shape h.state;
-      rows = λ i l. number_row p bs new v w i (slice_index ps i) (h.bits i l) (ap (λ (zs : List ℤ). number_nth zs i) e ∙ get_or-map (number_of_position (numbers p bs)) ps i 0 (pos 0) l);
+      rows = λ i l. number_row p bs new v w i (slice_index ps i) (h.bits i l) (ap (λ (zs : List ℤ). number_of_position zs i) e ∙ get_or-map (number_of_position (numbers p bs)) ps i 0 (pos 0) l);
     })
 
 pub lists_selected : (t u e o s o2 s2 : Tree) (v w : Valid) (f : Bool) (ps : List ℕ) → t ≡ list_view e o s v f → u ≡ list_view e o2 s2 w false

@@ -1,6 +1,6 @@
 -- Taking: what is selected, with the nulls of the indices.
 use Rattle.std.proofs.Common.{ℕ, ◌<◌, ◌≡◌, Bool, true, false, List, length, map, get_or, Option, Some, None, refl, sym, ◌∙◌, ap, subst, zero-add, arith}
-use Rattle.std.specs.Prelude.{is_some, IfSome, slice_index, if◌then◌else◌}
+use Rattle.std.specs.Prelude.{is_some, IfSome, slice_index, slice_index_or, if◌then◌else◌}
 use Rattle.std.specs.List.{range_with_len}
 use Rattle.std.proofs.lemmas.List.{length-map, get_or-map, get_or_default}
 use Rattle.std.proofs.lemmas.List.FromFn.{get_or-map-range_with_len, length-map-range_with_len, fill_by_all}
@@ -11,7 +11,7 @@ use Rattle.vx_tree.specs.Tree.{Tree, Valid}
 use Rattle.vx_tree.specs.Meaning.{row_at, rows, tree_len, kind_of, is_valid_at, nullable, picked}
 use Rattle.vx_tree.specs.Shapes.{Shape, bool_shape, primitive_shape, constant_shape, dictionary_shape, fixed_list_shape, list_view_shape, struct_shape, view_shape, state_of, shape_of, selected_shape, nulled_shape}
 use Rattle.vx_tree.specs.Faults.{take_fault, indices_fault, rows_fault, dictionary_fault}
-use Rattle.vx_tree.specs.Operations.{IsTakenAt, IsSelected, IsNulled, IsNulls, IsValidityOf, IsPosition, ArePositions, AreBelow, or_zero, positions, pick, picks}
+use Rattle.vx_tree.specs.Operations.{IsTakenAt, IsSelected, IsNulled, IsNulls, IsValidityOf, IsPosition, ArePositions, AreBelow, or_zero, positions, picks}
 
 -- ---- at positions
 
@@ -77,7 +77,7 @@ positions_none indices n qs v e h valid i l =
     valid.bits i inside ∙ sym p.present ∙ not_some (position_in (row_at indices i)) (subst P e p.within)
 
 -- the row of one index
-taken_row : (t : Tree) (k : ℕ) (b : Bool) (p : Option ℕ) → b ≡ is_some p → k ≡ or_zero p → IfSome p (λ n. n < tree_len t) → (if b then row_at t k else null) ≡ pick (rows t) p
+taken_row : (t : Tree) (k : ℕ) (b : Bool) (p : Option ℕ) → b ≡ is_some p → k ≡ or_zero p → IfSome p (λ n. n < tree_len t) → (if b then row_at t k else null) ≡ picked (λ j. slice_index_or (rows t) j null) p
 taken_row t k b None e same w = rw e refl
 taken_row t k b (Some n) e same w = rw (e, same) (sym (get_or-map-range_with_len (row_at t) 0 (tree_len t) n n null w (zero-add n)))
 
@@ -94,7 +94,7 @@ pub rows_taken : (t r indices : Tree) (n : ℕ) (qs : List ℕ) (v : Valid) → 
 rows_taken t r indices n qs v e h valid taken =
     let ps = positions (rows indices) in
     let many : length ps ≡ tree_len indices = length-map (rows indices) position_in ∙ long_rows indices in
-    let long : length (picks (rows t) ps) ≡ length qs = length-map ps (pick (rows t)) ∙ many ∙ sym h.len in
+    let long : length (picks (rows t) ps) ≡ length qs = length-map ps (picked (λ j. slice_index_or (rows t) j null)) ∙ many ∙ sym h.len in
     rw taken.len (sym (fill_by_all (row_at r) (picks (rows t) ps) (length qs) null long (λ i l. sym (one i l))))
   where
     one : (i : ℕ) → i < length qs → row_at r i ≡ get_or (picks (rows t) (positions (rows indices))) i null
@@ -106,7 +106,7 @@ rows_taken t r indices n qs v e h valid taken =
         let P : ℕ → Type 0 = λ m. IfSome (position_in (row_at indices i)) (λ k. k < m) in
         let within : IfSome (position_in (row_at indices i)) (λ k. k < tree_len t) = subst P e p.within in
         taken.rows i l ∙ taken_row t (slice_index qs i) (is_valid_at v i) (position_in (row_at indices i)) (valid.bits i inside ∙ sym p.present) p.told within
-        ∙ ap (pick (rows t)) (sym (position_of_row indices i inside)) ∙ sym (get_or-map (pick (rows t)) ps i None null (rw many inside))
+        ∙ ap (picked (λ j. slice_index_or (rows t) j null)) (sym (position_of_row indices i inside)) ∙ sym (get_or-map (picked (λ j. slice_index_or (rows t) j null)) ps i None null (rw many inside))
 
 -- with indices that are integers and faultless, only the rows taken have a fault
 pub take_fault-of : (t indices : Tree) (n : ℕ) (nulls : Bool) → is_integers (kind_of indices) ≡ true → indices_fault (tree_len t) indices ≡ None → n ≡ tree_len indices → nulls ≡ is_nullable_kind (kind_of indices)

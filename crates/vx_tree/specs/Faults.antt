@@ -18,35 +18,28 @@ slice_fault len start end =
 
 -- a validity array that is not one of plain booleans
 abbrev pub valid_type_fault : Valid → Option Refusal
-valid_type_fault non_nullable = None
-valid_type_fault all_valid = None
-valid_type_fault all_invalid = None
 valid_type_fault (by_array t) = if is_plain_booleans (kind_of t) then None else Some mismatched_types
+valid_type_fault _ = None
 
 -- the length of the validity array, where there is one
 abbrev pub valid_len : Valid → Option ℕ
-valid_len non_nullable = None
-valid_len all_valid = None
-valid_len all_invalid = None
 valid_len (by_array t) = Some (tree_len t)
+valid_len _ = None
 
 -- a validity array of another length
 abbrev pub valid_len_fault : Valid → ℕ → Option Refusal
-valid_len_fault non_nullable n = None
-valid_len_fault all_valid n = None
-valid_len_fault all_invalid n = None
 valid_len_fault (by_array t) n = if tree_len t == n then None else Some length_mismatch
+valid_len_fault _ n = None
+
+-- the first fault of a validity of n rows: an array that is not one of plain booleans, or of another length
+abbrev pub validity_fault : Valid → ℕ → Option Refusal
+validity_fault v n = or_else (valid_type_fault v) (valid_len_fault v n)
 
 -- row i of the indices, as a position of len rows: a null is none
 abbrev pub index_fault : ℕ → ℕ → Row → Option Refusal
-index_fault len i null = None
-index_fault len i (boolean b) = None
 index_fault len i (whole (pos k)) = if nat_lt k len then None else Some (out_of_bounds k)
 index_fault len i (whole (negsuc k)) = Some (negative i)
-index_fault len i (bytes bs) = None
-index_fault len i (text bs) = None
-index_fault len i (items rs) = None
-index_fault len i (record_of fs) = None
+index_fault len i _ = None
 
 -- the first row of the indices that is no position of len rows
 abbrev pub indices_fault : ℕ → Tree → Option Refusal
@@ -56,14 +49,9 @@ indices_fault len indices = first_fault (λ i. index_fault len i (row_at indices
 -- through columns and elements of fixed-size lists
 abbrev mutual
   pub take_overflow : Tree → ℕ → Option Refusal
-  take_overflow (bools bits v) n = None
-  take_overflow (primitive t bs v) n = None
-  take_overflow (constant k r m) n = None
-  take_overflow (dictionary c v f) n = None
   take_overflow (fixed_list e k v m) n = if nat_lt (n * k) (2 ^ 64) then take_overflow e (n * k) else Some overflow
-  take_overflow (list_view e o s v f) n = None
   take_overflow (structure ns ts v m) n = columns_overflow ts n
-  take_overflow (view_array vs bs u v) n = None
+  take_overflow _ n = None
 
   pub columns_overflow : Trees → ℕ → Option Refusal
   columns_overflow no_trees n = None

@@ -1,10 +1,16 @@
 -- Every row of an array fits the array's kind.
-use Rattle.std.specs.Prelude.{◌≡◌, ◌<◌, ◌^◌, ℕ, [], length, slice_index_or}
+use Rattle.std.specs.Prelude.{◌≡◌, ◌<◌, ◌^◌, ℕ, List, [], length, slice_index_or}
 use Rattle.vx_base.specs.Kinds.{Kind, Fits}
-use Rattle.vx_views.specs.Views.{AreBytes}
+use Rattle.vx_base.specs.Bytes.{AreBytes}
+use Rattle.vx_views.specs.Views.{IsView, buffer_at}
 use Rattle.vx_tree.specs.Tree.{Tree, bools, primitive, constant, dictionary, fixed_list, list_view, structure, view_array, Trees, no_trees, tree, Valid, non_nullable, all_valid, all_invalid, by_array}
 use Rattle.vx_tree.specs.Meaning.{tree_len, kind_of, row_at}
 use Rattle.vx_tree.specs.Formed.{WellFormed}
+
+-- each view has 16 bytes, and each buffer has bytes
+pub record AreViews (views buffers : List (List ℕ)) : Type 0 where
+  pub each_view : (i : ℕ) → i < length views → IsView (slice_index_or views i [])
+  pub each_buffer : (block : ℕ) → AreBytes (buffer_at buffers block)
 
 -- well formed at every depth, with bytes that are bytes
 abbrev mutual
@@ -16,17 +22,15 @@ abbrev mutual
   AllFormed (fixed_list e k v n) = WellFormed (fixed_list e k v n) × AllFormed e × ValidityFormed v
   AllFormed (list_view e o s v f) = WellFormed (list_view e o s v f) × AllFormed e × AllFormed o × AllFormed s × ValidityFormed v
   AllFormed (structure ns ts v n) = WellFormed (structure ns ts v n) × ColumnsFormed ts × ValidityFormed v
-  AllFormed (view_array vs bs u v) = WellFormed (view_array vs bs u v) × ((i : ℕ) → i < length vs → AreBytes (slice_index_or vs i [])) × ValidityFormed v
+  AllFormed (view_array vs bs k v) = WellFormed (view_array vs bs k v) × AreViews vs bs × ValidityFormed v
 
   pub ColumnsFormed : Trees → Type 0
   ColumnsFormed no_trees = Unit {0}
   ColumnsFormed (tree t ts) = AllFormed t × ColumnsFormed ts
 
   pub ValidityFormed : Valid → Type 0
-  ValidityFormed non_nullable = Unit {0}
-  ValidityFormed all_valid = Unit {0}
-  ValidityFormed all_invalid = Unit {0}
   ValidityFormed (by_array t) = AllFormed t
+  ValidityFormed _ = Unit {0}
 
 -- what an array keeps beside its parts: their length, which a machine word holds, and their kind
 pub record IsKept (t : Tree) (len : ℕ) (kind : Kind) : Type 0 where

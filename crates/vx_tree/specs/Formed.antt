@@ -1,12 +1,12 @@
 -- What is true of the parts of every array.
-use Rattle.std.specs.Prelude.{◌≡◌, ◌≤◌, ◌<◌, ◌+◌, ◌*◌, ℕ, Bool, true, false, IsTrue, List, [], length, take, pos, negsuc, Some, replicate, slice_index_or, IsUtf8}
+use Rattle.std.specs.Prelude.{◌≡◌, ◌≤◌, ◌<◌, ◌+◌, ◌*◌, ℕ, Bool, true, false, IsTrue, List, [], length, pos, negsuc, Some, replicate, slice_index_or}
 use Rattle.std.proofs.Common.{arith}
 use Rattle.vx_base.specs.Integers.{byte_width, numbers}
 use Rattle.vx_base.specs.Rows.{Row, null, boolean, whole, bytes, text, items, record_of, count_in, position_in}
-use Rattle.vx_base.specs.Kinds.{booleans, is_integers, is_plain_integers, Fits}
-use Rattle.vx_views.specs.Views.{view_value, view_size, view_prefix, Resolves}
+use Rattle.vx_base.specs.Kinds.{Kind, booleans, texts, binaries, is_integers, is_plain_integers, Fits}
+use Rattle.vx_views.specs.Sound.{IsSoundView}
 use Rattle.vx_tree.specs.Tree.{Tree, bools, primitive, constant, dictionary, fixed_list, list_view, structure, view_array, Trees, no_trees, tree, Valid, non_nullable, all_valid, all_invalid, by_array}
-use Rattle.vx_tree.specs.Meaning.{tree_len, kind_of, row_at, is_valid_at}
+use Rattle.vx_tree.specs.Meaning.{tree_len, kind_of, row_at, is_valid_at, nullable, is_texts}
 
 -- a validity array of n rows: plain booleans, in any layout
 pub record IsMask (t : Tree) (n : ℕ) : Type 0 where
@@ -15,31 +15,23 @@ pub record IsMask (t : Tree) (n : ℕ) : Type 0 where
 
 -- the validity is that of n rows
 abbrev pub ValidFits : Valid → ℕ → Type 0
-ValidFits non_nullable n = Unit {0}
-ValidFits all_valid n = Unit {0}
-ValidFits all_invalid n = Unit {0}
 ValidFits (by_array t) n = IsMask t n
+ValidFits _ n = Unit {0}
 
 -- a validity array, of whatever kind, has n rows
 abbrev pub IsLenOf : Valid → ℕ → Type 0
-IsLenOf non_nullable n = Unit {0}
-IsLenOf all_valid n = Unit {0}
-IsLenOf all_invalid n = Unit {0}
 IsLenOf (by_array t) n = tree_len t ≡ n
+IsLenOf _ n = Unit {0}
 
 -- the validity is that of more than i rows
 abbrev pub ValidReads : Valid → ℕ → Type 0
-ValidReads non_nullable i = Unit {0}
-ValidReads all_valid i = Unit {0}
-ValidReads all_invalid i = Unit {0}
 ValidReads (by_array t) i = (kind_of t ≡ booleans false) × (i < tree_len t)
+ValidReads _ i = Unit {0}
 
 -- the validity is that of n rows or more
 abbrev pub ValidCovers : Valid → ℕ → Type 0
-ValidCovers non_nullable n = Unit {0}
-ValidCovers all_valid n = Unit {0}
-ValidCovers all_invalid n = Unit {0}
 ValidCovers (by_array t) n = (kind_of t ≡ booleans false) × (n ≤ tree_len t)
+ValidCovers _ n = Unit {0}
 
 pub ValidReads-from_fits : (v : Valid) (n i : ℕ) → ValidFits v n → i < n → ValidReads v i
 ValidReads-from_fits non_nullable n i h k = tt
@@ -74,13 +66,8 @@ pub record IsListView (e o s : Tree) (flag : Bool) : Type 0 where
 -- null, or the position of one of n values
 abbrev pub IsCode : ℕ → Row → Type 0
 IsCode n null = Unit {0}
-IsCode n (boolean b) = ⊥
 IsCode n (whole (pos k)) = k < n
-IsCode n (whole (negsuc k)) = ⊥
-IsCode n (bytes bs) = ⊥
-IsCode n (text bs) = ⊥
-IsCode n (items rs) = ⊥
-IsCode n (record_of fs) = ⊥
+IsCode n _ = ⊥
 
 -- every value position is some valid code
 abbrev pub ReferencesAll : Tree → Tree → Type 0
@@ -106,15 +93,16 @@ pub record IsStruct (names : List (List ℕ)) (columns : Trees) (n : ℕ) : Type
   pub named : length names ≡ column_count columns
   pub lens : AllLen n columns
 
--- a view that a reader may trust: its value is there, its prefix is right, and a text is UTF-8
-pub record IsGoodView (buffers : List (List ℕ)) (is_text : Bool) (view : List ℕ) : Type 0 where
-  pub resolves : Resolves buffers view
-  pub prefix : 12 < view_size view → view_prefix view ≡ take 4 (view_value buffers view)
-  pub utf8 : IsTrue is_text → IsUtf8 (view_value buffers view)
+-- a kind of texts or of binaries, under which null may stand where n says so
+abbrev pub value_kind : Bool → Bool → Kind
+value_kind true n = texts n
+value_kind false n = binaries n
 
--- every valid view is good, and the view of a null row is 16 zero bytes
-pub record IsViewArray (views buffers : List (List ℕ)) (is_text : Bool) (v : Valid) : Type 0 where
-  pub good : (i : ℕ) → i < length views → is_valid_at v i ≡ true → IsGoodView buffers is_text (slice_index_or views i [])
+-- texts or binaries, nullable exactly where the validity is; every valid view is sound, and the view of a null row is
+-- 16 zero bytes
+pub record IsViewArray (views buffers : List (List ℕ)) (k : Kind) (v : Valid) : Type 0 where
+  pub kind : k ≡ value_kind (is_texts k) (nullable v)
+  pub sound : (i : ℕ) → i < length views → is_valid_at v i ≡ true → IsSoundView buffers (is_texts k) (slice_index_or views i [])
   pub zeroes : (i : ℕ) → i < length views → is_valid_at v i ≡ false → slice_index_or views i [] ≡ replicate 16 0
 
 -- the parts of each layout
@@ -126,6 +114,6 @@ WellFormed (dictionary c v f) = IsDictionary c v f
 WellFormed (fixed_list e k v n) = ValidFits v n × (tree_len e ≡ n * k)
 WellFormed (list_view e o s v f) = ValidFits v (tree_len o) × IsListView e o s f
 WellFormed (structure ns ts v n) = ValidFits v n × IsStruct ns ts n
-WellFormed (view_array vs bs u v) = ValidFits v (length vs) × IsViewArray vs bs u v
+WellFormed (view_array vs bs k v) = ValidFits v (length vs) × IsViewArray vs bs k v
 
 pub ruleset valid_reads = (ValidReads-from_fits, ValidCovers-from_fits)

@@ -3,6 +3,7 @@ use Rattle.std.specs.Prelude.{◌*◌, ℕ, zero, suc, ℤ, pos, Bool, true, fal
 use Rattle.std.specs.List.{range_with_len}
 use Rattle.vx_base.specs.Integers.{numbers}
 use Rattle.vx_base.specs.Bits.{bool_at}
+use Rattle.vx_base.specs.Selections.{number_of_position}
 use Rattle.vx_base.specs.Rows.{Row, null, boolean, whole, bytes, text, items, record_of, Rows, no_rows, row, Fields, no_fields, field, truth_of, position_in, count_in}
 use Rattle.vx_base.specs.Kinds.{Kind, booleans, integers, texts, binaries, lists, fixed_lists, records, Kinds, no_kinds, kind, is_nullable_kind, or_nullable}
 use Rattle.vx_views.specs.Views.{view_value}
@@ -20,10 +21,6 @@ nullable all_valid = true
 nullable all_invalid = true
 nullable (by_array t) = true
 
--- the number at a place
-abbrev pub number_nth : List ℤ → ℕ → ℤ
-number_nth zs i = slice_index_or zs i (pos 0)
-
 -- how many rows there are
 abbrev pub tree_len : Tree → ℕ
 tree_len (bools bits v) = length bits
@@ -33,7 +30,7 @@ tree_len (dictionary c v f) = tree_len c
 tree_len (fixed_list e k v n) = n
 tree_len (list_view e o s v f) = tree_len o
 tree_len (structure ns ts v n) = n
-tree_len (view_array vs bs u v) = length vs
+tree_len (view_array vs bs k v) = length vs
 
 -- of what kind the rows are
 abbrev mutual
@@ -45,7 +42,7 @@ abbrev mutual
   kind_of (fixed_list e k v n) = fixed_lists (kind_of e) k (nullable v)
   kind_of (list_view e o s v f) = lists (kind_of e) (nullable v)
   kind_of (structure ns ts v n) = records ns (kinds_of ts) (nullable v)
-  kind_of (view_array vs bs u v) = if u then texts (nullable v) else binaries (nullable v)
+  kind_of (view_array vs bs k v) = k
 
   pub kinds_of : Trees → Kinds
   kinds_of no_trees = no_kinds
@@ -61,18 +58,27 @@ abbrev pub picked : (ℕ → Row) → Option ℕ → Row
 picked f None = null
 picked f (Some k) = f k
 
+-- a kind of texts
+abbrev pub is_texts : Kind → Bool
+is_texts (texts n) = true
+is_texts _ = false
+
+-- the row of a value: a text where texts stand, else bytes
+abbrev pub value_row : Bool → List ℕ → Row
+value_row true value = text value
+value_row false value = bytes value
+
 -- row i of each layout, where its validity is true; null elsewhere
 abbrev mutual
   pub row_at : Tree → ℕ → Row
   row_at (bools bits v) i = if is_valid_at v i then boolean (bool_at bits i) else null
-  row_at (primitive t bs v) i = if is_valid_at v i then whole (number_nth (numbers t bs) i) else null
+  row_at (primitive t bs v) i = if is_valid_at v i then whole (number_of_position (numbers t bs) i) else null
   row_at (constant k r n) i = r
   row_at (dictionary c v f) i = picked (row_at v) (position_in (row_at c i))
   row_at (fixed_list e k v n) i = if is_valid_at v i then items (rows_range (row_at e) (i * k) k) else null
   row_at (list_view e o s v f) i = if is_valid_at v i then items (rows_range (row_at e) (count_in (row_at o i)) (count_in (row_at s i))) else null
   row_at (structure ns ts v n) i = if is_valid_at v i then record_of (fields_at ts ns i) else null
-  row_at (view_array vs bs u v) i =
-      if is_valid_at v i then (if u then text (view_value bs (slice_index_or vs i [])) else bytes (view_value bs (slice_index_or vs i []))) else null
+  row_at (view_array vs bs k v) i = if is_valid_at v i then value_row (is_texts k) (view_value bs (slice_index_or vs i [])) else null
 
   pub fields_at : Trees → List (List ℕ) → ℕ → Fields
   fields_at no_trees ns i = no_fields

@@ -5,7 +5,7 @@ use Rattle.vx_base.specs.declared.ptypes.PType.{PType}
 use Rattle.vx_base.specs.Rows.{Row, null, whole, position_in, is_present}
 use Rattle.vx_base.specs.Kinds.{or_nullable, booleans, integers, is_nullable_kind}
 use Rattle.vx_tree.specs.Tree.{Tree, bools, primitive, Valid, non_nullable, all_valid, all_invalid, by_array}
-use Rattle.vx_tree.specs.Meaning.{tree_len, kind_of, row_at, rows, is_valid_at, nullable}
+use Rattle.vx_tree.specs.Meaning.{tree_len, kind_of, row_at, is_valid_at, nullable, picked}
 use Rattle.vx_tree.specs.Shapes.{state_of, tree_state, taken_state, shape_of, sliced_shape, selected_shape, nulled_shape, taken_shape}
 use Rattle.vx_tree.specs.Formed.{ValidFits}
 
@@ -120,11 +120,6 @@ masked_numbers t bytes mask = primitive t bytes (by_array (bools mask non_nullab
 
 -- ---- on lists of rows
 
--- the row of a list at an optional position: null where there is none
-abbrev pub pick : List Row → Option ℕ → Row
-pick rs None = null
-pick rs (Some k) = slice_index_or rs k null
-
--- the rows of a list at these positions
+-- the rows of a list at these positions: null where there is none
 abbrev pub picks : List Row → List (Option ℕ) → List Row
-picks rs ps = map (pick rs) ps
+picks rs ps = map (picked (λ k. slice_index_or rs k null)) ps

@@ -24,8 +24,8 @@ mutual
     list_view : Tree → Tree → Tree → Valid → Bool → Tree
     -- names, columns, validity, number of records
     structure : List (List ℕ) → Trees → Valid → ℕ → Tree
-    -- views, buffers, whether the values are texts, validity
-    view_array : List (List ℕ) → List (List ℕ) → Bool → Valid → Tree
+    -- views, buffers, data type, validity
+    view_array : List (List ℕ) → List (List ℕ) → Kind → Valid → Tree
 
   pub data Trees : Type 0 where
     no_trees : Trees
@@ -49,7 +49,7 @@ abbrev mutual
   code_tree (fixed_list e k v n) = gcons (gnum 4) (gcons (code_tree e) (gcons (gnum k) (gcons (code_valid v) (gnum n))))
   code_tree (list_view e o s v f) = gcons (gnum 5) (gcons (code_tree e) (gcons (code_tree o) (gcons (code_tree s) (gcons (code_valid v) (coded_bool.code f)))))
   code_tree (structure ns ts v n) = gcons (gnum 6) (gcons ((coded_list (coded_list coded_ℕ)).code ns) (gcons (code_trees ts) (gcons (code_valid v) (gnum n))))
-  code_tree (view_array vs bs u v) = gcons (gnum 7) (gcons ((coded_list (coded_list coded_ℕ)).code vs) (gcons ((coded_list (coded_list coded_ℕ)).code bs) (gcons (coded_bool.code u) (code_valid v))))
+  code_tree (view_array vs bs k v) = gcons (gnum 7) (gcons ((coded_list (coded_list coded_ℕ)).code vs) (gcons ((coded_list (coded_list coded_ℕ)).code bs) (gcons (code_kind k) (code_valid v))))
 
   pub code_trees : Trees → Gv
   code_trees no_trees = gnil
@@ -79,9 +79,9 @@ mutual
   code_tree-inj (structure ns ts v n) (structure ns2 ts2 v2 n2) p =
       λ i. structure ((coded_list (coded_list coded_ℕ)).inj ns ns2 (ap (λ g. first (rest g)) p) i) (code_trees-inj ts ts2 (ap (λ g. first (rest (rest g))) p) i)
       (code_valid-inj v v2 (ap (λ g. first (rest (rest (rest g)))) p) i) (ap (λ g. number (rest (rest (rest (rest g))))) p i)
-  code_tree-inj (view_array vs bs u v) (view_array vs2 bs2 u2 v2) p =
+  code_tree-inj (view_array vs bs k v) (view_array vs2 bs2 k2 v2) p =
       λ i. view_array ((coded_list (coded_list coded_ℕ)).inj vs vs2 (ap (λ g. first (rest g)) p) i) ((coded_list (coded_list coded_ℕ)).inj bs bs2 (ap (λ g. first (rest (rest g))) p) i)
-      (coded_bool.inj u u2 (ap (λ g. first (rest (rest (rest g)))) p) i) (code_valid-inj v v2 (ap (λ g. rest (rest (rest (rest g)))) p) i)
+      (code_kind-inj k k2 (ap (λ g. first (rest (rest (rest g)))) p) i) (code_valid-inj v v2 (ap (λ g. rest (rest (rest (rest g)))) p) i)
   code_tree-inj _ _ p = let e = ap tag p in absurd (omega (arith, e))
 
   pub code_trees-inj : (x y : Trees) → code_trees x ≡ code_trees y → x ≡ y
@@ -110,7 +110,7 @@ abbrev mutual
   depth (fixed_list e k v n) = max (depth e + 1) (valid_depth v)
   depth (list_view e o s v f) = max (depth e + 1) (max (depth o + 1) (max (depth s + 1) (valid_depth v)))
   depth (structure ns ts v n) = max (trees_depth ts) (valid_depth v)
-  depth (view_array vs bs u v) = valid_depth v
+  depth (view_array vs bs k v) = valid_depth v
 
   pub trees_depth : Trees → ℕ
   trees_depth no_trees = 0

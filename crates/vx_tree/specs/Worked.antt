@@ -1,7 +1,7 @@
 -- Small arrays of each layout, with the rows that they have, worked by hand.
 use Rattle.std.specs.Prelude.{ℕ, pos, negsuc, Bool, true, false, List, [], ◌∷◌, codes, Option, Some, None}
 use Rattle.vx_base.specs.Rows.{Row, null, boolean, whole, text, bytes, items, record_of, no_rows, row, no_fields, field}
-use Rattle.vx_base.specs.Kinds.{lists, integers}
+use Rattle.vx_base.specs.Kinds.{lists, integers, texts, binaries}
 use Rattle.vx_base.specs.declared.ptypes.PType.TheVariants.{U8, U32, I8, I16}
 use Rattle.vx_tree.specs.Tree.{Tree, bools, primitive, constant, dictionary, fixed_list, list_view, structure, view_array, no_trees, tree, Valid, non_nullable, all_invalid, by_array}
 
@@ -133,13 +133,13 @@ abbrev pub null_view : List ℕ
 null_view = 0 ∷ 0 ∷ 0 ∷ 0 ∷ 0 ∷ 0 ∷ 0 ∷ 0 ∷ 0 ∷ 0 ∷ 0 ∷ 0 ∷ 0 ∷ 0 ∷ 0 ∷ 0 ∷ []
 
 abbrev pub some_texts : Tree
-some_texts = view_array (view_of_abc ∷ view_of_thirteen ∷ null_view ∷ []) two_buffers true (valid_where (true ∷ true ∷ false ∷ []))
+some_texts = view_array (view_of_abc ∷ view_of_thirteen ∷ null_view ∷ []) two_buffers (texts true) (valid_where (true ∷ true ∷ false ∷ []))
 
 abbrev pub text_rows : List Row
 text_rows = text (codes "abc") ∷ text (codes "a longer text") ∷ null ∷ []
 
 abbrev pub some_bytes : Tree
-some_bytes = view_array (view_of_abc ∷ []) [] false non_nullable
+some_bytes = view_array (view_of_abc ∷ []) [] (binaries false) non_nullable
 
 abbrev pub bytes_rows : List Row
 bytes_rows = bytes (codes "abc") ∷ []

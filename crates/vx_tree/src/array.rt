@@ -3,7 +3,6 @@
 ghost use Rattle.std.specs.Prelude.{◌≡◌, ◌==◌, IfOk, IsOkUnless};
 ghost use Rattle.vx_base.specs.DTypes.{dtype_meaning};
 ghost use Rattle.vx_base.specs.declared.errors.VortexError.TheVariants.{Memory};
-ghost use Rattle.vx_views.specs.Views.{AreBytes};
 ghost use Rattle.vx_tree.specs.Meaning.{tree_len, kind_of};
 ghost use Rattle.vx_tree.specs.Formed.{WellFormed};
 ghost use Rattle.vx_tree.specs.Fitting.{AllFormed};
@@ -172,7 +171,7 @@ impl Layout {
                 validity,
                 ..
             } => {
-                are_bytes(bytes.as_slice());
+                let _bytes = bytes.as_slice();
                 validity.known();
             }
             Layout::Constant { .. } => {}
@@ -226,11 +225,4 @@ impl Layout {
             }
         }
     }
-}
-
-// The elements of a slice of bytes are bytes. It does nothing.
-fn are_bytes(bytes: &[u8])
-    ensures { AreBytes bytes.now }
-{
-    let _ = bytes.len();
 }

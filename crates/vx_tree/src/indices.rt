@@ -6,7 +6,8 @@ ghost use Rattle.vx_base.specs.Integers.{numbers};
 ghost use Rattle.vx_base.specs.Rows.{whole};
 ghost use Rattle.vx_base.specs.Kinds.{is_integers};
 ghost use Rattle.vx_tree.specs.Tree.{primitive, non_nullable};
-ghost use Rattle.vx_tree.specs.Meaning.{tree_len, kind_of, row_at, number_nth};
+ghost use Rattle.vx_tree.specs.Meaning.{tree_len, kind_of, row_at};
+ghost use Rattle.vx_base.specs.Selections.{number_of_position};
 ghost use Rattle.vx_tree.specs.Faults.{indices_fault, index_fault};
 ghost use Rattle.vx_tree.specs.Operations.{IsPosition, ArePositions, masked_numbers};
 
@@ -184,8 +185,8 @@ fn masked_position(
 #[inline]
 fn number_position(bytes: &[u8], ptype: PType, row: usize, len: usize) -> Result<usize, VortexError>
     requires { row < length (numbers ptype bytes.now) }
-    ensures ok { IfOk result (IsPosition len (whole (number_nth (numbers ptype bytes.now) row))) }
-    ensures tests { Tests result (index_fault len row (whole (number_nth (numbers ptype bytes.now) row))) }
+    ensures ok { IfOk result (IsPosition len (whole (number_of_position (numbers ptype bytes.now) row))) }
+    ensures tests { Tests result (index_fault len row (whole (number_of_position (numbers ptype bytes.now) row))) }
 {
     position_of(int_at(bytes, ptype, row), row, len)
 }

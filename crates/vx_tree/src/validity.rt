@@ -1,15 +1,15 @@
 // Which rows are valid.
 
-ghost use Rattle.std.specs.Prelude.{◌≡◌, ◌<◌, ◌≤◌, ◌-◌, ℕ, IfOk, None, map, false, replicate};
+ghost use Rattle.std.specs.Prelude.{◌≡◌, ◌<◌, ◌≤◌, ◌-◌, ℕ, IfOk, OnOk, None, map, false, replicate};
 ghost use Rattle.std.specs.List.{range_with_len};
 ghost use Rattle.vx_base.specs.DTypes.{is_nullable};
-ghost use Rattle.vx_base.specs.Refusals.{Gives, Refuses};
+ghost use Rattle.vx_base.specs.Refusals.{Gives, Refuses, Tests};
 ghost use Rattle.vx_tree.specs.Tree.{bools, by_array, non_nullable};
 ghost use Rattle.vx_tree.specs.Meaning.{tree_len, kind_of, row_at, is_valid_at, nullable, valid_mask};
 ghost use Rattle.vx_tree.specs.Formed.{IsLenOf, ValidFits, ValidReads, ValidCovers};
 ghost use Rattle.vx_tree.specs.Fitting.{ValidityFormed};
 ghost use Rattle.vx_tree.specs.Parts.{valid_of};
-ghost use Rattle.vx_tree.specs.Faults.{valid_type_fault, valid_len};
+ghost use Rattle.vx_tree.specs.Faults.{valid_type_fault, valid_len, validity_fault};
 ghost use Rattle.vx_tree.specs.Operations.{IsValidSlice, IsValidSelected, IsValidNulled, IsValidNulls, ValidHasAll};
 
 use crate::array::{ArrayRef, Validity};
@@ -48,6 +48,29 @@ impl Validity {
             Validity::AllInvalid => Ok(Validity::AllInvalid),
             Validity::Array(array) => Ok(Validity::Array(array.try_clone(alloc)?)),
         }
+    }
+
+    /// Refuses `MismatchedTypes` where there is an array that is not one of plain booleans, then
+    /// `LengthMismatch` where it has not `len` rows.
+    #[tactic(auto, using(crate::proofs::Masks::plain_booleans))]
+    pub fn check(&self, len: usize) -> Result<(), VortexError>
+        ensures fits { OnOk result (ValidFits (valid_of self.now) len) }
+        ensures tests { Tests result (validity_fault (valid_of self.now) len) }
+    {
+        let Validity::Array(array) = self else {
+            return Ok(());
+        };
+        if !array.dtype().is_plain_bool() {
+            return Err(VortexError::MismatchedTypes);
+        }
+        let found = array.len();
+        if found != len {
+            return Err(VortexError::LengthMismatch {
+                expected: len,
+                found,
+            });
+        }
+        Ok(())
     }
 
     /// One boolean for each of `len` rows: whether the row is valid. Asks that an array has `len`

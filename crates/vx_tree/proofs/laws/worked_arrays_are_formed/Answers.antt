@@ -2,7 +2,7 @@ use Rattle.std.proofs.Common.{ℕ, zero, suc, ◌<◌, ◌≡◌, Bool, true, fa
 use Rattle.std.specs.Prelude.{◌&&◌, nat_lt}
 use Rattle.std.proofs.lemmas.Bool.Decides.{nat_tests}
 use Rattle.vx_base.specs.Integers.{numbers}
-use Rattle.vx_views.specs.Views.{AreBytes}
+use Rattle.vx_base.specs.Bytes.{AreBytes}
 use Rattle.vx_tree.proofs.Worked.{overlapping_formed, are_codes}
 use Rattle.vx_tree.proofs.laws.worked_arrays_are_formed.Goals as goal
 

@@ -19,23 +19,23 @@ read t l p bs v mask n parts is len made = under_mask t p bs (valid_of v) mask (
 pub masked_positions-requires : goal.masked_positions-requires
 masked_positions-requires c =
     let long = mask_long (valid_of c.in-Primitive.validity) c.in_ok-mask-in-Primitive.mask c.len.result c.in_ok-mask-in-Primitive.ensures.mask in
-    rw c.as_slice.ensures (long ∙ rw (← c.layout.ensures.parts, c.in-Primitive.is) at c.len.ensures)
+    rw c.as_slice.ensures.value (long ∙ rw (← c.layout.ensures.parts, c.in-Primitive.is) at c.len.ensures)
 
 pub returns-in_err-masked_positions-in-Primitive-clause-refuses :
     goal.returns-in_err-masked_positions-in-Primitive-clause-refuses
 returns-in_err-masked_positions-in-Primitive-clause-refuses c =
     let same = read c.args.self.now c.layout.result.now c.in-Primitive.ptype c.in-Primitive.bytes c.in-Primitive.validity c.in_ok-mask-in-Primitive.mask c.len.result c.layout.ensures.parts c.in-Primitive.is c.len.ensures c.in_ok-mask-in-Primitive.ensures.mask in
     let p = err_from_is_err_and c.from_residual-in_err-masked_positions-in-Primitive.result c.from_residual-in_err-masked_positions-in-Primitive.ensures.1 in
-    rw (p.1, p.2, indices_fault-same c.args.len c.args.self.now (masked_numbers c.in-Primitive.ptype c.in-Primitive.bytes c.in_ok-mask-in-Primitive.mask) same) (rw c.as_slice.ensures at c.in_err-masked_positions-in-Primitive.ensures.refuses)
+    rw (p.1, p.2, indices_fault-same c.args.len c.args.self.now (masked_numbers c.in-Primitive.ptype c.in-Primitive.bytes c.in_ok-mask-in-Primitive.mask) same) (rw c.as_slice.ensures.value at c.in_err-masked_positions-in-Primitive.ensures.refuses)
 
 pub returns-in_ok-masked_positions-in-Primitive-clause-ok :
     goal.returns-in_ok-masked_positions-in-Primitive-clause-ok
 returns-in_ok-masked_positions-in-Primitive-clause-ok c =
     let same = read c.args.self.now c.layout.result.now c.in-Primitive.ptype c.in-Primitive.bytes c.in-Primitive.validity c.in_ok-mask-in-Primitive.mask c.len.result c.layout.ensures.parts c.in-Primitive.is c.len.ensures c.in_ok-mask-in-Primitive.ensures.mask in
-    ArePositions-same c.args.self.now (masked_numbers c.in-Primitive.ptype c.in-Primitive.bytes c.in_ok-mask-in-Primitive.mask) c.args.len _ same (rw c.as_slice.ensures at c.in_ok-masked_positions-in-Primitive.ensures.ok)
+    ArePositions-same c.args.self.now (masked_numbers c.in-Primitive.ptype c.in-Primitive.bytes c.in_ok-mask-in-Primitive.mask) c.args.len _ same (rw c.as_slice.ensures.value at c.in_ok-masked_positions-in-Primitive.ensures.ok)
 
 pub returns-in_ok-masked_positions-in-Primitive-clause-refuses :
     goal.returns-in_ok-masked_positions-in-Primitive-clause-refuses
 returns-in_ok-masked_positions-in-Primitive-clause-refuses c =
     let same = read c.args.self.now c.layout.result.now c.in-Primitive.ptype c.in-Primitive.bytes c.in-Primitive.validity c.in_ok-mask-in-Primitive.mask c.len.result c.layout.ensures.parts c.in-Primitive.is c.len.ensures c.in_ok-mask-in-Primitive.ensures.mask in
-    indices_fault-same c.args.len c.args.self.now (masked_numbers c.in-Primitive.ptype c.in-Primitive.bytes c.in_ok-mask-in-Primitive.mask) same ∙ rw c.as_slice.ensures at c.in_ok-masked_positions-in-Primitive.ensures.refuses
+    indices_fault-same c.args.len c.args.self.now (masked_numbers c.in-Primitive.ptype c.in-Primitive.bytes c.in_ok-mask-in-Primitive.mask) same ∙ rw c.as_slice.ensures.value at c.in_ok-masked_positions-in-Primitive.ensures.refuses
