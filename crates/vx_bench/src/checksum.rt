@@ -5,7 +5,7 @@ use vx_lists::ListViewArray;
 use vx_tree::{ArrayRef, Layout};
 use vx_views::BinaryView;
 
-/// A running sum.
+// A running sum.
 #[derive(Clone, Copy)]
 pub(crate) struct Checksum(u64);
 
@@ -73,7 +73,7 @@ impl Checksum {
         sum
     }
 
-    /// The numbers or truth values of an array; of other layouts its length.
+    // The numbers or truth values of an array; of other layouts its length.
     pub(crate) fn with_array(self, array: &ArrayRef) -> Checksum {
         match array.layout() {
             Layout::Primitive { bytes, .. } => self.with_bytes(bytes.as_slice()),
@@ -82,7 +82,7 @@ impl Checksum {
         }
     }
 
-    /// Offsets, sizes and elements of a list view.
+    // Offsets, sizes and elements of a list view.
     pub(crate) fn with_list_view(self, lists: &ListViewArray) -> Checksum {
         self.with_array(lists.offsets())
             .with_array(lists.sizes())

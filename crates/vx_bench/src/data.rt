@@ -9,12 +9,12 @@ use vx_leaves::{BoolArray, PrimitiveArray};
 use vx_lists::ListViewArray;
 use vx_tree::{ArrayRef, TypedArray, Validity};
 
-/// How much data there is.
+// How much data there is.
 #[derive(Clone, Copy)]
 pub(crate) enum Scale {
-    /// A thousand rows.
+    // A thousand rows.
     Small,
-    /// A million rows.
+    // A million rows.
     Large,
 }
 
@@ -29,7 +29,7 @@ impl Scale {
     }
 }
 
-/// Numbers that look random, the same ones at each start.
+// Numbers that look random, the same ones at each start.
 #[derive(Drop)]
 pub(crate) struct Random {
     state: u64,
@@ -40,7 +40,7 @@ impl Random {
         Random { state: seed }
     }
 
-    /// A number below 2^31.
+    // A number below 2^31.
     pub(crate) fn number(&mut self) -> u32
         ensures { result < 2147483648 }
     {
@@ -51,13 +51,13 @@ impl Random {
         (self.state >> 33) as u32
     }
 
-    /// A number below `limit`, or 0 where that is 0.
+    // A number below `limit`, or 0 where that is 0.
     pub(crate) fn below(&mut self, limit: u32) -> u32 {
         self.number() % limit.max(1)
     }
 }
 
-/// So many numbers below `limit`.
+// So many numbers below `limit`.
 pub(crate) fn random_numbers(
     alloc: Global,
     count: usize,
@@ -72,7 +72,7 @@ pub(crate) fn random_numbers(
     Ok(numbers)
 }
 
-/// So many truth values, of which one in `limit` is false.
+// So many truth values, of which one in `limit` is false.
 pub(crate) fn random_bools(
     alloc: Global,
     count: usize,
@@ -97,7 +97,7 @@ pub(crate) fn random_bits(
     Ok(BitBuffer::from_bools(alloc, &bools)?)
 }
 
-/// The multiples of `step`, from 0 on.
+// The multiples of `step`, from 0 on.
 pub(crate) fn multiples(alloc: Global, count: usize, step: u32) -> Result<Vec<u32>, Fault> {
     let mut numbers = Vec::with_capacity(alloc, count)?;
     let mut number = 0u32;
@@ -117,18 +117,18 @@ pub(crate) fn bool_array(alloc: Global, bits: BitBuffer) -> Result<ArrayRef, Fau
     Ok(BoolArray::try_new(alloc, bits, Validity::NonNullable)?.into_array())
 }
 
-/// The lists of a list view.
+// The lists of a list view.
 #[derive(Clone, Copy)]
 pub(crate) struct ListShape {
-    /// How many elements each list has.
+    // How many elements each list has.
     pub(crate) size: u32,
-    /// Whether the lists lie one after another; else each lies anywhere.
+    // Whether the lists lie one after another; else each lies anywhere.
     pub(crate) in_order: bool,
-    /// Whether one row in ten is null.
+    // Whether one row in ten is null.
     pub(crate) some_null: bool,
 }
 
-/// A list view over four elements a row of the scale.
+// A list view over four elements a row of the scale.
 pub(crate) fn list_view(
     alloc: Global,
     scale: Scale,
@@ -153,7 +153,7 @@ pub(crate) fn list_view(
     Ok(ListViewArray::try_new(alloc, elements, offsets, sizes, validity)?)
 }
 
-/// Values of bytes, one after another.
+// Values of bytes, one after another.
 #[derive(Drop)]
 pub(crate) struct Heap {
     pub(crate) bytes: ByteBuffer,
@@ -180,7 +180,7 @@ fn push_pairs(
     Ok(())
 }
 
-/// So many values of 8 or 24 bytes of text, ASCII or mixed.
+// So many values of 8 or 24 bytes of text, ASCII or mixed.
 pub(crate) fn text_heap(alloc: Global, rows: usize, mixed: bool) -> Result<Heap, Fault> {
     let mut random = Random::new(4);
     let mut bytes = Vec::new(alloc);
@@ -194,7 +194,7 @@ pub(crate) fn text_heap(alloc: Global, rows: usize, mixed: bool) -> Result<Heap,
     Ok(Heap { bytes, lengths })
 }
 
-/// Where each value begins, and the end of the last.
+// Where each value begins, and the end of the last.
 pub(crate) fn offsets_of(alloc: Global, lengths: &[u32]) -> Result<Vec<u32>, Fault> {
     let mut offsets = vec![in alloc; 0u32; 1]?;
     let mut end = 0u32;

@@ -5,32 +5,32 @@ use crate::fault::Fault;
 use std::alloc::Global;
 use std::time::Instant;
 
-/// An operation over data that is ready.
+// An operation over data that is ready.
 pub(crate) trait Operation {
     type Made: Drop;
 
-    /// Readies what a run uses up; it is not timed.
+    // Readies what a run uses up; it is not timed.
     fn prepare(&mut self, _alloc: Global) -> Result<(), Fault> {
         Ok(())
     }
 
-    /// The operation: this alone is timed.
+    // The operation: this alone is timed.
     fn run(&mut self, alloc: Global) -> Result<Self::Made, Fault>;
 
-    /// A sum over what was made.
+    // A sum over what was made.
     fn checksum(&self, made: Self::Made) -> Result<u64, Fault>;
 }
 
-/// What is printed.
+// What is printed.
 #[derive(Drop)]
 pub(crate) enum Report {
-    /// The checksum of one run.
+    // The checksum of one run.
     Checksum,
-    /// Nanoseconds and checksum of each of some runs.
+    // Nanoseconds and checksum of each of some runs.
     Times { runs: usize },
 }
 
-/// How operations are measured.
+// How operations are measured.
 #[derive(Drop)]
 pub(crate) struct Bench {
     pub(crate) scale: Scale,
@@ -60,7 +60,7 @@ fn run_timed<O: Operation>(rt: &HostRuntime, operation: &mut O, runs: usize) -> 
 }
 
 impl Bench {
-    /// Measures an operation whose data is ready.
+    // Measures an operation whose data is ready.
     pub(crate) fn measure<O: Operation + Drop>(
         &self,
         rt: &HostRuntime,

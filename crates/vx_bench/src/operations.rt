@@ -8,7 +8,7 @@ mod views;
 use crate::fault::Fault;
 use crate::operation::Bench;
 
-/// The names of the operations.
+// The names of the operations.
 pub(crate) const OPERATIONS: [&str; 28] = [
     "rebuild_in_order",
     "rebuild_at_random",
@@ -40,7 +40,7 @@ pub(crate) const OPERATIONS: [&str; 28] = [
     "write_counts",
 ];
 
-/// Measures the operation of a name.
+// Measures the operation of a name.
 pub(crate) fn measure(rt: &HostRuntime, bench: &Bench, name: &str) -> Result<(), Fault> {
     match name {
         "rebuild_in_order"

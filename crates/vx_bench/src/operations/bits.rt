@@ -141,7 +141,7 @@ impl Operation for ExecuteMask {
     }
 }
 
-/// Measures an operation on bits.
+// Measures an operation on bits.
 pub(crate) fn measure(rt: &HostRuntime, bench: &Bench, name: &str) -> Result<(), Fault> {
     let alloc = rt.alloc();
     let rows = bench.scale.rows();

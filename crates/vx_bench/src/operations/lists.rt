@@ -148,7 +148,7 @@ fn shape_of(name: &str) -> ListShape {
     }
 }
 
-/// Measures a rebuilding.
+// Measures a rebuilding.
 pub(crate) fn measure_rebuild(rt: &HostRuntime, bench: &Bench, name: &str) -> Result<(), Fault> {
     let lists = list_view(rt.alloc(), bench.scale, shape_of(name))?;
     bench.measure(rt, Rebuild { lists })
@@ -171,7 +171,7 @@ fn measure_take(rt: &HostRuntime, bench: &Bench, name: &str) -> Result<(), Fault
     bench.measure(rt, Take { array, indices })
 }
 
-/// Measures another operation on lists.
+// Measures another operation on lists.
 pub(crate) fn measure(rt: &HostRuntime, bench: &Bench, name: &str) -> Result<(), Fault> {
     let alloc = rt.alloc();
     match name {

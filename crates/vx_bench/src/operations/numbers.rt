@@ -139,7 +139,7 @@ impl Operation for WriteCounts {
     }
 }
 
-/// Measures an operation on numbers.
+// Measures an operation on numbers.
 pub(crate) fn measure(rt: &HostRuntime, bench: &Bench, name: &str) -> Result<(), Fault> {
     let alloc = rt.alloc();
     let numbers = random_numbers(alloc, bench.scale.rows(), u32::MAX, 6)?;

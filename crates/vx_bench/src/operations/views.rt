@@ -93,7 +93,7 @@ fn measure_check(rt: &HostRuntime, bench: &Bench, mixed: bool, is_text: bool) ->
     )
 }
 
-/// Measures an operation on views.
+// Measures an operation on views.
 pub(crate) fn measure(rt: &HostRuntime, bench: &Bench, name: &str) -> Result<(), Fault> {
     let alloc = rt.alloc();
     match name {
