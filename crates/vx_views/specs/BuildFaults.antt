@@ -18,6 +18,10 @@ lengths_of numbers = map unsigned_abs numbers
 abbrev pub differences : List ℤ → List ℤ
 differences offsets = map (λ pair. pair.1 -ℤ pair.0) (zip offsets (drop 1 offsets))
 
+-- the lengths of the values between offsets
+abbrev pub lengths_between : List ℤ → List ℕ
+lengths_between offsets = lengths_of (differences offsets)
+
 abbrev pub first_offset : List ℤ → ℕ
 first_offset offsets = unsigned_abs (number_at offsets 0)
 

@@ -4,7 +4,7 @@ ghost use Rattle.std.specs.Prelude.{◌≡◌, ◌≤◌, ◌<◌, ◌+◌, ◌^
 ghost use Rattle.vx_base.specs.Refusals.{Gives, Refuses};
 ghost use Rattle.vx_views.specs.Cut.{IsCut};
 ghost use Rattle.vx_views.specs.Places.{AreBuilt, ReadBack, value_at};
-ghost use Rattle.vx_views.specs.BuildFaults.{number_at, lengths_of, differences, used_part, bytes_between, lengths_fault, offsets_fault, build_fault, build_from_offsets_fault, IsPieceCount, AreRising};
+ghost use Rattle.vx_views.specs.BuildFaults.{number_at, lengths_of, lengths_between, differences, used_part, bytes_between, lengths_fault, offsets_fault, build_fault, build_from_offsets_fault, IsPieceCount, AreRising};
 
 use crate::length_checks::{check_lengths, check_offsets, used_range};
 use crate::lengths::{Lengths, OffsetLengths, RowLengths, difference};
@@ -30,7 +30,8 @@ fn cut_heap<L: Lengths>(
         lengths_fault limit (length heap.now) (L.numbers lengths.now) ≡ None)) }
     ensures stopped { IfOk result (λ r. IfNone r (
         lengths_fault limit (length heap.now) (L.numbers lengths.now) ≡ None →
-        (ends : List ℕ) → IsCut limit (lengths_of (L.numbers lengths.now)) ends → 2 ^ 32 < start + length ends)) }
+        (ends : List ℕ) → IsCut limit (lengths_of (L.numbers lengths.now)) ends
+        → 2 ^ 32 < start + length ends)) }
 {
     let bytes = heap.as_slice();
     let mut buffers = Vec::new(alloc);
@@ -70,8 +71,8 @@ fn cut_heap<L: Lengths>(
 /// most `limit` bytes, and makes the view of each value.
 ///
 /// The buffers are shared with `bytes`, are as few as any cut at the values' ends could give, and
-/// none is empty. They are numbered from `start` on: the views read their values where `start` other
-/// buffers come first. Bytes of values that stand in their views stay in the buffers.
+/// none is empty. They are numbered from `start` on: the views read their values where `start`
+/// other buffers come first. Bytes of values that stand in their views stay in the buffers.
 ///
 /// Refuses, in this order: `LimitTooLarge` where `limit` passes `MAX_BUFFER_LEN`; `Negative` at the
 /// first negative length; `LengthsNotExact` where the lengths do not sum to the heap's length;
@@ -89,7 +90,8 @@ pub fn build_views<P: NativePType>(
     ensures read_back { IfOk result (λ made.
         ReadBack start (value_at bytes (lengths_of (map P.value lens.now))) made.0.items made.1) }
     ensures fewest { IfOk result (λ made. (others : List ℕ) →
-        IsCut limit (lengths_of (map P.value lens.now)) others → length made.0.items ≤ length others) }
+        IsCut limit (lengths_of (map P.value lens.now)) others
+        → length made.0.items ≤ length others) }
     ensures refuses { (pieces : ℕ) × (IsPieceCount limit (lengths_of (map P.value lens.now)) pieces
         × Refuses result (build_fault start limit (length bytes) (map P.value lens.now) pieces)) }
 {
@@ -117,14 +119,17 @@ fn cut_at_offsets<P: NativePType>(
 ) -> Result<Option<(Vec<ByteBuffer>, Vec<BinaryView>)>, VortexError>
     requires { limit ≤ MAX_BUFFER_LEN }
     ensures built { Gives result (λ r. IfSome r (λ made.
-        AreBuilt start limit (used_part bytes.now (map P.value offsets.now)) (lengths_of (differences (map P.value offsets.now))) made.0.items made.1.items)) }
+        AreBuilt start limit (used_part bytes.now (map P.value offsets.now))
+        (lengths_between (map P.value offsets.now)) made.0.items made.1.items)) }
     ensures read_back { IfOk result (λ r. IfSome r (λ made.
-        ReadBack start (value_at (used_part bytes.now (map P.value offsets.now)) (lengths_of (differences (map P.value offsets.now)))) made.0.items made.1.items)) }
+        ReadBack start (value_at (used_part bytes.now (map P.value offsets.now))
+        (lengths_between (map P.value offsets.now))) made.0.items made.1.items)) }
     ensures faultless { IfOk result (λ r. IfSome r (λ made.
         offsets_fault limit (length bytes.now) (map P.value offsets.now) ≡ None)) }
     ensures stopped { IfOk result (λ r. IfNone r (
         offsets_fault limit (length bytes.now) (map P.value offsets.now) ≡ None →
-        (ends : List ℕ) → IsCut limit (lengths_of (differences (map P.value offsets.now))) ends → 2 ^ 32 < start + length ends)) }
+        (ends : List ℕ) → IsCut limit (lengths_between (map P.value offsets.now)) ends
+        → 2 ^ 32 < start + length ends)) }
 {
     match used_range(bytes.len(), offsets) {
         None => Ok(None),
@@ -138,11 +143,11 @@ fn cut_at_offsets<P: NativePType>(
 /// Cuts the part of a heap between the first and the last offset, as `build_views` does: the value
 /// of a row stands between its offset and the next one.
 ///
-/// Refuses, in this order: `LimitTooLarge` where `limit` passes `MAX_BUFFER_LEN`; `EmptyInput` where
-/// there is no offset; `Negative` at the first negative offset; `FallingOffsets` at the first offset
-/// that is less than the one before it; `OutOfBounds` with the last offset, where it lies past the
-/// heap; `ValueTooLong` at the first value longer than `limit`; `Overflow` where the last buffer's
-/// number would pass `u32`.
+/// Refuses, in this order: `LimitTooLarge` where `limit` passes `MAX_BUFFER_LEN`; `EmptyInput`
+/// where there is no offset; `Negative` at the first negative offset; `FallingOffsets` at the first
+/// offset that is less than the one before it; `OutOfBounds` with the last offset, where it lies
+/// past the heap; `ValueTooLong` at the first value longer than `limit`; `Overflow` where the last
+/// buffer's number would pass `u32`.
 pub fn build_views_from_offsets<P: NativePType>(
     alloc: Global,
     start: u32,
@@ -151,17 +156,22 @@ pub fn build_views_from_offsets<P: NativePType>(
     offsets: &[P],
 ) -> Result<(Vec<ByteBuffer>, Buffer<BinaryView>), VortexError>
     ensures built { IfOk result (λ made.
-        AreBuilt start limit (used_part bytes (map P.value offsets.now)) (lengths_of (differences (map P.value offsets.now))) made.0.items made.1) }
+        AreBuilt start limit (used_part bytes (map P.value offsets.now))
+        (lengths_between (map P.value offsets.now)) made.0.items made.1) }
     ensures read_back { IfOk result (λ made.
-        ReadBack start (value_at (used_part bytes (map P.value offsets.now)) (lengths_of (differences (map P.value offsets.now)))) made.0.items made.1) }
+        ReadBack start (value_at (used_part bytes (map P.value offsets.now))
+        (lengths_between (map P.value offsets.now))) made.0.items made.1) }
 
     // The value of a row is the bytes between its offset and the next one.
     ensures values { IfOk result (λ made.
         ReadBack start (bytes_between bytes (map P.value offsets.now)) made.0.items made.1) }
     ensures fewest { IfOk result (λ made. (others : List ℕ) →
-        IsCut limit (lengths_of (differences (map P.value offsets.now))) others → length made.0.items ≤ length others) }
-    ensures refuses { (pieces : ℕ) × (IsPieceCount limit (lengths_of (differences (map P.value offsets.now))) pieces
-        × Refuses result (build_from_offsets_fault start limit (length bytes) (map P.value offsets.now) pieces)) }
+        IsCut limit (lengths_between (map P.value offsets.now)) others
+        → length made.0.items ≤ length others) }
+    ensures refuses { (pieces : ℕ)
+        × (IsPieceCount limit (lengths_between (map P.value offsets.now)) pieces
+        × Refuses result
+        (build_from_offsets_fault start limit (length bytes) (map P.value offsets.now) pieces)) }
 {
     if MAX_BUFFER_LEN < limit {
         return Err(VortexError::LimitTooLarge);
@@ -182,7 +192,8 @@ pub fn offsets_to_lengths<P: NativePType>(
 ) -> Result<Buffer<P>, VortexError>
     requires natural { pos 0 ≤ℤ number_at (map P.value offsets.now) 0 }
     requires rising { AreRising (map P.value offsets.now) }
-    ensures { Gives result (λ lengths. map P.value lengths ≡ differences (map P.value offsets.now)) }
+    ensures { Gives result (λ lengths. map P.value lengths
+        ≡ differences (map P.value offsets.now)) }
 {
     let count = offsets.len().saturating_sub(1);
     let mut lengths = Vec::with_capacity(alloc, count)?;

@@ -105,7 +105,8 @@ pub fn check_offsets<P: NativePType>(
 /// there is no such part.
 pub fn used_range<P: NativePType>(heap_len: usize, offsets: &[P]) -> Option<(usize, usize)>
     ensures some { IfSome result (λ r. IsUsedRange heap_len (map P.value offsets.now) r.0 r.1) }
-    ensures none { IfNone result ((limit : ℕ) → offsets_fault limit heap_len (map P.value offsets.now) ≢ None) }
+    ensures none { IfNone result ((limit : ℕ)
+        → offsets_fault limit heap_len (map P.value offsets.now) ≢ None) }
 {
     if offsets.is_empty() {
         return None;

@@ -48,7 +48,8 @@ fn as_length(number: i128) -> Option<usize>
 /// How far the offset after that of a row is from that of the row.
 pub fn difference<P: NativePType>(offsets: &[P], row: usize) -> i128
     requires { row + 1 < length offsets.now }
-    ensures value { result ≡ number_at (map P.value offsets.now) (row + 1) -ℤ number_at (map P.value offsets.now) row }
+    ensures value { result
+        ≡ number_at (map P.value offsets.now) (row + 1) -ℤ number_at (map P.value offsets.now) row }
     ensures bound { result ≤ℤ pos (2 ^ 64 - 1) }
     ensures holds { pos 0 ≤ℤ number_at (map P.value offsets.now) row →
         number_at (map P.value offsets.now) row ≤ℤ number_at (map P.value offsets.now) (row + 1) →

@@ -4,7 +4,8 @@ ghost use Rattle.std.specs.Prelude.{◌↔◌, IsTrue, IsUtf8};
 ghost use Rattle.std.specs.Str.{is_utf8};
 ghost use Rattle.vx_views.specs.Utf8.{IsJoinedSequences, BoundariesDecideRanges};
 
-/// Bytes are a joining of the table's sequences exactly where they are UTF-8 as `std` means it, and as its test tells.
+/// Bytes are a joining of the table's sequences exactly where they are UTF-8 as `std` means it, and
+/// as its test tells.
 pub fn table_decides_utf8(bytes: &[u8])
     ensures utf8 { IsJoinedSequences bytes.now ↔ IsUtf8 bytes.now }
     ensures test { IsJoinedSequences bytes.now ↔ IsTrue (is_utf8 bytes.now) }

@@ -17,9 +17,9 @@ pub const MAX_BUFFER_LEN: usize = 2147483647;
 
 /// A view of a value of bytes, in 16 bytes; its numbers have their lowest byte first.
 ///
-/// Bytes 0..4 are the value's length. A value of at most 12 bytes stands in the bytes from 4 on, and zeroes after it.
-/// Of a longer one the first four bytes stand at 4..8, the number of its buffer at 8..12, and where it begins in
-/// that buffer at 12..16.
+/// Bytes 0..4 are the value's length. A value of at most `MAX_INLINED_SIZE` bytes stands in the
+/// bytes from 4 on, and zeroes after it. Of a longer one the first four bytes stand at 4..8, the
+/// number of its buffer at 8..12, and where it begins in that buffer at 12..16.
 #[derive(Clone, Copy)]
 pub struct BinaryView {
     bytes: [u8; 16],
@@ -44,9 +44,9 @@ impl BinaryView {
 
     /// The view of a value that stands in the buffer numbered `block`, from `offset` on.
     ///
-    /// A value of at most 12 bytes is put into the view itself, and `block` and `offset` are left out: the view of
-    /// `inline` is `06000000 696e6c69 6e650000 00000000`. Thirteen times `c`, at the start of buffer 1, have the view
-    /// `0d000000 63636363 01000000 00000000`.
+    /// A value of at most 12 bytes is put into the view itself, and `block` and `offset` are left
+    /// out: the view of `inline` is `06000000 696e6c69 6e650000 00000000`. Thirteen times `c`, at
+    /// the start of buffer 1, have the view `0d000000 63636363 01000000 00000000`.
     pub fn make_view(value: &[u8], block: u32, offset: u32) -> BinaryView
         requires { length value.now < 2 ^ 32 }
         ensures { result ≡ view_of value.now block offset }
@@ -66,8 +66,8 @@ impl BinaryView {
         BinaryView { bytes: [0; 16] }
     }
 
-    /// The view that refers to a value of `size` bytes which begins with `prefix` and stands in the buffer numbered
-    /// `buffer_index`, from `offset` on.
+    /// The view that refers to a value of `size` bytes which begins with `prefix` and stands in the
+    /// buffer numbered `buffer_index`, from `offset` on.
     pub fn new_ref(size: u32, prefix: [u8; 4], buffer_index: u32, offset: u32) -> BinaryView
         requires { MAX_INLINED_SIZE < size }
         ensures { result ≡ ref_view size prefix buffer_index offset }
@@ -133,7 +133,12 @@ impl BinaryView {
     #[tactic(auto, unfolding(crate::specs::Views::number_le))]
     pub fn as_view(&self) -> Ref
         requires { MAX_INLINED_SIZE < view_size self.now }
-        ensures { result ≡ record { size = view_size self.now; prefix = view_prefix self.now; buffer_index = view_block self.now; offset = view_offset self.now } }
+        ensures { result ≡ record {
+          size = view_size self.now;
+          prefix = view_prefix self.now;
+          buffer_index = view_block self.now;
+          offset = view_offset self.now;
+        } }
     {
         Ref {
             size: self.len(),
@@ -152,8 +157,8 @@ impl BinaryView {
         *self = BinaryView::from(parts);
     }
 
-    /// The value, in the view itself or in the buffers. The buffer to which the view refers has to be there, and long
-    /// enough.
+    /// The value, in the view itself or in the buffers. The buffer to which the view refers has to
+    /// be there, and long enough.
     pub fn bytes<'a>(&'a self, buffers: &[&'a [u8]]) -> &'a [u8]
         requires { Resolves (map (λ b. b.now) buffers.now) self.now }
         ensures { result.now ≡ view_value (map (λ b. b.now) buffers.now) self.now }
@@ -188,7 +193,8 @@ impl BinaryView {
         u32::from_be_bytes(self.prefix())
     }
 
-    /// The bytes 4..12 of the value that the view holds, as a number whose order is that of the bytes.
+    /// The bytes 4..12 of the value that the view holds, as a number whose order is that of the
+    /// bytes.
     #[tactic(auto, unfolding(crate::specs::Views::view_order_tail))]
     pub fn order_tail(&self) -> u64
         requires { view_size self.now ≤ MAX_INLINED_SIZE }
@@ -204,8 +210,8 @@ impl BinaryView {
         padded(value)
     }
 
-    /// The head that a view of the value has; a length above a `u32` counts as `u32::MAX`. That of `ab` is
-    /// `0x0000_6261_0000_0002`.
+    /// The head that a view of the value has; a length above a `u32` counts as `u32::MAX`. That of
+    /// `ab` is `0x0000_6261_0000_0002`.
     #[tactic(auto, unfolding(crate::specs::Views::head_of))]
     pub fn head_of(value: &[u8]) -> u64
         ensures { result ≡ head_of value.now }
@@ -225,7 +231,8 @@ impl BinaryView {
         u32::from_be_bytes(BinaryView::prefix_of(value))
     }
 
-    /// The order tail that a view which holds the value has. That of `abcdef` is `0x6566_0000_0000_0000`.
+    /// The order tail that a view which holds the value has. That of `abcdef` is
+    /// `0x6566_0000_0000_0000`.
     #[tactic(auto, unfolding(crate::specs::Views::order_tail_of))]
     pub fn order_tail_of(value: &[u8]) -> u64
         ensures { result ≡ order_tail_of value.now }
@@ -291,7 +298,8 @@ impl From<u128> for BinaryView {
 }
 
 impl From<Ref> for BinaryView {
-    ghost from_gives = { λ parts view. view ≡ ref_view parts.size parts.prefix parts.buffer_index parts.offset };
+    ghost from_gives = { λ parts view. view
+        ≡ ref_view parts.size parts.prefix parts.buffer_index parts.offset };
 
     #[tactic(auto, unfolding(crate::specs::Views::ref_view))]
     fn from(parts: Ref) -> BinaryView {

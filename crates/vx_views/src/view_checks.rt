@@ -17,14 +17,14 @@ const INLINED_HIGH_BITS: u128 = 0x8080_8080_8080_8080_8080_8080_0000_0000;
 
 /// Whether each view of a valid row may stand there: the first faulty row refuses, with its number.
 ///
-/// A view that refers to its value refuses with `BadBuffer` where there is no buffer of its number, `BadStart` where
-/// its offset is not below that buffer's length, `BadEnd` where the value ends past the buffer, `BadPrefix` where the
-/// value begins otherwise than the view says, and, where text is checked, `NotUtf8`. A view that holds its value
-/// refuses with `NotUtf8` alone. Each value is judged alone: bytes that no valid view refers to never refuse, and
-/// neither does a null row.
+/// A view that refers to its value refuses with `BadBuffer` where there is no buffer of its number,
+/// `BadStart` where its offset is not below that buffer's length, `BadEnd` where the value ends
+/// past the buffer, `BadPrefix` where the value begins otherwise than the view says, and, where
+/// text is checked, `NotUtf8`. A view that holds its value refuses with `NotUtf8` alone. Each value
+/// is judged alone: bytes that no valid view refers to never refuse, and neither does a null row.
 ///
-/// The `budget` is the number of bytes of whole buffers that may be read ahead; it changes no answer, and today
-/// nothing is read ahead. No memory is taken.
+/// The `budget` is the number of bytes of whole buffers that may be read ahead; it changes no
+/// answer, and today nothing is read ahead. No memory is taken.
 pub fn check_views(
     _alloc: Global,
     views: &[BinaryView],
@@ -48,8 +48,8 @@ pub fn check_views(
     Ok(())
 }
 
-/// Views are without a fault exactly where each valid one can be read, begins as it says, and is text where text is
-/// asked.
+/// Views are without a fault exactly where each valid one can be read, begins as it says, and is
+/// text where text is asked.
 pub fn faultless_views_are_sound(
     views: &[BinaryView],
     mask: &Mask,
@@ -112,7 +112,8 @@ fn is_text(value: &[u8]) -> bool
     value.is_ascii() || simdutf8::is_utf8(value)
 }
 
-// Whether the value that stands in a view is text: bytes below 128 are told first, by their high bits.
+// Whether the value that stands in a view is text: bytes below 128 are told first, by their high
+// bits.
 fn is_inlined_text(view: &BinaryView) -> bool
     requires { view_size view.now ≤ MAX_INLINED_SIZE }
     ensures { IsTrue result ↔ IsUtf8 (held_value view.now) }
