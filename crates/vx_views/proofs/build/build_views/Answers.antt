@@ -23,7 +23,7 @@ returns-in_err-from_vec-in-Some-clause-refuses g c =
     let fault = lengths_fault c.args.limit (length c.args.bytes) (map g.P.Number.value c.args.lens.now) in
     let lens = lengths_of (map g.P.Number.value c.args.lens.now) in
     answer-memory c.args.start c.args.limit fault lens c.from_residual-in_err-from_vec-in-Some.result c.from_residual-in_err-from_vec-in-Some.ensures.1
-    (λ e same. same ∙ c.in_err-from_vec-in-Some.ensures.err)
+    (λ e same. same ∙ c.in_err-from_vec-in-Some.ensures)
 
 pub returns-in-Some-clause-fewest : goal.returns-in-Some-clause-fewest
 returns-in-Some-clause-fewest g c =

@@ -24,7 +24,7 @@ returns-in_err-from_vec-in-Some-clause-refuses g c =
     let fault = offsets_fault c.args.limit (length c.args.bytes) (map g.P.Number.value c.args.offsets.now) in
     let lens = lengths_of (differences (map g.P.Number.value c.args.offsets.now)) in
     answer-memory c.args.start c.args.limit fault lens c.from_residual-in_err-from_vec-in-Some.result c.from_residual-in_err-from_vec-in-Some.ensures.1
-    (λ e same. same ∙ c.in_err-from_vec-in-Some.ensures.err)
+    (λ e same. same ∙ c.in_err-from_vec-in-Some.ensures)
 
 pub returns-in-Some-clause-fewest : goal.returns-in-Some-clause-fewest
 returns-in-Some-clause-fewest g c =
@@ -47,7 +47,7 @@ returns-in-Some-clause-values g c =
     let built : AreBuilt c.args.start c.args.limit (used_part c.args.bytes offsets) (lengths_of (differences offsets)) c.in-Some.buffers.items c.in-Some.views.items = search rules in
     let back : ReadBack c.args.start (value_at (used_part c.args.bytes offsets) (lengths_of (differences offsets))) c.in-Some.buffers.items c.in-Some.views.items = search rules in
     let between = ReadBack-between c.args.start c.args.limit c.args.bytes offsets c.in-Some.buffers.items c.in-Some.views.items none built back in
-    subst (ReadBack c.args.start (bytes_between c.args.bytes offsets) c.in-Some.buffers.items) (sym c.in_ok-from_vec-in-Some.ensures.ok) between
+    subst (ReadBack c.args.start (bytes_between c.args.bytes offsets) c.in-Some.buffers.items) (sym c.in_ok-from_vec-in-Some.ensures) between
 
 pub returns-in_err-check_offsets-in-None-clause-refuses : goal.returns-in_err-check_offsets-in-None-clause-refuses
 returns-in_err-check_offsets-in-None-clause-refuses g c =

@@ -2,8 +2,9 @@ use Rattle.std.proofs.Common.{◌≡◌, ◌<◌, ◌+◌, FitsSigned, IfSome, l
 use Rattle.std.specs.Int.{w128}
 use Rattle.std.proofs.lemmas.List.{length-map, take_all}
 use Rattle.vx_base.specs.Integers.{Holds}
+use Rattle.vx_base.proofs.Refused.{Gives-weaker}
 use Rattle.vx_views.specs.BuildFaults.{number_at, differences}
-use Rattle.vx_views.proofs.Differences.{length_differences, number_at_differences, IfSome-at, made_more, made_all}
+use Rattle.vx_views.proofs.Differences.{length_differences, number_at_differences, IfSome-at, made_more}
 use Rattle.vx_views.proofs.NativeRanges.{wide-cast}
 use Rattle.vx_views.proofs.OffsetFacts.{rising-natural}
 use Rattle.vx_views.proofs.build.offsets_to_lengths.Goals as goal
@@ -33,4 +34,4 @@ returns g c =
     let offsets = map g.P.Number.value c.args.offsets.now in
     let long : length offsets ≡ length c.args.offsets.now = length-map c.args.offsets.now g.P.Number.value in
     let all : take c.loop-row.row (differences offsets) ≡ differences offsets = take_all c.loop-row.row (differences offsets) (omega (arith, length_differences offsets)) in
-    made_all (λ b. b ≡ c.loop-row.lengths.items) (λ b. map g.P.Number.value b ≡ differences offsets) c.from_vec.result c.from_vec.ensures.ok c.from_vec.ensures.err (λ b e. ap (map g.P.Number.value) e ∙ c.loop-row.invariant ∙ all)
+    Gives-weaker c.from_vec.result (λ b. b ≡ c.loop-row.lengths.items) (λ b. map g.P.Number.value b ≡ differences offsets) (λ b e. ap (map g.P.Number.value) e ∙ c.loop-row.invariant ∙ all) c.from_vec.ensures
