@@ -1,13 +1,13 @@
 -- Every row of an array fits the array's kind.
-use Rattle.std.proofs.Common.{ℕ, zero, suc, ◌+◌, ◌*◌, ◌^◌, ◌<◌, ◌≤◌, ◌≡◌, Bool, true, false, List, [], ◌∷◌, length, take, drop, refl, sym, ◌∙◌, subst, arith}
-use Rattle.std.specs.Prelude.{pos, IsTrue, if◌then◌else◌, ◌||◌, slice_range, slice_index_or, IsUtf8}
+use Rattle.std.proofs.Common.{ℕ, zero, suc, ◌+◌, ◌*◌, ◌<◌, ◌≤◌, ◌≡◌, Bool, true, false, List, [], ◌∷◌, length, take, drop, refl, sym, ◌∙◌, subst, arith}
+use Rattle.std.specs.Prelude.{pos, IsTrue, if◌then◌else◌, ◌||◌, slice_index_or, IsUtf8}
 use Rattle.std.proofs.Math.Nat.{mul-le-mul_right}
 use Rattle.std.proofs.lemmas.List.{get_or-drop}
 use Rattle.vx_base.specs.declared.ptypes.PType.{PType}
 use Rattle.vx_base.specs.Integers.{byte_width, numbers, Holds}
 use Rattle.vx_base.specs.Rows.{Row, null, boolean, whole, bytes, text, items, record_of, position_in, count_in}
 use Rattle.vx_base.specs.Kinds.{Kind, booleans, integers, texts, binaries, lists, fixed_lists, records, is_nullable_kind, or_nullable, Fits, AllFit, FieldsFit, IsShort, row_count}
-use Rattle.vx_base.proofs.NumberBytes.{holds-number_of, below_4}
+use Rattle.vx_base.proofs.NumberBytes.{holds-number_of}
 use Rattle.vx_base.proofs.NumberLists.{get_numbers, length_numbers}
 use Rattle.vx_base.specs.Bytes.{AreBytes}
 use Rattle.vx_views.specs.Views.{IsView, view_value, buffer_at}

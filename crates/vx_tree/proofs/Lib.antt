@@ -1,4 +1,3 @@
-pub mod Given
 pub mod Masks
 pub mod Positions
 pub mod Sliced

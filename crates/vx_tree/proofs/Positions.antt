@@ -1,25 +1,24 @@
 -- Indices that are read one after another.
-use Rattle.std.proofs.Common.{ℕ, zero, suc, ◌+◌, ◌<◌, ◌≡◌, Bool, true, false, List, [], length, get_or, set, subst, Option, Some, None, refl, sym, ◌∙◌, ap, add-one, zero-add, inl, inr, to_z, of_z, rules, arith, length-set}
-use Rattle.std.specs.Prelude.{ℤ, pos, negsuc, IfSome, IsSome, is_some, count_by, slice_index, if◌then◌else◌}
+use Rattle.std.proofs.Common.{ℕ, ◌+◌, ◌<◌, ◌≡◌, Bool, true, false, List, length, set, subst, Option, None, refl, sym, ◌∙◌, ap, zero-add, to_z, of_z, rules, arith, length-set}
+use Rattle.std.specs.Prelude.{ℤ, IsSome, count_by, slice_index, if◌then◌else◌}
 use Rattle.std.specs.Int.{w128}
 use Rattle.std.proofs.lemmas.Int.{ints, to_z-of_z}
-use Rattle.std.specs.List.{range_with_len}
 use Rattle.std.proofs.lemmas.List.FromFn.{get_or-map-range_with_len, length-map-range_with_len}
 use Rattle.std.proofs.lemmas.List.{get_or-replicate, get_or-set_same, get_or-set_other}
-use Rattle.std.proofs.lemmas.Bool.{cases_eq}
 use borrow.Author.Count.{below_more}
 use Rattle.vx_base.specs.declared.ptypes.PType.{PType}
 use Rattle.vx_base.specs.declared.ptypes.PType.TheVariants.{U8, U16, U32, U64, I8, I16, I32, I64}
 use Rattle.vx_base.specs.Integers.{Holds, numbers}
 use Rattle.vx_base.specs.Bits.{bool_at}
 use Rattle.vx_base.specs.Refusals.{Refusal, first_fault}
-use Rattle.vx_base.specs.Rows.{Row, null, boolean, whole, bytes, text, items, record_of, number_in, position_in, is_present}
+use Rattle.vx_base.specs.Rows.{null, whole}
 use Rattle.vx_base.proofs.MaskCounts.{all_true_from_count}
+use Rattle.vx_base.proofs.FirstFaults.{first_fault-next, first_fault-found, first_fault-same}
 use Rattle.vx_tree.specs.Tree.{Tree, primitive, Valid, non_nullable}
 use Rattle.vx_tree.specs.Meaning.{tree_len, row_at, is_valid_at, valid_mask}
 use Rattle.vx_base.specs.Selections.{number_of_position}
 use Rattle.vx_tree.specs.Faults.{index_fault, indices_fault}
-use Rattle.vx_tree.specs.Operations.{IsPosition, ArePositions, masked_numbers, or_zero}
+use Rattle.vx_tree.specs.Operations.{IsPosition, ArePositions, masked_numbers}
 
 -- ---- one index
 
@@ -34,26 +33,6 @@ number_passed I16 z held = to_z-of_z w128 z (search (rules, ints))
 number_passed I32 z held = to_z-of_z w128 z (search (rules, ints))
 number_passed I64 z held = to_z-of_z w128 z (search (rules, ints))
 
--- a row that has a number is that number
-pub row_of_number : (r : Row) (z : ℤ) → number_in r ≡ Some z → r ≡ whole z
-row_of_number null z e = absurd (cc)
-row_of_number (boolean b) z e = absurd (cc)
-row_of_number (whole y) z e = cc
-row_of_number (bytes bs) z e = absurd (cc)
-row_of_number (text bs) z e = absurd (cc)
-row_of_number (items rs) z e = absurd (cc)
-row_of_number (record_of fs) z e = absurd (cc)
-
--- a row that is null is no position
-pub row_of_none : (r : Row) → is_present r ≡ false → r ≡ null
-row_of_none null e = refl
-row_of_none (boolean b) e = absurd (cc)
-row_of_none (whole z) e = absurd (cc)
-row_of_none (bytes bs) e = absurd (cc)
-row_of_none (text bs) e = absurd (cc)
-row_of_none (items rs) e = absurd (cc)
-row_of_none (record_of fs) e = absurd (cc)
-
 -- ---- all of them
 
 -- the first n indices are read, and none of them is faulty
@@ -62,25 +41,13 @@ pub record AreRead (t : Tree) (len n : ℕ) (ps : List ℕ) : Type 0 where
   pub each : (i : ℕ) → i < n → IsPosition len (row_at t i) (slice_index ps i)
   pub faultless : first_fault (λ i. index_fault len i (row_at t i)) n ≡ None
 
-pub first_fault-none : (f : ℕ → Option Refusal) (n : ℕ) → first_fault f n ≡ None → f n ≡ None → first_fault f (n + 1) ≡ None
-first_fault-none f n h e = rw (add-one, h, e) refl
-
--- a fault after rows that have none is the first, of however many rows
-pub first_fault-at : (f : ℕ → Option Refusal) (n k : ℕ) (r : Option Refusal) → first_fault f n ≡ None → f n ≡ r → is_some r ≡ true → n < k → first_fault f k ≡ r
-first_fault-at f n zero r h e s l = absurd (omega arith)
-first_fault-at f n (suc k) None h e s l = cc
-first_fault-at f n (suc k) (Some r) h e s l = elim (cases_eq n k) [
-  | inl same ↦ rw (← same, h) e
-  | inr apart ↦ rw (first_fault-at f n k (Some r) h e s (omega arith)) refl
-]
-
 -- one index more is read
 pub AreRead-more : (t : Tree) (len n k : ℕ) (ps : List ℕ) → n < length ps → AreRead t len n ps → IsPosition len (row_at t n) k → index_fault len n (row_at t n) ≡ None → AreRead t len (n + 1) (set ps n k)
 AreRead-more t len n k ps inside h p none =
     record {
       long = length-set ps n k ∙ h.long;
       each = below_more (λ i. IsPosition len (row_at t i) (slice_index (set ps n k) i)) n (λ i l. earlier i l) here;
-      faultless = first_fault-none (λ i. index_fault len i (row_at t i)) n h.faultless none;
+      faultless = first_fault-next (λ i. index_fault len i (row_at t i)) n h.faultless none;
     }
   where
     earlier : (i : ℕ) → i < n → IsPosition len (row_at t i) (slice_index (set ps n k) i)
@@ -91,7 +58,7 @@ AreRead-more t len n k ps inside h p none =
 
 -- an index with a fault after some that are read is the first
 pub AreRead-fault : (t : Tree) (len n : ℕ) (ps : List ℕ) (r : Option Refusal) → AreRead t len n ps → index_fault len n (row_at t n) ≡ r → IsSome r → n < tree_len t → indices_fault len t ≡ r
-AreRead-fault t len n ps r h f s l = first_fault-at (λ i. index_fault len i (row_at t i)) n (tree_len t) r h.faultless f s l
+AreRead-fault t len n ps r h f s l = first_fault-found (λ i. index_fault len i (row_at t i)) (tree_len t) n h.faultless (subst IsSome (sym f) s) l ∙ f
 
 -- all of them were read
 pub AreRead-all : (t : Tree) (len n : ℕ) (ps : List ℕ) → n ≡ length ps → AreRead t len n ps → ArePositions t len ps
@@ -114,11 +81,9 @@ ArePositions-same t u len ps h p =
     }
 
 pub indices_fault-same : (len : ℕ) (t u : Tree) → AreSame t u → indices_fault len t ≡ indices_fault len u
-indices_fault-same len t u h = each (tree_len t) (λ i l. ap (index_fault len i) (h.rows i l)) ∙ ap (first_fault (λ i. index_fault len i (row_at u i))) h.len
-  where
-    each : (n : ℕ) → ((i : ℕ) → i < n → index_fault len i (row_at t i) ≡ index_fault len i (row_at u i)) → first_fault (λ i. index_fault len i (row_at t i)) n ≡ first_fault (λ i. index_fault len i (row_at u i)) n
-    each zero f = refl
-    each (suc n) f = rw (each n (λ i l. f i (omega arith)), f n (omega arith)) refl
+indices_fault-same len t u h =
+    first_fault-same (λ i. index_fault len i (row_at t i)) (λ i. index_fault len i (row_at u i)) (tree_len t) (λ i l. ap (index_fault len i) (h.rows i l))
+    ∙ ap (first_fault (λ i. index_fault len i (row_at u i))) h.len
 
 -- numbers are those under the mask of their validity
 pub under_mask : (t : Tree) (p : PType) (bs : List ℕ) (v : Valid) (mask : List Bool) → t ≡ primitive p bs v → mask ≡ valid_mask v (tree_len t) → AreSame t (masked_numbers p bs mask)

@@ -1,11 +1,10 @@
 -- What selecting gives, layout by layout.
-use Rattle.std.proofs.Common.{ℕ, ◌≡◌, Bool, true, false, List, length, map, None, refl, sym, ◌∙◌, ap}
+use Rattle.std.proofs.Common.{ℕ, ◌≡◌, Bool, true, false, List, length, map, None, refl, ◌∙◌, ap}
 use Rattle.std.specs.Prelude.{ℤ, pos, slice_index}
 use Rattle.std.proofs.lemmas.List.{length-map, get_or-map}
 use Rattle.vx_base.specs.declared.ptypes.PType.{PType}
 use Rattle.vx_base.specs.Integers.{numbers}
 use Rattle.vx_base.specs.Bits.{bool_at}
-use Rattle.vx_base.specs.Rows.{truth_of}
 use Rattle.vx_base.specs.Kinds.{booleans, integers, lists, is_plain_integers}
 use Rattle.vx_base.specs.Selections.{number_of_position, bit_of_position}
 use Rattle.vx_tree.specs.Tree.{Tree, bools, primitive, constant, dictionary, fixed_list, list_view, structure, view_array, Valid, non_nullable, all_valid, all_invalid, by_array}
@@ -22,9 +21,6 @@ nullable-state non_nullable = refl
 nullable-state all_valid = refl
 nullable-state all_invalid = refl
 nullable-state (by_array t) = refl
-
-pub nullable_same : (v w : Valid) → state_of w ≡ state_of v → nullable w ≡ nullable v
-nullable_same v w e = nullable-state w ∙ ap is_nullable_state e ∙ sym (nullable-state v)
 
 -- ---- what is asked
 
@@ -80,7 +76,7 @@ pub bools_selected : (t u : Tree) (bits new : List Bool) (v w : Valid) (ps : Lis
 bools_selected t u bits new v w ps p q e h =
     rw (p, q) (record {
       len = ap length e ∙ length-map ps (bit_of_position bits);
-      kind = ap booleans (nullable_same v w h.state);
+      kind = ap booleans h.kind;
       shape = ap bool_shape h.state;
       rows = λ i l. bool_row bits new v w i (slice_index ps i) (h.bits i l) (ap (λ (bs : List Bool). bool_at bs i) e ∙ get_or-map (bit_of_position bits) ps i 0 false l);
     })
@@ -90,7 +86,7 @@ pub numbers_selected : (t u : Tree) (p : PType) (bs new : List ℕ) (v w : Valid
 numbers_selected t u p bs new v w ps a b e h =
     rw (a, b) (record {
       len = ap length e ∙ length-map ps (number_of_position (numbers p bs));
-      kind = ap (integers p) (nullable_same v w h.state);
+      kind = ap (integers p) h.kind;
       shape = ap primitive_shape h.state;
       rows = λ i l. number_row p bs new v w i (slice_index ps i) (h.bits i l) (ap (λ (zs : List ℤ). number_of_position zs i) e ∙ get_or-map (number_of_position (numbers p bs)) ps i 0 (pos 0) l);
     })
@@ -100,16 +96,7 @@ pub lists_selected : (t u e o s o2 s2 : Tree) (v w : Valid) (f : Bool) (ps : Lis
 lists_selected t u e o s o2 s2 v w f ps a b x y h =
     rw (a, b) (record {
       len = x.len;
-      kind = ap (lists (kind_of e)) (nullable_same v w h.state);
+      kind = ap (lists (kind_of e)) h.kind;
       shape = ap (λ st. list_view_shape e st false) h.state;
       rows = λ i l. list_row e o s o2 s2 v w f false i (slice_index ps i) (h.bits i l) (x.rows i l) (y.rows i l);
-    })
-
--- a validity array
-pub valid_selected : (v w : Valid) (m n : Tree) (ps : List ℕ) → v ≡ by_array m → w ≡ by_array n → kind_of m ≡ booleans false → IsSelected m ps n → IsValidSelected v ps w
-valid_selected v w m n ps a b k h =
-    rw (a, b) (record {
-      fits = record { len = h.len; kind = h.kind ∙ k };
-      state = refl;
-      bits = λ i l. ap truth_of (h.rows i l);
     })

@@ -1,17 +1,15 @@
 -- Taking: what is selected, with the nulls of the indices.
-use Rattle.std.proofs.Common.{ℕ, ◌<◌, ◌≡◌, Bool, true, false, List, length, map, get_or, Option, Some, None, refl, sym, ◌∙◌, ap, subst, zero-add, arith}
+use Rattle.std.proofs.Common.{ℕ, ◌<◌, ◌≡◌, Bool, true, false, List, length, get_or, Option, Some, None, refl, sym, ◌∙◌, ap, subst, zero-add, arith}
 use Rattle.std.specs.Prelude.{is_some, IfSome, slice_index, slice_index_or, if◌then◌else◌}
-use Rattle.std.specs.List.{range_with_len}
 use Rattle.std.proofs.lemmas.List.{length-map, get_or-map, get_or_default}
 use Rattle.std.proofs.lemmas.List.FromFn.{get_or-map-range_with_len, length-map-range_with_len, fill_by_all}
-use Rattle.vx_base.specs.Refusals.{not_implemented, Refusal}
-use Rattle.vx_base.specs.Rows.{Row, null, position_in, is_present}
+use Rattle.vx_base.specs.Rows.{null, position_in}
 use Rattle.vx_base.specs.Kinds.{or_nullable, is_integers, is_nullable_kind}
 use Rattle.vx_tree.specs.Tree.{Tree, Valid}
 use Rattle.vx_tree.specs.Meaning.{row_at, rows, tree_len, kind_of, is_valid_at, nullable, picked}
 use Rattle.vx_tree.specs.Shapes.{Shape, bool_shape, primitive_shape, constant_shape, dictionary_shape, fixed_list_shape, list_view_shape, struct_shape, view_shape, state_of, shape_of, selected_shape, nulled_shape}
 use Rattle.vx_tree.specs.Faults.{take_fault, indices_fault, rows_fault, dictionary_fault}
-use Rattle.vx_tree.specs.Operations.{IsTakenAt, IsSelected, IsNulled, IsNulls, IsValidityOf, IsPosition, ArePositions, AreBelow, or_zero, positions, picks}
+use Rattle.vx_tree.specs.Operations.{IsTakenAt, IsSelected, IsNulled, IsNulls, IsValidityOf, ArePositions, AreBelow, or_zero, positions, picks}
 
 -- ---- at positions
 

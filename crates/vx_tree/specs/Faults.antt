@@ -1,9 +1,9 @@
 -- Which fault a call on an array answers with, where several stand.
 use Rattle.std.specs.Prelude.{◌*◌, ◌^◌, ℕ, Bool, pos, negsuc, Option, Some, None, nat_lt, ◌==◌, if◌then◌else◌}
 use Rattle.vx_base.specs.Refusals.{Refusal, mismatched_types, length_mismatch, out_of_bounds, negative, overflow, not_implemented, or_else, first_fault}
-use Rattle.vx_base.specs.Rows.{Row, null, boolean, whole, bytes, text, items, record_of}
+use Rattle.vx_base.specs.Rows.{Row, whole}
 use Rattle.vx_base.specs.Kinds.{is_integers, is_plain_booleans, is_nullable_kind}
-use Rattle.vx_tree.specs.Tree.{Tree, bools, primitive, constant, dictionary, fixed_list, list_view, structure, view_array, Trees, no_trees, tree, Valid, non_nullable, all_valid, all_invalid, by_array}
+use Rattle.vx_tree.specs.Tree.{Tree, fixed_list, structure, Trees, no_trees, tree, Valid, by_array}
 use Rattle.vx_tree.specs.Meaning.{tree_len, kind_of, row_at}
 use Rattle.vx_tree.specs.Shapes.{Shape, constant_shape, shape_of}
 

@@ -3,7 +3,7 @@ use Rattle.std.specs.Prelude.{◌≡◌, ◌<◌, ◌^◌, ℕ, List, [], length
 use Rattle.vx_base.specs.Kinds.{Kind, Fits}
 use Rattle.vx_base.specs.Bytes.{AreBytes}
 use Rattle.vx_views.specs.Views.{IsView, buffer_at}
-use Rattle.vx_tree.specs.Tree.{Tree, bools, primitive, constant, dictionary, fixed_list, list_view, structure, view_array, Trees, no_trees, tree, Valid, non_nullable, all_valid, all_invalid, by_array}
+use Rattle.vx_tree.specs.Tree.{Tree, bools, primitive, constant, dictionary, fixed_list, list_view, structure, view_array, Trees, no_trees, tree, Valid, by_array}
 use Rattle.vx_tree.specs.Meaning.{tree_len, kind_of, row_at}
 use Rattle.vx_tree.specs.Formed.{WellFormed}
 

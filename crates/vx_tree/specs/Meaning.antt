@@ -1,11 +1,11 @@
 -- What a tree means: its length, its kind, its rows.
-use Rattle.std.specs.Prelude.{◌*◌, ℕ, zero, suc, ℤ, pos, Bool, true, false, List, [], ◌∷◌, length, map, if◌then◌else◌, Option, Some, None, slice_index_or}
+use Rattle.std.specs.Prelude.{◌*◌, ℕ, zero, suc, Bool, true, false, List, [], ◌∷◌, length, map, if◌then◌else◌, Option, Some, None, slice_index_or}
 use Rattle.std.specs.List.{range_with_len}
 use Rattle.vx_base.specs.Integers.{numbers}
 use Rattle.vx_base.specs.Bits.{bool_at}
 use Rattle.vx_base.specs.Selections.{number_of_position}
 use Rattle.vx_base.specs.Rows.{Row, null, boolean, whole, bytes, text, items, record_of, Rows, no_rows, row, Fields, no_fields, field, truth_of, position_in, count_in}
-use Rattle.vx_base.specs.Kinds.{Kind, booleans, integers, texts, binaries, lists, fixed_lists, records, Kinds, no_kinds, kind, is_nullable_kind, or_nullable}
+use Rattle.vx_base.specs.Kinds.{Kind, booleans, integers, texts, lists, fixed_lists, records, Kinds, no_kinds, kind, is_nullable_kind, or_nullable}
 use Rattle.vx_views.specs.Views.{view_value}
 use Rattle.vx_tree.specs.Tree.{Tree, bools, primitive, constant, dictionary, fixed_list, list_view, structure, view_array, Trees, no_trees, tree, Valid, non_nullable, all_valid, all_invalid, by_array}
 

@@ -4,7 +4,7 @@ use Rattle.std.specs.List.{All}
 use Rattle.vx_base.specs.declared.ptypes.PType.{PType}
 use Rattle.vx_base.specs.Rows.{Row, null, whole, position_in, is_present}
 use Rattle.vx_base.specs.Kinds.{or_nullable, booleans, integers, is_nullable_kind}
-use Rattle.vx_tree.specs.Tree.{Tree, bools, primitive, Valid, non_nullable, all_valid, all_invalid, by_array}
+use Rattle.vx_tree.specs.Tree.{Tree, bools, primitive, Valid, non_nullable, by_array}
 use Rattle.vx_tree.specs.Meaning.{tree_len, kind_of, row_at, is_valid_at, nullable, picked}
 use Rattle.vx_tree.specs.Shapes.{state_of, tree_state, taken_state, shape_of, sliced_shape, selected_shape, nulled_shape, taken_shape}
 use Rattle.vx_tree.specs.Formed.{ValidFits}
@@ -42,6 +42,7 @@ pub record IsSelected (t : Tree) (ps : List ℕ) (r : Tree) : Type 0 where
 
 pub record IsValidSelected (v : Valid) (ps : List ℕ) (w : Valid) : Type 0 where
   pub fits : ValidFits w (length ps)
+  pub kind : nullable w ≡ nullable v
   pub state : state_of w ≡ state_of v
   pub bits : (i : ℕ) → i < length ps → is_valid_at w i ≡ is_valid_at v (slice_index ps i)
 

@@ -1,8 +1,8 @@
 // An array, and the layouts that it may have.
 
-ghost use Rattle.std.specs.Prelude.{◌≡◌, ◌==◌, IfOk, IsOkUnless};
+ghost use Rattle.std.specs.Prelude.{◌≡◌, ◌==◌};
 ghost use Rattle.vx_base.specs.DTypes.{dtype_meaning};
-ghost use Rattle.vx_base.specs.declared.errors.VortexError.TheVariants.{Memory};
+ghost use Rattle.vx_base.specs.Refusals.{Gives};
 ghost use Rattle.vx_tree.specs.Meaning.{tree_len, kind_of};
 ghost use Rattle.vx_tree.specs.Formed.{WellFormed};
 ghost use Rattle.vx_tree.specs.Fitting.{AllFormed};
@@ -131,12 +131,31 @@ impl ArrayRef {
     /// elements, and that a set flag holds.
     pub fn from_parts(alloc: Global, layout: Layout) -> Result<ArrayRef, VortexError>
         requires { WellFormed (tree_of layout) }
-        ensures ok { IfOk result (λ a. a ≡ tree_of layout) }
-        ensures err { IsOkUnless result Memory }
+        ensures { Gives result (λ a. a ≡ tree_of layout) }
+    {
+        let dtype = layout.dtype(alloc)?;
+        ArrayRef::of_dtype(alloc, dtype, layout)
+    }
+
+    // An array of other parts, of the same data type, which is shared. Asks that they are well
+    // formed and of that data type.
+    pub(crate) fn with_parts(&self, alloc: Global, layout: Layout) -> Result<ArrayRef, VortexError>
+        requires formed { WellFormed (tree_of layout) }
+        requires kind { kind_of (tree_of layout) ≡ kind_of self.now }
+        ensures { Gives result (λ a. a ≡ tree_of layout) }
+    {
+        let dtype = self.dtype().try_clone(alloc)?;
+        ArrayRef::of_dtype(alloc, dtype, layout)
+    }
+
+    // An array of these parts, of the data type that they have.
+    fn of_dtype(alloc: Global, dtype: DType, layout: Layout) -> Result<ArrayRef, VortexError>
+        requires formed { WellFormed (tree_of layout) }
+        requires kind { dtype_meaning dtype ≡ kind_of (tree_of layout) }
+        ensures { Gives result (λ a. a ≡ tree_of layout) }
     {
         layout.known();
         let len = layout.len();
-        let dtype = layout.dtype(alloc)?;
         let node = Rc::new(alloc, Node { dtype, len, layout })?;
         Ok(ArrayRef { node })
     }
@@ -150,8 +169,7 @@ impl ArrayRef {
 
     /// The same array, its parts shared.
     pub fn try_clone(&self, _alloc: Global) -> Result<ArrayRef, VortexError>
-        ensures ok { IfOk result (λ a. a ≡ self.now) }
-        ensures err { IsOkUnless result Memory }
+        ensures { Gives result (λ a. a ≡ self.now) }
     {
         let node = self.node.clone()?;
         Ok(ArrayRef { node })
@@ -204,8 +222,7 @@ impl Layout {
 
     // The data type of the rows.
     fn dtype(&self, alloc: Global) -> Result<DType, VortexError>
-        ensures ok { IfOk result (λ d. dtype_meaning d ≡ kind_of (tree_of self.now)) }
-        ensures err { IsOkUnless result Memory }
+        ensures { Gives result (λ d. dtype_meaning d ≡ kind_of (tree_of self.now)) }
     {
         match self {
             Layout::Bool { validity, .. } => Ok(DType::Bool(validity.nullability())),

@@ -1,6 +1,6 @@
 // Each layout: how its array is made, and its part of each operation.
 
-pub(crate) mod bool;
+mod bool;
 pub(crate) mod constant;
 mod list_view;
 mod primitive;

@@ -12,7 +12,6 @@ ghost use Rattle.vx_tree.specs.Faults.{position_fault};
 ghost use Rattle.vx_tree.specs.Operations.{IsValidityOf};
 
 use crate::array::{ArrayRef, Layout, Validity};
-use crate::layouts::bool::repeated_bit;
 use crate::layouts::constant::scalar_validity;
 use std::alloc::Global;
 use vx_base::{BitBuffer, VortexError, int_at};
@@ -84,7 +83,7 @@ impl ArrayRef {
     {
         match self.layout() {
             Layout::Bool { bits, .. } => bits.try_clone(alloc),
-            Layout::Constant { scalar, len } => repeated_bit(alloc, scalar.as_bool(), *len),
+            Layout::Constant { scalar, len } => BitBuffer::full(alloc, scalar.as_bool(), *len),
             _ => unreachable!(),
         }
     }

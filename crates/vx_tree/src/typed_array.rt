@@ -1,8 +1,8 @@
 // Arrays of one layout.
 
-ghost use Rattle.std.specs.Prelude.{◌≡◌, ◌==◌, Bool, true, false, IfOk, IfErr, IsOkUnless};
+ghost use Rattle.std.specs.Prelude.{◌≡◌, ◌==◌, Bool, true, false, IfOk, IfErr};
 ghost use Rattle.vx_base.specs.DTypes.{dtype_meaning};
-ghost use Rattle.vx_base.specs.declared.errors.VortexError.TheVariants.{Memory};
+ghost use Rattle.vx_base.specs.Refusals.{Gives};
 ghost use Rattle.vx_tree.specs.Tree.{Tree};
 ghost use Rattle.vx_tree.specs.Meaning.{tree_len, kind_of};
 ghost use Rattle.vx_tree.specs.Parts.{tree_of};
@@ -71,8 +71,7 @@ pub trait TypedArray: Sized {
 
     /// The same array, its parts shared.
     final fn try_clone(&self, alloc: Global) -> Result<Self, VortexError>
-        ensures ok { IfOk result (λ a. as_tree a ≡ as_tree self.now) }
-        ensures err { IsOkUnless result Memory }
+        ensures { Gives result (λ a. as_tree a ≡ as_tree self.now) }
     {
         Ok(Self::from_array(self.as_array().try_clone(alloc)?))
     }

@@ -13,7 +13,6 @@ ghost use Rattle.vx_tree.specs.Faults.{valid_type_fault, valid_len, validity_fau
 ghost use Rattle.vx_tree.specs.Operations.{IsValidSlice, IsValidSelected, IsValidNulled, IsValidNulls, ValidHasAll};
 
 use crate::array::{ArrayRef, Validity};
-use crate::layouts::bool::repeated_bit;
 use std::alloc::Global;
 use vx_base::{BitBuffer, Mask, Nullability, Selection, VortexError};
 
@@ -226,5 +225,5 @@ fn told_by(alloc: Global, bits: BitBuffer) -> Result<Validity, VortexError>
 fn nowhere_true(alloc: Global, len: usize) -> Result<Validity, VortexError>
     ensures { Gives result (λ v. valid_of v ≡ by_array (bools (replicate len false) non_nullable)) }
 {
-    told_by(alloc, repeated_bit(alloc, false, len)?)
+    told_by(alloc, BitBuffer::new_unset(alloc, len)?)
 }

@@ -1,6 +1,6 @@
 // Truth values, one to a bit.
 
-ghost use Rattle.std.specs.Prelude.{◌≡◌, ◌<◌, ◌≤◌, ◌-◌, ℕ, true, false, length, replicate};
+ghost use Rattle.std.specs.Prelude.{◌≡◌, ◌<◌, ◌≤◌, ◌-◌, ℕ, true, false, length};
 ghost use Rattle.vx_base.specs.Refusals.{Gives};
 ghost use Rattle.vx_tree.specs.Tree.{bools};
 ghost use Rattle.vx_tree.specs.Layouts.{is_bools};
@@ -11,7 +11,7 @@ ghost use Rattle.vx_tree.specs.Operations.{IsSlice, IsSelected, IsNulled, IsNull
 
 use crate::array::{ArrayRef, Layout, Validity};
 use std::alloc::Global;
-use vx_base::{BitBuffer, BitBufferMut, Selection, VortexError, gather_bits};
+use vx_base::{BitBuffer, Selection, VortexError, gather_bits};
 
 impl ArrayRef {
     /// Truth values, null where the validity is false. Asks that the validity is that of as many
@@ -45,7 +45,7 @@ impl ArrayRef {
         };
         let bits = bits.slice(alloc, start..end)?;
         let validity = validity.slice_within(alloc, start, end)?;
-        ArrayRef::bools(alloc, bits, validity)
+        self.with_parts(alloc, Layout::Bool { bits, validity })
     }
 
     #[cycle(select)]
@@ -63,7 +63,7 @@ impl ArrayRef {
         };
         let bits = gather_bits(alloc, bits, selection)?;
         let validity = validity.select_within(alloc, selection)?;
-        ArrayRef::bools(alloc, bits, validity)
+        self.with_parts(alloc, Layout::Bool { bits, validity })
     }
 
     pub(crate) fn nulled_bools(
@@ -97,17 +97,6 @@ impl ArrayRef {
             unreachable!();
         };
         let validity = validity.nulls(alloc, len, nulls)?;
-        ArrayRef::bools(alloc, repeated_bit(alloc, false, len)?, validity)
+        ArrayRef::bools(alloc, BitBuffer::new_unset(alloc, len)?, validity)
     }
-}
-
-// One bit, however often.
-pub(crate) fn repeated_bit(alloc: Global, bit: bool, len: usize) -> Result<BitBuffer, VortexError>
-    ensures { Gives result (λ b. b ≡ replicate len bit) }
-{
-    let mut bits = BitBufferMut::with_capacity(alloc, len)?;
-    for _ in 0..len {
-        bits.append(bit)?;
-    }
-    bits.freeze()
 }

@@ -67,7 +67,14 @@ impl ArrayRef {
         let offsets = offsets.slice_within(alloc, start, end)?;
         let sizes = sizes.slice_within(alloc, start, end)?;
         let validity = validity.slice_within(alloc, start, end)?;
-        ArrayRef::list_view(alloc, elements, offsets, sizes, validity, *flag)
+        let layout = Layout::ListView {
+            elements,
+            offsets,
+            sizes,
+            validity,
+            flag: *flag,
+        };
+        self.with_parts(alloc, layout)
     }
 
     #[cycle(select)]
@@ -95,7 +102,14 @@ impl ArrayRef {
         let offsets = offsets.select_within(alloc, selection)?;
         let sizes = sizes.select_within(alloc, selection)?;
         let validity = validity.select_within(alloc, selection)?;
-        ArrayRef::list_view(alloc, elements, offsets, sizes, validity, false)
+        let layout = Layout::ListView {
+            elements,
+            offsets,
+            sizes,
+            validity,
+            flag: false,
+        };
+        self.with_parts(alloc, layout)
     }
 
     pub(crate) fn nulled_list_view(

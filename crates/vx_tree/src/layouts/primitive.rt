@@ -1,9 +1,8 @@
 // Whole numbers of one type, one after another.
 
-ghost use Rattle.std.specs.Prelude.{◌≡◌, ◌<◌, ◌≤◌, ◌-◌, ◌*◌, ℕ, pos, true, false, length, map, replicate, IfOk, IsOkUnless};
+ghost use Rattle.std.specs.Prelude.{◌≡◌, ◌<◌, ◌≤◌, ◌-◌, ◌*◌, ℕ, pos, true, false, length, map, replicate, IfOk};
 ghost use Rattle.vx_base.specs.Integers.{byte_width, numbers};
 ghost use Rattle.vx_base.specs.Refusals.{Gives};
-ghost use Rattle.vx_base.specs.declared.errors.VortexError.TheVariants.{Memory};
 ghost use Rattle.vx_tree.specs.Tree.{primitive};
 ghost use Rattle.vx_tree.specs.Layouts.{is_primitive};
 ghost use Rattle.vx_tree.specs.Meaning.{tree_len, is_valid_at};
@@ -62,7 +61,12 @@ impl ArrayRef {
         };
         let bytes = slice_numbers(alloc, bytes, *ptype, start..end)?;
         let validity = validity.slice_within(alloc, start, end)?;
-        ArrayRef::primitive(alloc, *ptype, bytes, validity)
+        let layout = Layout::Primitive {
+            ptype: *ptype,
+            bytes,
+            validity,
+        };
+        self.with_parts(alloc, layout)
     }
 
     #[cycle(select)]
@@ -85,7 +89,12 @@ impl ArrayRef {
         };
         let bytes = gather_numbers(alloc, *ptype, bytes.as_slice(), selection)?;
         let validity = validity.select_within(alloc, selection)?;
-        ArrayRef::primitive(alloc, *ptype, bytes, validity)
+        let layout = Layout::Primitive {
+            ptype: *ptype,
+            bytes,
+            validity,
+        };
+        self.with_parts(alloc, layout)
     }
 
     pub(crate) fn nulled_primitive(
@@ -143,9 +152,8 @@ impl ArrayRef {
 
 // Numbers that are all 0.
 fn zero_numbers(alloc: Global, ptype: PType, len: usize) -> Result<ByteBuffer, VortexError>
-    ensures ok { IfOk result (λ b. numbers ptype b ≡ map pos (replicate len 0)) }
-    ensures len { IfOk result (λ b. length b ≡ len * byte_width ptype) }
-    ensures err { IsOkUnless result Memory }
+    ensures zeroes { Gives result (λ b. numbers ptype b ≡ map pos (replicate len 0)) }
+    ensures whole { IfOk result (λ b. length b ≡ len * byte_width ptype) }
 {
     let counts = vec![in alloc; 0; len]?;
     write_counts(alloc, ptype, &counts)

@@ -1,6 +1,6 @@
 use Rattle.std.proofs.Common.{ap}
 use Rattle.vx_tree.specs.Parts.{valid_of}
-use Rattle.vx_tree.proofs.Given.{Gives-weaker}
+use Rattle.vx_base.proofs.Refused.{Gives-weaker}
 use Rattle.vx_tree.proofs.Nulled.{valid_both}
 use Rattle.vx_tree.proofs.array.Validity.nulled.Goals as goal
 
@@ -10,5 +10,5 @@ returns-in_ok-bits-in-Array-Array-2 c =
     (λ w e. valid_both (valid_of c.args.self.now) (valid_of c.args.nulls.now) (valid_of w) c.in-Array-Array.array c.in-Array-Array.other
     c.in_ok-bits-in-Array-Array.bits c.in_ok-plain_bits-in-Array-Array.field-0 c.in_ok-bits-in-Array-Array-2.bits c.args.len
     (ap valid_of c.in-Array-Array.is-0) (ap valid_of c.in-Array-Array.is-1) e c.in_ok-bits-in-Array-Array.ensures c.in_ok-plain_bits-in-Array-Array.ensures
-    c.in_ok-bits-in-Array-Array-2.ensures.ok c.requires.mine c.requires.theirs)
+    c.in_ok-bits-in-Array-Array-2.ensures c.requires.mine c.requires.theirs)
     c.told_by.ensures
