@@ -13,3 +13,4 @@ pub mod Refused
 pub mod FirstFaults
 pub mod Runs
 pub mod StructKinds
+pub mod ValueFits

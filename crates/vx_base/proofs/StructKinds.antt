@@ -46,8 +46,8 @@ kinds_eq-lengths (d ∷ ds) (e ∷ es) apart =
     none_and (kind_eq (dtype_meaning d) (dtype_meaning e))
     ∙ ap (λ x. kind_eq (dtype_meaning d) (dtype_meaning e) && x) (kinds_eq-lengths ds es (λ same. apart (ap suc same)))
 
--- the data types from a place on are the one there and those after it
-from_place : (ds : List DType) (i : ℕ) (d : DType) → i < length ds → d ≡ slice_index_or ds i d → drop i ds ≡ d ∷ drop (i + 1) ds
+-- the items from a place on are the one there and those after it
+pub from_place : {X : Type 0} (ds : List X) (i : ℕ) (d : X) → i < length ds → d ≡ slice_index_or ds i d → drop i ds ≡ d ∷ drop (i + 1) ds
 from_place ds i d inside at = drop-cons ds i d inside ∙ (λ k. sym at k ∷ drop (sym (add-one i) k) ds)
 
 pub kinds_eq-drop : (ds es : List DType) (i : ℕ) (d e : DType) → i < length ds → i < length es → d ≡ slice_index_or ds i d → e ≡ slice_index_or es i e

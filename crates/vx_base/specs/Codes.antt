@@ -1,5 +1,5 @@
 -- How the logic stores integer types, rows and kinds.
-use Rattle.std.specs.Prelude.{◌≡◌, ℕ, ℤ, pos, negsuc, refl}
+use Rattle.std.specs.Prelude.{◌≡◌, ◌+◌, ℕ, ℤ, pos, negsuc, max, refl}
 use Rattle.std.proofs.Common.{ap, arith}
 use base.Stored.{Gv, gnil, gnum, gcons, num, Coded, coded_ℕ, coded_bool, coded_list}
 use Rattle.vx_base.specs.declared.ptypes.PType.{PType}
@@ -142,3 +142,33 @@ coded_row = record { code = code_row; inj = code_row-inj }
 
 abbrev pub coded_kind : Coded Kind
 coded_kind = record { code = code_kind; inj = code_kind-inj }
+
+abbrev pub coded_rows : Coded Rows
+coded_rows = record { code = code_rows; inj = code_rows-inj }
+
+-- ---- how deep they go
+
+abbrev mutual
+  pub row_depth : Row → ℕ
+  row_depth (items rs) = rows_depth rs + 1
+  row_depth (record_of fs) = fields_depth fs + 1
+  row_depth _ = 0
+
+  pub rows_depth : Rows → ℕ
+  rows_depth no_rows = 0
+  rows_depth (row r rs) = max (row_depth r) (rows_depth rs)
+
+  pub fields_depth : Fields → ℕ
+  fields_depth no_fields = 0
+  fields_depth (field n r fs) = max (row_depth r) (fields_depth fs)
+
+abbrev mutual
+  pub kind_depth : Kind → ℕ
+  kind_depth (lists k n) = kind_depth k + 1
+  kind_depth (fixed_lists k size n) = kind_depth k + 1
+  kind_depth (records names ks n) = kinds_depth ks + 1
+  kind_depth _ = 0
+
+  pub kinds_depth : Kinds → ℕ
+  kinds_depth no_kinds = 0
+  kinds_depth (kind k ks) = max (kind_depth k) (kinds_depth ks)

@@ -12,4 +12,6 @@ pub mod SameKind
 pub mod DTypes
 pub mod SameDType
 pub mod Codes
+pub mod ValueRows
+pub mod ValueFalls
 pub mod Scalars

@@ -1,11 +1,9 @@
 -- One row with its data type.
 use Rattle.std.specs.Prelude.{refl}
 use Rattle.std.specs.Coded.{Coded, code_by, coded×}
-use Rattle.vx_base.specs.Rows.{Row, null, boolean, whole}
+use Rattle.vx_base.specs.Rows.{Row}
 use Rattle.vx_base.specs.Kinds.{Kind}
 use Rattle.vx_base.specs.Codes.{coded_kind, coded_row}
-use Rattle.vx_base.specs.declared.scalar.ScalarValue.{ScalarValue}
-use Rattle.vx_base.specs.declared.scalar.ScalarValue.TheVariants as value
 
 -- a row of a kind
 pub record TypedRow : Type 0 where
@@ -17,9 +15,3 @@ coded_typed_row = code_by (Kind × Row) (coded× coded_kind coded_row) (λ s. (s
 
 abbrev pub typed_row : Kind → Row → TypedRow
 typed_row k r = record { kind = k; row = r }
-
--- the row that a value is
-abbrev pub row_of : ScalarValue → Row
-row_of value.Null = null
-row_of (value.Bool b) = boolean b
-row_of (value.Int z) = whole z

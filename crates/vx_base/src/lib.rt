@@ -18,6 +18,7 @@ mod nullability;
 mod numbers;
 mod ptypes;
 mod scalar;
+mod scalar_value;
 mod selection;
 mod struct_fields;
 #[cfg(test)]
@@ -40,5 +41,6 @@ pub use crate::nullability::Nullability;
 pub use crate::numbers::{int_at, int_of, number_count, put_int};
 pub use crate::ptypes::PType;
 pub use crate::scalar::Scalar;
+pub use crate::scalar_value::{ScalarValue, ScalarValues};
 pub use crate::selection::Selection;
 pub use crate::struct_fields::StructFields;

@@ -1,17 +1,20 @@
 // One row with its data type.
 
-ghost use Rattle.std.specs.Prelude.{◌≡◌, true, false, IsTrue};
+ghost use Rattle.std.specs.Prelude.{◌≡◌, ◌↔◌, IsTrue, IfOk, IfErr};
 ghost use Rattle.vx_base.specs.Refusals.{Gives};
 ghost use Rattle.vx_base.specs.Rows.{null, boolean, whole, is_present, number_in, truth_of};
 ghost use Rattle.vx_base.specs.Kinds.{booleans, integers, is_nullable_kind, Fits};
 ghost use Rattle.vx_base.specs.Integers.{Holds};
 ghost use Rattle.vx_base.specs.DTypes.{dtype_meaning, is_nullable};
+ghost use Rattle.vx_base.specs.ValueRows.{row_under};
 ghost use Rattle.vx_base.specs.Scalars.{typed_row};
+ghost use Rattle.vx_base.specs.declared.errors.VortexError.TheVariants.{MismatchedTypes};
 
 use crate::dtypes::DType;
 use crate::errors::VortexError;
 use crate::nullability::Nullability;
 use crate::ptypes::PType;
+use crate::scalar_value::{ScalarValue, fits};
 use std::alloc::Global;
 use std::marker::Model;
 
@@ -19,39 +22,48 @@ use std::marker::Model;
 #[derive(Drop)]
 pub struct Scalar {
     dtype: DType,
-    value: ScalarValue,
-}
-
-// What the row is.
-#[derive(Clone, Copy)]
-enum ScalarValue {
-    Null,
-    Bool(bool),
-    Int(i128),
+    value: Option<ScalarValue>,
 }
 
 impl Model for Scalar {
     ghost use Rattle.vx_base.specs.Kinds.{Fits};
     ghost use Rattle.vx_base.specs.DTypes.{dtype_meaning};
-    ghost use Rattle.vx_base.specs.Scalars.{TypedRow, coded_typed_row, typed_row, row_of};
+    ghost use Rattle.vx_base.specs.ValueRows.{row_under};
+    ghost use Rattle.vx_base.specs.Scalars.{TypedRow, coded_typed_row, typed_row};
 
     ghost Value = { TypedRow };
 
     ghost coded = { coded_typed_row };
 
-    ghost view = { λ s. typed_row (dtype_meaning s.dtype) (row_of s.value) };
+    ghost view = { λ s. typed_row (dtype_meaning s.dtype) (row_under (dtype_meaning s.dtype) s.value) };
 
-    ghost invariant = { λ s. Fits (dtype_meaning s.dtype) (row_of s.value) };
+    ghost invariant = { λ s. Fits (dtype_meaning s.dtype) (row_under (dtype_meaning s.dtype) s.value) };
 }
 
 impl Scalar {
+    /// The row that a value is, `None` for null, with its data type. Records take the names of the
+    /// data type. Refuses with `MismatchedTypes` just where the row does not fit the data type: it
+    /// is of another kind, null where none may be, a number out of range, a list of another size
+    /// than the fixed one, a record with another number of fields, a text that is not UTF-8, a
+    /// text or a byte list longer than 4294967295 bytes, or a row within it does not fit.
+    pub fn try_new(dtype: DType, value: Option<ScalarValue>) -> Result<Scalar, VortexError>
+        ensures row { IfOk result (λ s. s ≡ typed_row (dtype_meaning dtype) (row_under (dtype_meaning dtype) value)) }
+        ensures fits { IfOk result (λ _. Fits (dtype_meaning dtype) (row_under (dtype_meaning dtype) value)) }
+        ensures refused { IfErr result (λ e. (e ≡ MismatchedTypes) × ¬ Fits (dtype_meaning dtype) (row_under (dtype_meaning dtype) value)) }
+    {
+        if fits(&dtype, &value) {
+            Ok(Scalar { dtype, value })
+        } else {
+            Err(VortexError::MismatchedTypes)
+        }
+    }
+
     /// Null of a data type. Asks that null may stand under it.
     pub fn null(dtype: DType) -> Scalar
         requires { IsTrue (is_nullable_kind (dtype_meaning dtype)) }
         ensures { result ≡ typed_row (dtype_meaning dtype) null }
     {
-        let value = ScalarValue::Null;
-        Scalar { dtype, value }
+        Scalar { dtype, value: None }
     }
 
     /// A truth value.
@@ -60,7 +72,7 @@ impl Scalar {
     {
         Scalar {
             dtype: DType::Bool(nullability),
-            value: ScalarValue::Bool(value),
+            value: Some(ScalarValue::Bool(value)),
         }
     }
 
@@ -71,7 +83,7 @@ impl Scalar {
     {
         Scalar {
             dtype: DType::Primitive(ptype, nullability),
-            value: ScalarValue::Int(value),
+            value: Some(ScalarValue::Int(value)),
         }
     }
 
@@ -83,19 +95,33 @@ impl Scalar {
         &self.dtype
     }
 
+    /// The value, `None` where the row is null.
+    pub fn value(&self) -> &Option<ScalarValue>
+        ensures { row_under self.now.kind result.now ≡ self.now.row }
+    {
+        &self.value
+    }
+
     /// Whether the row is not null.
     pub fn is_valid(&self) -> bool
         ensures { result ≡ is_present self.now.row }
     {
-        !matches!(&self.value, ScalarValue::Null)
+        self.value.is_some()
+    }
+
+    /// Whether the row is null.
+    pub fn is_null(&self) -> bool
+        ensures { IsTrue result ↔ (self.now.row ≡ null) }
+    {
+        self.value.is_none()
     }
 
     /// The number, where the row is one.
     pub fn as_int(&self) -> Option<i128>
         ensures { result ≡ number_in self.now.row }
     {
-        match self.value {
-            ScalarValue::Int(number) => Some(number),
+        match &self.value {
+            Some(ScalarValue::Int(number)) => Some(*number),
             _ => None,
         }
     }
@@ -104,18 +130,21 @@ impl Scalar {
     pub fn as_bool(&self) -> bool
         ensures { result ≡ truth_of self.now.row }
     {
-        match self.value {
-            ScalarValue::Bool(truth) => truth,
+        match &self.value {
+            Some(ScalarValue::Bool(truth)) => *truth,
             _ => false,
         }
     }
 
-    /// The same row, its data type shared. Fails only for want of memory.
+    /// The same row, its parts shared. Fails only for want of memory.
     pub fn try_clone(&self, alloc: Global) -> Result<Scalar, VortexError>
         ensures { Gives result (λ s. s ≡ self.now) }
     {
         let dtype = self.dtype.try_clone(alloc)?;
-        let value = self.value;
+        let value = match &self.value {
+            Some(value) => Some(value.try_clone(alloc)?),
+            None => None,
+        };
         Ok(Scalar { dtype, value })
     }
 }
