@@ -1,12 +1,12 @@
 // The value of one row, and whether it fits a data type.
 
-ghost use Rattle.std.specs.Prelude.{◌≡◌, ◌↔◌, length, map, IsTrue, IfOk, IsOkUnless};
+ghost use Rattle.std.specs.Prelude.{◌≡◌, ◌↔◌, length, map, IsTrue};
+ghost use Rattle.vx_base.specs.Refusals.{Gives};
 ghost use Rattle.vx_base.specs.Bytes.{AreBytes};
 ghost use Rattle.vx_base.specs.Rows.{rows_from};
 ghost use Rattle.vx_base.specs.Kinds.{Fits, IsShort};
 ghost use Rattle.vx_base.specs.DTypes.{dtype_meaning, field_names, field_kinds};
 ghost use Rattle.vx_base.specs.ValueRows.{option_row, row_under, ValuesFit, RecordFits};
-ghost use Rattle.vx_base.specs.declared.errors.VortexError.TheVariants.{Memory};
 
 use crate::byte_buffer::ByteBuffer;
 use crate::dtypes::DType;
@@ -67,8 +67,7 @@ impl ScalarValues {
         alloc: Global,
         values: Vec<Option<ScalarValue>>,
     ) -> Result<ScalarValues, VortexError>
-        ensures ok { IfOk result (λ v. v ≡ rows_from (map option_row values.items)) }
-        ensures err { IsOkUnless result Memory }
+        ensures { Gives result (λ v. v ≡ rows_from (map option_row values.items)) }
     {
         let values = Rc::new(alloc, values)?;
         Ok(ScalarValues { values })
@@ -83,8 +82,7 @@ impl ScalarValues {
 
     /// The same values, shared. Fails only for want of memory.
     pub fn try_clone(&self, _alloc: Global) -> Result<ScalarValues, VortexError>
-        ensures ok { IfOk result (λ v. v ≡ self.now) }
-        ensures err { IsOkUnless result Memory }
+        ensures { Gives result (λ v. v ≡ self.now) }
     {
         let values = self.values.clone()?;
         Ok(ScalarValues { values })
@@ -94,8 +92,7 @@ impl ScalarValues {
 impl ScalarValue {
     /// The same value, its parts shared. Fails only for want of memory.
     pub fn try_clone(&self, alloc: Global) -> Result<ScalarValue, VortexError>
-        ensures ok { IfOk result (λ v. v ≡ self.now) }
-        ensures err { IsOkUnless result Memory }
+        ensures { Gives result (λ v. v ≡ self.now) }
     {
         match self {
             ScalarValue::Bool(truth) => Ok(ScalarValue::Bool(*truth)),
