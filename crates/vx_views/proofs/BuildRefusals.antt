@@ -14,7 +14,8 @@ use Rattle.vx_views.proofs.OffsetFacts.{AreFaultlessOffsets-none}
 use Rattle.std.proofs.lemmas.List.Sums.{sum_by-take-le}
 use Rattle.vx_views.proofs.CutPieces.{sum_take_mono, longest_same, longest_ahead}
 use Rattle.vx_views.proofs.CutPlaces.{length-pieces_of}
-use Rattle.vx_views.proofs.FirstFaults.{or_else-first, or_else-second, first_fault-at, if-none}
+use Rattle.vx_base.proofs.FirstFaults.{or_else-first, or_else-second, first_fault-none_at}
+use Rattle.vx_views.proofs.FirstFaults.{if-none}
 use Rattle.vx_views.proofs.NoFaults.{AreFaultless-none, length_at, length-lengths_of}
 use Rattle.vx_views.proofs.CutOpen.{sum_more, some_maximal}
 
@@ -122,7 +123,7 @@ short_lengths limit heap_len numbers e k h =
 pub short_differences : (limit heap_len : ℕ) (offsets : List ℤ) → offsets_fault limit heap_len offsets ≡ None → (k : ℕ) → k < length (lengths_of (differences offsets)) → get_or (lengths_of (differences offsets)) k 0 ≤ limit
 short_differences limit heap_len offsets e k h =
     let k_in : k < length (differences offsets) = omega (arith, length-lengths_of (differences offsets)) in
-    let here = first_fault-at (too_long_at limit (differences offsets)) (length (differences offsets)) k (AreFaultlessOffsets-none limit heap_len offsets e).short k_in in
+    let here = first_fault-none_at (too_long_at limit (differences offsets)) (length (differences offsets)) k (AreFaultlessOffsets-none limit heap_len offsets e).short k_in in
     omega (arith, length_at (differences offsets) k k_in, leb-true (unsigned_abs (number_at (differences offsets) k)) limit (if-none (nat_le (unsigned_abs (number_at (differences offsets) k)) limit) (value_too_long k) here))
 
 -- the same of what a cut found

@@ -1,10 +1,6 @@
 -- The differences of offsets.
 use Rattle.std.proofs.Common.{◌≡◌, ℕ, ℤ, pos, ◌+◌, ◌-◌, ◌<◌, ◌-ℤ◌, List, [], ◌∷◌, ◌++◌, take, Option, Some, None, IfSome, subst, length, map, drop, get_or, sym, ap, ◌∙◌, arith}
 use Rattle.std.specs.List.{zip}
-use Rattle.std.specs.Prelude.{Result, Ok, Err, IfOk, IsOkUnless}
-use Rattle.vx_base.specs.Refusals.{Gives}
-use Rattle.vx_base.specs.declared.errors.VortexError.{VortexError}
-use Rattle.vx_base.specs.declared.errors.VortexError.TheVariants.{Memory}
 use Rattle.std.proofs.lemmas.List.{get_or-drop, get_or-map, length-map, map-append, take_more}
 use Rattle.std.proofs.lemmas.Slice.Zip.{get_or-zip, length-zip}
 use Rattle.std.proofs.Common.{length-drop}
@@ -27,8 +23,3 @@ IfSome-at P (Some y) x e h = let same : y ≡ x = cc in subst P same h
 pub made_more : {X : Type 0} (value : X → ℤ) (items more : List X) (x : X) (numbers : List ℤ) (row : ℕ) → more ≡ items ++ x ∷ [] → map value items ≡ take row numbers → row < length numbers → value x ≡ number_at numbers row → map value more ≡ take (row + 1) numbers
 made_more value items more x numbers row pushed before h is =
     ap (map value) pushed ∙ map-append value items (x ∷ []) ∙ ap (λ front. front ++ value x ∷ []) before ∙ ap (λ z. take row numbers ++ z ∷ []) is ∙ sym (take_more numbers row (pos 0) h)
-
--- what a call gives is what a part of it gave
-pub made_all : {A : Type 0} (P Q : A → Type 0) (r : Result A VortexError) → IfOk r P → IsOkUnless r Memory → ((x : A) → P x → Q x) → Gives r Q
-made_all P Q (Ok x) h k w = w x h
-made_all P Q (Err e) h k w = k

@@ -10,7 +10,8 @@ use Rattle.std.proofs.lemmas.Str.{IsUtf8-from_is_utf8, is_utf8-from_IsUtf8}
 use Rattle.vx_base.specs.Bits.{bool_at}
 use Rattle.vx_base.specs.Refusals.{Refusal, Names, refusal_of, not_utf8, first_fault}
 use Rattle.vx_base.specs.declared.errors.VortexError.{VortexError}
-use Rattle.vx_views.proofs.FirstFaults.{or_else-second, or_else-none, first_fault-here, first_fault-at, first_fault-none, first_fault-next}
+use Rattle.vx_base.proofs.FirstFaults.{or_else-second, or_else-none, first_fault-none_at, first_fault-of_none, first_fault-next}
+use Rattle.vx_views.proofs.FirstFaults.{first_fault-here}
 use Rattle.vx_views.specs.Views.{view_size, view_prefix, view_block, view_offset, is_inline, buffer_at, view_value}
 use Rattle.vx_views.specs.Faulty.{place_fault, text_fault, view_fault, row_fault, views_fault}
 use Rattle.vx_views.specs.Sound.{IsSoundView, AreSoundViews}
@@ -152,10 +153,10 @@ pub views_fault-AreSoundViews : (check_utf8 : Bool) (mask : List Bool) (buffers 
 unfolding views_fault
 views_fault-AreSoundViews check_utf8 mask buffers views = (
   λ none row within valid.
-      let here = first_fault-at (row_fault check_utf8 mask buffers views) (length views) row none within in
+      let here = first_fault-none_at (row_fault check_utf8 mask buffers views) (length views) row none within in
       (view_fault-IsSoundView check_utf8 buffers (get_or views row []) row).0 (rw valid at here),
   λ sound.
-      first_fault-none (row_fault check_utf8 mask buffers views) (length views) (λ row within.
+      first_fault-of_none (row_fault check_utf8 mask buffers views) (length views) (λ row within.
       elim (cases_Bool (bool_at mask row)) [
         | inl valid ↦ rw valid ((view_fault-IsSoundView check_utf8 buffers (get_or views row []) row).1 (sound row within valid))
         | inr null ↦ rw null

@@ -8,7 +8,8 @@ use Rattle.std.proofs.lemmas.List.Sums.{sum_by-take-le}
 use Rattle.vx_base.specs.Refusals.{first_fault, negative, value_too_long, lengths_not_exact, falling_offsets}
 use Rattle.vx_views.specs.BuildFaults.{number_at, last_offset, lengths_of, negative_at, falling_at, too_long_at, sum_fault, first_negative, first_falling, first_too_long}
 use Rattle.vx_views.proofs.CutOpen.{sum_more}
-use Rattle.vx_views.proofs.FirstFaults.{first_fault-here, first_fault-at, if-some}
+use Rattle.vx_base.proofs.FirstFaults.{first_fault-none_at}
+use Rattle.vx_views.proofs.FirstFaults.{first_fault-here, if-some}
 use Rattle.vx_views.proofs.NoFaults.{length_at, length-lengths_of, number_of_item}
 
 pub first_negative-here : (numbers : List ℤ) (k : ℕ) → first_fault (negative_at numbers) k ≡ None → IsTrue (is_negative (number_at numbers k)) → k < length numbers → first_negative numbers ≡ Some (negative k)
@@ -34,7 +35,7 @@ sum_fault-here heap_len numbers h = ap (λ b. if b then None else Some lengths_n
 pub is_length : (numbers : List ℤ) (k : ℕ) (found : Option ℕ) → first_negative numbers ≡ None → k < length numbers → IfNone found (IsTrue (is_negative (number_at numbers k))) → IsSome found
 is_length numbers k (Some n) natural h none = refl
 is_length numbers k None natural h none =
-    let not_below : is_negative (number_at numbers k) ≡ false = if-some (is_negative (number_at numbers k)) (negative k) (first_fault-at (negative_at numbers) (length numbers) k natural h) in
+    let not_below : is_negative (number_at numbers k) ≡ false = if-some (is_negative (number_at numbers k)) (negative k) (first_fault-none_at (negative_at numbers) (length numbers) k natural h) in
     let both : false ≡ true = sym not_below ∙ none in
     absurd (cc)
 

@@ -4,7 +4,8 @@ use Rattle.std.specs.Int.{is_negative}
 use Rattle.std.proofs.lemmas.Bool.{le-leb, lt-leb, leb-true, eqb-true}
 use Rattle.std.proofs.lemmas.List.{get_or-map, length-map}
 use Rattle.vx_base.specs.Refusals.{or_else, negative, value_too_long, lengths_not_exact}
-use Rattle.vx_views.proofs.FirstFaults.{or_else-none, first_fault-at, if-none, if-some}
+use Rattle.vx_base.proofs.FirstFaults.{or_else-none, first_fault-none_at}
+use Rattle.vx_views.proofs.FirstFaults.{if-none, if-some}
 use Rattle.vx_views.specs.BuildFaults.{number_at, lengths_of, negative_at, too_long_at, sum_fault, first_negative, first_too_long, lengths_fault}
 
 pub length_at : (numbers : List ℤ) (k : ℕ) → k < length numbers → get_or (lengths_of numbers) k 0 ≡ unsigned_abs (number_at numbers k)
@@ -34,9 +35,9 @@ AreFaultless-none limit heap_len numbers e =
     let first = or_else-none (first_negative numbers) (or_else (sum_fault heap_len numbers) (first_too_long limit numbers)) e in
     let rest = or_else-none (sum_fault heap_len numbers) (first_too_long limit numbers) first.1 in
     record {
-      natural = λ k h. if-some (is_negative (number_at numbers k)) (negative k) (first_fault-at (negative_at numbers) (length numbers) k first.0 h);
+      natural = λ k h. if-some (is_negative (number_at numbers k)) (negative k) (first_fault-none_at (negative_at numbers) (length numbers) k first.0 h);
       exact = eqb-true (sum (lengths_of numbers)) heap_len (if-none (sum (lengths_of numbers) == heap_len) lengths_not_exact rest.0);
-      short = λ k h. leb-true (unsigned_abs (number_at numbers k)) limit (if-none (nat_le (unsigned_abs (number_at numbers k)) limit) (value_too_long k) (first_fault-at (too_long_at limit numbers) (length numbers) k rest.1 h));
+      short = λ k h. leb-true (unsigned_abs (number_at numbers k)) limit (if-none (nat_le (unsigned_abs (number_at numbers k)) limit) (value_too_long k) (first_fault-none_at (too_long_at limit numbers) (length numbers) k rest.1 h));
     }
 
 -- the integer of an item

@@ -9,7 +9,8 @@ use Rattle.vx_base.specs.Refusals.{or_else, negative, lengths_not_exact, falling
 use Rattle.vx_views.specs.BuildFaults.{number_at, lengths_of, differences, first_offset, last_offset, negative_at, falling_at, sum_fault, past_heap_fault, no_offset_fault, first_negative, first_falling, first_too_long, lengths_fault, offsets_fault, IsUsedRange, AreRising}
 use Rattle.vx_views.proofs.Differences.{length_differences, number_at_differences}
 use Rattle.vx_views.proofs.CutOpen.{sum_more}
-use Rattle.vx_views.proofs.FirstFaults.{or_else-none, or_else-second, first_fault-at, first_fault-none, if-none, if-some}
+use Rattle.vx_base.proofs.FirstFaults.{or_else-none, or_else-second, first_fault-none_at, first_fault-of_none}
+use Rattle.vx_views.proofs.FirstFaults.{if-none, if-some}
 use Rattle.vx_views.proofs.NoFaults.{length_at, length-lengths_of}
 
 -- ---- numbers
@@ -73,9 +74,9 @@ sum_differences offsets ordered some =
 
 AreOrdered-none : (offsets : List ℤ) → first_negative offsets ≡ None → first_falling offsets ≡ None → AreOrdered offsets
 AreOrdered-none offsets natural rising = record {
-  natural = λ k h. if-some (is_negative (number_at offsets k)) (negative k) (first_fault-at (negative_at offsets) (length offsets) k natural h);
+  natural = λ k h. if-some (is_negative (number_at offsets k)) (negative k) (first_fault-none_at (negative_at offsets) (length offsets) k natural h);
   rising = λ k h.
-      let here : falling_at offsets (k + 1) ≡ None = first_fault-at (falling_at offsets) (length offsets) (k + 1) rising h in
+      let here : falling_at offsets (k + 1) ≡ None = first_fault-none_at (falling_at offsets) (length offsets) (k + 1) rising h in
       let back : k + 1 - 1 ≡ k = omega arith in
       ap (λ j. int_lt (number_at offsets (k + 1)) (number_at offsets j)) (sym back) ∙ if-some (int_lt (number_at offsets (k + 1)) (number_at offsets (k + 1 - 1))) (falling_offsets (k + 1)) here;
 }
@@ -83,7 +84,7 @@ AreOrdered-none offsets natural rising = record {
 -- the differences of offsets in order are no less than 0
 pub differences-natural : (offsets : List ℤ) → AreOrdered offsets → first_negative (differences offsets) ≡ None
 differences-natural offsets ordered =
-    first_fault-none (negative_at (differences offsets)) (length (differences offsets))
+    first_fault-of_none (negative_at (differences offsets)) (length (differences offsets))
     (λ k h. negative_at-none (differences offsets) k
     (ap is_negative (number_at_differences offsets k (omega (arith, length_differences offsets)))
     ∙ difference_negative (number_at offsets k) (number_at offsets (k + 1))
@@ -138,10 +139,10 @@ offsets_fault-sound limit heap_len offsets first last range e =
     let a = or_else-none (first_negative (differences offsets)) (or_else (sum_fault (last - first) (differences offsets)) (first_too_long limit (differences offsets))) e in
     let b = or_else-none (sum_fault (last - first) (differences offsets)) (first_too_long limit (differences offsets)) a.1 in
     let rises : (k : ℕ) → k + 1 < length offsets → is_negative (number_at offsets (k + 1) -ℤ number_at offsets k) ≡ false =
-    λ k h. ap is_negative (sym (number_at_differences offsets k h)) ∙ if-some (is_negative (number_at (differences offsets) k)) (negative k) (first_fault-at (negative_at (differences offsets)) (length (differences offsets)) k a.0 (omega (arith, length_differences offsets))) in
+    λ k h. ap is_negative (sym (number_at_differences offsets k h)) ∙ if-some (is_negative (number_at (differences offsets) k)) (negative k) (first_fault-none_at (negative_at (differences offsets)) (length (differences offsets)) k a.0 (omega (arith, length_differences offsets))) in
     let natural = natural_from offsets (natural_is (number_at offsets 0) first range.first_is) rises in
-    let no_negative : first_negative offsets ≡ None = first_fault-none (negative_at offsets) (length offsets) (λ k h. negative_at-none offsets k (natural k h)) in
-    let no_falling : first_falling offsets ≡ None = first_fault-none (falling_at offsets) (length offsets) (falls_not rises) in
+    let no_negative : first_negative offsets ≡ None = first_fault-of_none (negative_at offsets) (length offsets) (λ k h. negative_at-none offsets k (natural k h)) in
+    let no_falling : first_falling offsets ≡ None = first_fault-of_none (falling_at offsets) (length offsets) (falls_not rises) in
     let some : (length offsets == 0) ≡ false = not_none (length offsets) range.some in
     let high : last_offset offsets ≡ last = ap unsigned_abs range.last_is in
     or_else-second _ _ None (ap (λ t. if t then Some empty_input else None) some)

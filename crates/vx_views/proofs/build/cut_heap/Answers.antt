@@ -3,7 +3,7 @@ use Rattle.vx_views.specs.BuildFaults.{lengths_of, negative_at, too_long_at, num
 use Rattle.vx_views.specs.Views.{view_of}
 use Rattle.vx_views.proofs.CutPlaces.{HasRoom, HasRoom-kept, HasRoom-closed, IsCutting-pushed, AreDone, AreDone-close, AreDone-empty}
 use Rattle.vx_views.proofs.CutStops.{stop-negative, stop-fits_not, stop-number}
-use Rattle.vx_views.proofs.FirstFaults.{first_fault-next}
+use Rattle.vx_base.proofs.FirstFaults.{first_fault-next}
 use Rattle.vx_views.proofs.NoFaults.{not_negative_at, not_too_long_at, length_at, length-lengths_of}
 use Rattle.vx_views.proofs.build.cut_heap.Given.{Over}
 use Rattle.vx_views.proofs.build.cut_heap.Goals as goal

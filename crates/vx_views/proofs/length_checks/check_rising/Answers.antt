@@ -2,7 +2,7 @@ use Rattle.std.proofs.Common.{◌≡◌, ◌-◌, Bool, true, false, int_lt, Fit
 use Rattle.std.specs.Int.{w128}
 use Rattle.std.proofs.lemmas.List.{length-map}
 use Rattle.vx_views.specs.BuildFaults.{falling_at}
-use Rattle.vx_views.proofs.FirstFaults.{first_fault-next}
+use Rattle.vx_base.proofs.FirstFaults.{first_fault-next}
 use Rattle.vx_views.proofs.LengthFaults.{first_falling-here, falls-at}
 use Rattle.vx_views.proofs.NativeRanges.{test-cast}
 use Rattle.vx_views.proofs.OffsetFacts.{falling_at-none}
