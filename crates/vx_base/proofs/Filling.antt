@@ -1,39 +1,84 @@
--- Runs of equal bits that are written.
+-- Runs of bits that are written.
 use Rattle.std.proofs.Common.{ℕ, zero, suc, ◌+◌, ◌-◌, ◌*◌, ◌/◌, ◌%◌, ◌<◌, ◌≤◌, ◌≡◌, ◌≢◌, Bool, true, false, eqb, List, ◌++◌, length, get_or, set, take, drop, replicate, refl, sym, ◌∙◌, ap, zero-add, inl, inr, arith}
 use Rattle.std.specs.Int.{bit_at}
 use Rattle.std.proofs.lemmas.Bool.{cases_lt}
 use Rattle.std.proofs.lemmas.Nat.Bits.{bit_at-zero}
 use Rattle.std.proofs.lemmas.List.{get_or-set_same, get_or-set_other, same_lists, get_or_append_left, get_or-append_right, get_or-replicate, get_or-take, get_or-drop, length-append, length-take-le, length-replicate, length-drop}
-use Rattle.vx_base.specs.Bits.{bit_of, byte_like, unpacked, Filled}
+use Rattle.vx_base.specs.Bits.{bit_of, byte_like, unpacked, Written, Filled}
 use Rattle.vx_base.proofs.PackedBits.{get_unpacked, length_unpacked}
 
-pub filled_none : (bs : List ℕ) (start : ℕ) (value : Bool) → Filled bs bs start start value
-filled_none bs start value = (λ k h l. absurd (omega arith), λ k h. refl, λ k h. refl)
+pub written_none : (bs : List ℕ) (start : ℕ) (f : ℕ → Bool) → Written bs bs start start f
+written_none bs start f = (λ k h l. absurd (omega arith), λ k h. refl, λ k h. refl)
 
 -- one bit more
-pub filled_bit : (old out new : List ℕ) (start i : ℕ) (value : Bool) → start ≤ i → Filled old out start i value → bit_of new i ≡ value → ((j : ℕ) → j ≢ i → bit_of new j ≡ bit_of out j)
-    → Filled old new start (i + 1) value
-filled_bit old out new start i value le f here others = (
+pub written_bit : (old out new : List ℕ) (start i : ℕ) (f : ℕ → Bool) → start ≤ i → Written old out start i f → bit_of new i ≡ f i → ((j : ℕ) → j ≢ i → bit_of new j ≡ bit_of out j)
+    → Written old new start (i + 1) f
+written_bit old out new start i f le before here others = (
   λ k h l. elim (cases_lt k i) [
-    | inl small ↦ others k (λ e. absurd (omega arith)) ∙ f.0 k h small
-    | inr large ↦ let same : k ≡ i = omega arith in ap (bit_of new) same ∙ here
+    | inl small ↦ others k (λ e. absurd (omega arith)) ∙ before.0 k h small
+    | inr large ↦ let same : k ≡ i = omega arith in ap (bit_of new) same ∙ here ∙ ap f (sym same)
   ],
-  λ k h. others k (λ e. absurd (omega arith)) ∙ f.1 k h,
-  λ k h. others k (λ e. absurd (omega arith)) ∙ f.2 k (omega arith),
+  λ k h. others k (λ e. absurd (omega arith)) ∙ before.1 k h,
+  λ k h. others k (λ e. absurd (omega arith)) ∙ before.2 k (omega arith),
 )
+
+-- one byte more
+pub written_byte : (old out : List ℕ) (start j byte : ℕ) (f : ℕ → Bool) → start ≤ 8 * j → j < length out → ((i : ℕ) → i < 8 → eqb (bit_at byte i) 1 ≡ f (8 * j + i))
+    → Written old out start (8 * j) f → Written old (set out j byte) start (8 * (j + 1)) f
+written_byte old out start j byte f le within bits before = (
+  λ k h l. elim (cases_lt k (8 * j)) [
+    | inl small ↦ other k (omega arith) ∙ before.0 k h small
+    | inr large ↦ here k large l
+  ],
+  λ k h. other k (omega arith) ∙ before.1 k h,
+  λ k h. other k (omega arith) ∙ before.2 k (omega arith),
+)
+  where
+    other : (k : ℕ) → k / 8 ≢ j → bit_of (set out j byte) k ≡ bit_of out k
+    other k apart = rw get_or-set_other
+
+    here : (k : ℕ) → 8 * j ≤ k → k < 8 * (j + 1) → bit_of (set out j byte) k ≡ f k
+    here k h l =
+        let place : k / 8 ≡ j = omega arith in
+        let same : 8 * j + k % 8 ≡ k = omega arith in
+        rw (place, get_or-set_same) (bits (k % 8) (omega arith) ∙ ap f same)
 
 -- two runs that meet
-pub filled_join : (old mid new : List ℕ) (start at end : ℕ) (value : Bool) → start ≤ at → at ≤ end → Filled old mid start at value → Filled mid new at end value → Filled old new start end value
-filled_join old mid new start at end value le within f g = (
+pub written_join : (old mid new : List ℕ) (start at end : ℕ) (f : ℕ → Bool) → start ≤ at → at ≤ end → Written old mid start at f → Written mid new at end f → Written old new start end f
+written_join old mid new start at end f le within left right = (
   λ k h l. elim (cases_lt k at) [
-    | inl small ↦ g.1 k small ∙ f.0 k h small
-    | inr large ↦ g.0 k large l
+    | inl small ↦ right.1 k small ∙ left.0 k h small
+    | inr large ↦ right.0 k large l
   ],
-  λ k h. g.1 k (omega arith) ∙ f.1 k h,
-  λ k h. g.2 k h ∙ f.2 k (omega arith),
+  λ k h. right.1 k (omega arith) ∙ left.1 k h,
+  λ k h. right.2 k h ∙ left.2 k (omega arith),
 )
 
-like_bit : (value : Bool) (i : ℕ) → i < 8 → eqb (bit_at (byte_like value) i) 1 ≡ value
+-- a run at the end
+pub written_end : (old mid new : List ℕ) (len count : ℕ) (f : ℕ → Bool) (tail : List Bool) → ((k : ℕ) → k < len → bit_of mid k ≡ bit_of old k) → Written mid new len (len + count) f
+    → length tail ≡ count → ((i : ℕ) (d : Bool) → i < count → get_or tail i d ≡ f (len + i)) → unpacked new 0 (len + count) ≡ unpacked old 0 len ++ tail
+written_end old mid new len count f tail kept written size bits = same_lists _ _ long each
+  where
+    front : length (unpacked old 0 len) ≡ len
+    front = length_unpacked old 0 len
+
+    long : length (unpacked new 0 (len + count)) ≡ length (unpacked old 0 len ++ tail)
+    long = omega (arith, length_unpacked new 0 (len + count), length-append (unpacked old 0 len) tail, size, front)
+
+    each : (k : ℕ) (d : Bool) → k < length (unpacked new 0 (len + count)) → get_or (unpacked new 0 (len + count)) k d ≡ get_or (unpacked old 0 len ++ tail) k d
+    each k d l =
+        let small : k < len + count = omega (arith, length_unpacked new 0 (len + count)) in
+        let left : get_or (unpacked new 0 (len + count)) k d ≡ bit_of new k = get_unpacked new 0 (len + count) k d small ∙ ap (bit_of new) (zero-add k) in
+        elim (cases_lt k len) [
+          | inl before ↦ left ∙ written.1 k before ∙ kept k before ∙ sym (get_or_append_left (unpacked old 0 len) tail d k (omega (arith, front)) ∙ get_unpacked old 0 len k d before ∙ ap (bit_of old) (zero-add k))
+          | inr from ↦
+              let place : len + (k - len) ≡ k = omega arith in
+              left ∙ written.0 k from small ∙ sym (get_or-append_right (unpacked old 0 len) tail len k d front from ∙ bits (k - len) d (omega arith) ∙ ap f place)
+        ]
+
+-- ---- equal bits
+
+pub like_bit : (value : Bool) (i : ℕ) → i < 8 → eqb (bit_at (byte_like value) i) 1 ≡ value
 like_bit false i h = ap (λ (n : ℕ). eqb n 1) (bit_at-zero i)
 like_bit true zero h = refl
 like_bit true (suc zero) h = refl
@@ -44,26 +89,6 @@ like_bit true (suc (suc (suc (suc (suc zero))))) h = refl
 like_bit true (suc (suc (suc (suc (suc (suc zero)))))) h = refl
 like_bit true (suc (suc (suc (suc (suc (suc (suc zero))))))) h = refl
 like_bit true (suc (suc (suc (suc (suc (suc (suc (suc i)))))))) h = absurd (omega arith)
-
--- one byte more
-pub filled_byte : (old out : List ℕ) (start j byte : ℕ) (value : Bool) → start ≤ 8 * j → j < length out → byte ≡ byte_like value → Filled old out start (8 * j) value
-    → Filled old (set out j byte) start (8 * (j + 1)) value
-filled_byte old out start j byte value le within e f = (
-  λ k h l. elim (cases_lt k (8 * j)) [
-    | inl small ↦ other k (omega arith) ∙ f.0 k h small
-    | inr large ↦ here k large l
-  ],
-  λ k h. other k (omega arith) ∙ f.1 k h,
-  λ k h. other k (omega arith) ∙ f.2 k (omega arith),
-)
-  where
-    other : (k : ℕ) → k / 8 ≢ j → bit_of (set out j byte) k ≡ bit_of out k
-    other k apart = rw get_or-set_other
-
-    here : (k : ℕ) → 8 * j ≤ k → k < 8 * (j + 1) → bit_of (set out j byte) k ≡ value
-    here k h l =
-        let place : k / 8 ≡ j = omega arith in
-        rw (place, get_or-set_same, e) (like_bit value (k % 8) (omega arith))
 
 -- the booleans of the bytes
 pub filled_list : (old new : List ℕ) (start end len : ℕ) (value : Bool) → start ≤ end → end ≤ len → Filled old new start end value
@@ -101,26 +126,6 @@ filled_list old new start end len value le within f = same_lists _ _ long each
                 left ∙ f.2 k after ∙ sym (get_or-append_right (take start xs ++ replicate (end - start) value) (drop end xs) end k d second after
                 ∙ get_or-drop end xs (k - end) d ∙ ap (λ (n : ℕ). get_or xs n d) whole ∙ was)
           ]
-        ]
-
--- a run at the end
-pub filled_end : (old mid new : List ℕ) (len count : ℕ) (value : Bool) → ((k : ℕ) → k < len → bit_of mid k ≡ bit_of old k) → Filled mid new len (len + count) value
-    → unpacked new 0 (len + count) ≡ unpacked old 0 len ++ replicate count value
-filled_end old mid new len count value kept f = same_lists _ _ long each
-  where
-    size : length (unpacked old 0 len) ≡ len
-    size = length_unpacked old 0 len
-
-    long : length (unpacked new 0 (len + count)) ≡ length (unpacked old 0 len ++ replicate count value)
-    long = omega (arith, length_unpacked new 0 (len + count), length-append (unpacked old 0 len) (replicate count value), length-replicate count value, size)
-
-    each : (k : ℕ) (d : Bool) → k < length (unpacked new 0 (len + count)) → get_or (unpacked new 0 (len + count)) k d ≡ get_or (unpacked old 0 len ++ replicate count value) k d
-    each k d l =
-        let small : k < len + count = omega (arith, length_unpacked new 0 (len + count)) in
-        let left : get_or (unpacked new 0 (len + count)) k d ≡ bit_of new k = get_unpacked new 0 (len + count) k d small ∙ ap (bit_of new) (zero-add k) in
-        elim (cases_lt k len) [
-          | inl before ↦ left ∙ f.1 k before ∙ kept k before ∙ sym (get_or_append_left (unpacked old 0 len) (replicate count value) d k (omega (arith, size)) ∙ get_unpacked old 0 len k d before ∙ ap (bit_of old) (zero-add k))
-          | inr from ↦ left ∙ f.0 k from small ∙ sym (get_or-append_right (unpacked old 0 len) (replicate count value) len k d size from ∙ get_or-replicate count (k - len) value d (omega arith))
         ]
 
 -- a run of all of them

@@ -14,3 +14,4 @@ pub mod FirstFaults
 pub mod Runs
 pub mod StructKinds
 pub mod ValueFits
+pub mod Fields

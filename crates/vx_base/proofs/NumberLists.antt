@@ -68,12 +68,6 @@ numbers_more t bs i z h e =
 pub numbers_all : (t : PType) (bs : List ℕ) → take (length bs / byte_width t) (numbers t bs) ≡ numbers t bs
 numbers_all t bs = take_all (length bs / byte_width t) (numbers t bs) (omega (arith, length_numbers t bs))
 
--- a loop that has read up to their count has read all of them
-pub numbers_end : (t : PType) (bs : List ℕ) (width i : ℕ) (zs : List ℤ) → width ≡ byte_width t → i ≡ length bs / width → zs ≡ take i (numbers t bs) → zs ≡ numbers t bs
-numbers_end t bs width i zs wide end e =
-    let count : i ≡ length bs / byte_width t = end ∙ ap (λ (w : ℕ). length bs / w) wide in
-    e ∙ ap (λ (n : ℕ). take n (numbers t bs)) count ∙ numbers_all t bs
-
 -- a number before the end does not see what is added
 number_at-append : (t : PType) (bs cs : List ℕ) (n i : ℕ) → length bs ≡ n * byte_width t → i < n → number_at t (bs ++ cs) i ≡ number_at t bs i
 number_at-append t bs cs n i e h =

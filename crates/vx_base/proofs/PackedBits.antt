@@ -117,26 +117,6 @@ unpacked_rest bs cs from len start end le within room e = unpacked_part bs cs fr
         let whole : (from + start) / 8 * 8 + ((from + start) % 8 + j) ≡ from + start + j = omega arith in
         rw e (bit_of-drop bs ((from + start) / 8) (length bs) ((from + start) % 8 + j) (omega arith) (omega arith) (omega arith) ∙ ap (bit_of bs) whole)
 
--- one more of the booleans that are true in both
-pub both_more : (xs ys : List Bool) (i : ℕ) → i < length xs → i < length ys → both (take (i + 1) xs) (take (i + 1) ys) ≡ both (take i xs) (take i ys) ++ (bool_at xs i && bool_at ys i) ∷ []
-both_more xs ys i h g = rw add-one (by_suc xs ys i h g)
-  where
-    by_suc : (xs ys : List Bool) (i : ℕ) → i < length xs → i < length ys → both (take (suc i) xs) (take (suc i) ys) ≡ both (take i xs) (take i ys) ++ (bool_at xs i && bool_at ys i) ∷ []
-    by_suc [] ys i h g = absurd (omega arith)
-    by_suc (x ∷ xs) [] i h g = absurd (omega arith)
-    by_suc (x ∷ xs) (y ∷ ys) zero h g = refl
-    by_suc (x ∷ xs) (y ∷ ys) (suc i) h g = ap (λ (zs : List Bool). (x && y) ∷ zs) (by_suc xs ys i (omega arith) (omega arith))
-
--- one more place of a range that is filled
-pub filled_more : (xs : List Bool) (start i : ℕ) (value : Bool) → start ≤ i → i < length xs
-    → set (take start xs ++ replicate (i - start) value ++ drop i xs) i value ≡ take start xs ++ replicate (i + 1 - start) value ++ drop (i + 1) xs
-filled_more xs start i value le within =
-    let place : length (take start xs ++ replicate (i - start) value) ≡ i = omega (arith, length-append (take start xs) (replicate (i - start) value), length-take-le start xs (omega arith), length-replicate (i - start) value) in
-    let at : set (take start xs ++ replicate (i - start) value ++ get_or xs i false ∷ drop (i + 1) xs) i value ≡ take start xs ++ replicate (i - start) value ++ value ∷ drop (i + 1) xs = set_at (take start xs ++ replicate (i - start) value) (get_or xs i false) (drop (i + 1) xs) value i place in
-    let count : i + 1 - start ≡ i - start + 1 = omega arith in
-    let front : drop i xs ≡ get_or xs i false ∷ drop (i + 1) xs = drop_more xs i false within in
-    rw (front, at, count, ← replicate_more (i - start) value) (simp append_assoc)
-
 -- the same bits, where whole bytes before the first bit are left out
 pub unpacked_dropped : (bs cs : List ℕ) (from len : ℕ) → from + len ≤ 8 * length bs → cs ≡ slice_range bs (from / 8) (length bs) → unpacked cs (from % 8) len ≡ unpacked bs from len
 unpacked_dropped bs cs from len room e = unpacked-same cs bs (from % 8) from len each

@@ -103,10 +103,6 @@ count_more bs from len n h =
     let split = sum_by-append (λ (b : Bool). cond b 1 0) (take n (unpacked bs from len)) (take 8 (drop n (unpacked bs from len))) in
     rw (take-add n 8 (unpacked bs from len), split, ones) (ap (λ (bits : List Bool). count_by (λ b. b) (take n (unpacked bs from len)) + count_by (λ b. b) bits) (sym (rw eight at part)))
 
--- no more are counted than there are
-pub count_le : (bits : List Bool) (n : ℕ) → count_by (λ b. b) (take n bits) ≤ length bits
-count_le bits n = omega (arith, count_by-le-length (λ (b : Bool). b) (take n bits), length-take n bits)
-
 -- ---- `&` of two runs of bits, a byte at a time
 
 -- a bit of the byte from a place on
@@ -130,21 +126,6 @@ bit_of-and x y i = ap (λ (n : ℕ). eqb n 1) (bit_at_and x y i) ∙ by_bits (bi
     by_bits (suc (suc a)) b h g = absurd (omega arith)
     by_bits zero (suc (suc b)) h g = absurd (omega arith)
     by_bits (suc zero) (suc (suc b)) h g = absurd (omega arith)
-
--- one byte more of `&`
-pub and_more : (ls rs out : List ℕ) (from at j : ℕ) → length out ≡ j → ((k : ℕ) → k < 8 * j → bit_of out k ≡ (bit_of ls (from + k) && bit_of rs (at + k)))
-    → (k : ℕ) → k < 8 * (j + 1) → bit_of (out ++ bit_and (byte_from ls (from + 8 * j)) (byte_from rs (at + 8 * j)) ∷ []) k ≡ (bit_of ls (from + k) && bit_of rs (at + k))
-and_more ls rs out from at j e h k l = elim (cases_lt k (8 * j)) [
-  | inl before ↦ bit_of-append out (bit_and (byte_from ls (from + 8 * j)) (byte_from rs (at + 8 * j)) ∷ []) k (omega arith) ∙ h k before
-  | inr here ↦
-      let last : length out ≡ k / 8 = omega arith in
-      let small : k % 8 < 8 = omega arith in
-      let left : from + 8 * j + k % 8 ≡ from + k = omega arith in
-      let right : at + 8 * j + k % 8 ≡ at + k = omega arith in
-      ap (λ (n : ℕ). eqb (bit_at n (k % 8)) 1) (get_or_push out (bit_and (byte_from ls (from + 8 * j)) (byte_from rs (at + 8 * j))) 0 (k / 8) last)
-      ∙ bit_of-and (byte_from ls (from + 8 * j)) (byte_from rs (at + 8 * j)) (k % 8)
-      ∙ rw (bit_of-byte_from ls (from + 8 * j) (k % 8) small, bit_of-byte_from rs (at + 8 * j) (k % 8) small, left, right)
-]
 
 -- the whole of `&`
 pub and_all : (ls rs out : List ℕ) (from at len : ℕ) → ((k : ℕ) → k < len → bit_of out k ≡ (bit_of ls (from + k) && bit_of rs (at + k)))

@@ -155,16 +155,6 @@ eight_packed out f j byte within e before k h = elim (cases_lt k (8 * j)) [
       rw (place, get_or-set_same, e) (ap (λ (n : ℕ). eqb n 1) (bit_mask_l (eight_from f (8 * j)) (k % 8)) ∙ is_one (get_or (eight_from f (8 * j)) (k % 8) false) ∙ eight_at f (8 * j) (k % 8) low ∙ ap f same)
 ]
 
--- one bit more is packed
-pub bit_packed : (out new : List ℕ) (f : ℕ → Bool) (i : ℕ) → bit_of new i ≡ f i → ((k : ℕ) → k ≢ i → bit_of new k ≡ bit_of out k) → ((k : ℕ) → k < i → bit_of out k ≡ f k)
-    → (k : ℕ) → k < i + 1 → bit_of new k ≡ f k
-bit_packed out new f i here others before k h = elim (cases_lt k i) [
-  | inl small ↦ others k (λ e. absurd (omega arith)) ∙ before k small
-  | inr large ↦
-      let same : k ≡ i = omega arith in
-      ap (bit_of new) same ∙ here ∙ sym (ap f same)
-]
-
 -- the bits are those that were packed
 pub packed_all : (out : List ℕ) (bits : List Bool) (len : ℕ) → length bits ≡ len → ((k : ℕ) → k < len → bit_of out k ≡ bool_at bits k) → unpacked out 0 len ≡ bits
 packed_all out bits len long h = same_lists _ _ (length_unpacked out 0 len ∙ sym long) each

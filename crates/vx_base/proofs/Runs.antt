@@ -1,10 +1,11 @@
 -- What lies in the runs of a selection.
-use Rattle.std.proofs.Common.{ℕ, zero, suc, ◌+◌, ◌-◌, ◌*◌, ◌<◌, ◌≤◌, ◌≡◌, List, [], ◌∷◌, ◌++◌, length, get_or, take, drop, map, refl, sym, ◌∙◌, ap, subst, append_assoc, append-nil, arith}
+use Rattle.std.proofs.Common.{ℕ, zero, suc, ◌+◌, ◌-◌, ◌*◌, ◌<◌, ◌≤◌, ◌≡◌, List, [], ◌∷◌, ◌++◌, length, get_or, take, drop, map, refl, sym, ◌∙◌, ap, subst, append-nil, arith}
 use Rattle.std.specs.Prelude.{slice_range}
 use Rattle.std.specs.List.{All, flat_map, range_with_len}
 use Rattle.std.proofs.Math.Nat.{mul-le-mul_right}
-use Rattle.std.proofs.lemmas.List.{take-append-drop, drop-take, take-take, drop-drop, get_or-append-add, get_or_append_left, length-append, take_more}
-use Rattle.std.proofs.lemmas.List.FromFn.{length-range_with_len, get_or-range_with_len, map-range_with_len_more}
+use Rattle.std.proofs.lemmas.List.{take-append-drop, drop-take, take-take, drop-drop, get_or-append-add, get_or_append_left, get_or-take, get_or-drop, get_or_default, same_lists, length-append, take_more}
+use Rattle.std.proofs.lemmas.List.FromFn.{length-range_with_len, get_or-range_with_len, length-map-range_with_len, get_or-map-range_with_len}
+use Rattle.vx_base.proofs.ListParts.{length_part}
 use Rattle.std.proofs.lemmas.Grind.{flat_map-append}
 use Rattle.vx_base.specs.Selections.{run_positions, list_positions, bytes_of_position}
 
@@ -32,6 +33,19 @@ bytes_of_run width bs start (suc n) =
     ∙ parts_meet bs (start * width) ((start + 1) * width) ((start + 1 + n) * width) (omega arith) room
     ∙ ap (λ m. slice_range bs (start * width) m) end
 
+-- a part of a list, place by place
+pub part_by_places : {X : Type 0} (xs : List X) (d : X) (start end : ℕ) → start ≤ end → end ≤ length xs → slice_range xs start end ≡ map (λ k. get_or xs k d) (range_with_len start (end - start))
+part_by_places {X} xs d start end le within = same_lists _ _ (size ∙ sym (length-map-range_with_len (λ k. get_or xs k d) start (end - start))) each
+  where
+    size : length (slice_range xs start end) ≡ end - start
+    size = length_part xs start end le within
+
+    each : (k : ℕ) (e : X) → k < length (slice_range xs start end) → get_or (slice_range xs start end) k e ≡ get_or (map (λ k. get_or xs k d) (range_with_len start (end - start))) k e
+    each k e l =
+        let small : k < end - start = omega (arith, size) in
+        get_or-take (end - start) (drop start xs) k e small ∙ get_or-drop start xs k e ∙ get_or_default xs (start + k) e d (omega arith)
+        ∙ sym (get_or-map-range_with_len (λ k. get_or xs k d) start (end - start) k (start + k) e small refl)
+
 -- ---- what holds of each position
 
 pub All-left : {X : Type 0} (P : X → Type 0) (xs ys : List X) → All P (xs ++ ys) → All P xs
@@ -58,13 +72,6 @@ in_run P run k all low high =
 pub runs_more : {X Y : Type 0} (f : X → List Y) (xs : List X) (i : ℕ) (d : X) → i < length xs → flat_map f (take (i + 1) xs) ≡ flat_map f (take i xs) ++ f (get_or xs i d)
 runs_more f xs i d l =
     ap (flat_map f) (take_more xs i d l) ∙ flat_map-append f (take i xs) (get_or xs i d ∷ []) ∙ ap (λ ys. flat_map f (take i xs) ++ ys) (append-nil (f (get_or xs i d)))
-
--- one item more of a run
-pub grown : {X : Type 0} (f : ℕ → X) (before now : List X) (start k : ℕ) (x : X) → start ≤ k → now ≡ before ++ map f (range_with_len start (k - start)) → x ≡ f k
-    → now ++ x ∷ [] ≡ before ++ map f (range_with_len start (k + 1 - start))
-grown f before now start k x low e same =
-    let size : k + 1 - start ≡ (k - start) + 1 = omega arith in
-    rw (size, map-range_with_len_more f start (k - start) k (omega arith), e, same) (append_assoc before (map f (range_with_len start (k - start))) (f k ∷ []))
 
 -- ---- the elements of lists of one size
 

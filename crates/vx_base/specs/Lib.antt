@@ -8,6 +8,7 @@ pub mod Lends
 pub mod Refusals
 pub mod Rows
 pub mod Kinds
+pub mod Fields
 pub mod SameKind
 pub mod DTypes
 pub mod SameDType

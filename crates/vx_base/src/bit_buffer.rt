@@ -1,12 +1,12 @@
 // A shared run of booleans, packed eight to a byte.
 #![tactic(auto, using(crate::proofs::PackedBits::length_unpacked, crate::proofs::PackedBits::unpacked_none, crate::proofs::PackedBits::get_unpacked))]
 
-ghost use Rattle.std.specs.Prelude.{ℕ, ◌&&◌, ◌≡◌, ◌≤◌, ◌<◌, ◌+◌, ◌*◌, ◌/◌, ◌^◌, ◌↔◌, Bool, [], length, take, slice_range, count_by, slice_index, IsTrue, ◌%◌, true, false, replicate};
+ghost use Rattle.std.specs.Prelude.{ℕ, ◌&&◌, ◌≡◌, ◌≤◌, ◌<◌, ◌+◌, ◌*◌, ◌/◌, ◌^◌, ◌↔◌, Bool, [], length, take, slice_range, count_by, slice_index, IsTrue, ◌%◌, true, false, replicate, ◌-◌};
 ghost use Rattle.vx_base.specs.Refusals.{Gives};
 ghost use Rattle.std.specs.Bool.{beq};
 ghost use Rattle.std.specs.Cmp.{bool_eq_equiv, partial_equiv_from_equiv};
 ghost use Rattle.std.specs.Cmp.Lexicographic.{pointwise, lists_equiv};
-ghost use Rattle.vx_base.specs.Bits.{bit_of, unpacked, bool_at, both, byte_from, byte_of, byte_like};
+ghost use Rattle.vx_base.specs.Bits.{bit_of, unpacked, bool_at, both, byte_from, byte_of, byte_like, Written};
 
 use crate::bit_buffer_mut::{fill_bits, put_bit};
 use crate::byte_buffer::ByteBuffer;
@@ -76,6 +76,64 @@ pub(crate) fn byte_like(value: bool) -> u8
     ensures { result ≡ byte_like value }
 {
     if value { 255 } else { 0 }
+}
+
+// Bit `place` of the bytes.
+#[inline]
+fn read_bit(bytes: &[u8], place: usize) -> bool
+    requires { place / 8 < length bytes.now }
+    ensures { result ≡ bit_of bytes.now place }
+{
+    (bytes[place / 8] >> (place % 8)) & 1 == 1
+}
+
+// Copies the bits of the source from place `from` on to the places from `at` on: those of the
+// places from `start` up to, but not at, `end`, one by one.
+fn copy_each(source: &[u8], from: usize, out: &mut [u8], at: usize, start: usize, end: usize)
+    requires ordered { (at ≤ start) × (start ≤ end) }
+    requires source { from + (end - at) ≤ 8 * length source.now }
+    requires room { end ≤ 8 * length out.old }
+    requires fits { from + (end - at) < 2 ^ 64 }
+    ensures len { length out.new ≡ length out.old }
+    ensures written { Written out.old out.new start end (λ k. bit_of source.now (from + (k - at))) }
+{
+    for k in start..end {
+        put_bit(out, k, read_bit(source, from + (k - at)));
+    }
+}
+
+// The same of the bytes from `first` up to, but not at, `last`, a byte at a time.
+fn copy_bytes(source: &[u8], from: usize, out: &mut [u8], at: usize, first: usize, last: usize)
+    requires ordered { (at ≤ 8 * first) × (first ≤ last) }
+    requires room { last ≤ length out.old }
+    requires counted { 8 * last < 2 ^ 64 }
+    requires fits { from + (8 * last - at) < 2 ^ 64 }
+    ensures len { length out.new ≡ length out.old }
+    ensures written { Written out.old out.new (8 * first) (8 * last) (λ k. bit_of source.now (from + (k - at))) }
+{
+    for j in first..last {
+        out[j] = byte_from(source, from + (8 * j - at));
+    }
+}
+
+// The same of the places from `at` up to, but not at, `end`, the whole bytes between at once.
+fn copy_bits(source: &[u8], from: usize, out: &mut [u8], at: usize, end: usize)
+    requires ordered { at ≤ end }
+    requires source { from + (end - at) ≤ 8 * length source.now }
+    requires room { end ≤ 8 * length out.old }
+    requires fits { from + (end - at) < 2 ^ 64 }
+    ensures len { length out.new ≡ length out.old }
+    ensures written { Written out.old out.new at end (λ k. bit_of source.now (from + (k - at))) }
+{
+    let first = at.div_ceil(8);
+    let last = end / 8;
+    if last <= first {
+        copy_each(source, from, out, at, at, end);
+        return;
+    }
+    copy_each(source, from, out, at, at, 8 * first);
+    copy_bytes(source, from, out, at, first, last);
+    copy_each(source, from, out, at, 8 * last, end);
 }
 
 // Writes these booleans, eight to a byte.
@@ -338,6 +396,18 @@ impl BitBuffer {
     {
         let BitBuffer { bytes, offset, len } = self;
         (offset, len, bytes)
+    }
+
+    // Copies the booleans from place `start` on to the bits of `out` from `at` up to, but not at,
+    // `end`.
+    pub(crate) fn copy_to(&self, start: usize, out: &mut [u8], at: usize, end: usize)
+        requires ordered { at ≤ end }
+        requires source { start + (end - at) ≤ length self.now }
+        requires room { end ≤ 8 * length out.old }
+        ensures len { length out.new ≡ length out.old }
+        ensures written { Written out.old out.new at end (λ k. bool_at self.now (start + (k - at))) }
+    {
+        copy_bits(self.bytes.as_slice(), self.offset + start, out, at, end);
     }
 
     // Whether the two, which are as long, have the same booleans in their whole bytes.

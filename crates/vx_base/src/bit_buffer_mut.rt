@@ -1,7 +1,7 @@
 // A run of booleans that grows.
 #![tactic(auto, using(crate::proofs::PackedBits::length_unpacked, crate::proofs::PackedBits::unpacked_none, crate::proofs::PackedBits::get_unpacked))]
 
-ghost use Rattle.std.specs.Prelude.{◌≡◌, ◌≢◌, ◌≤◌, ◌<◌, ◌+◌, ◌-◌, ◌/◌, ◌*◌, ◌^◌, ℕ, Bool, true, false, [], ◌∷◌, ◌++◌, length, take, drop, replicate, slice_set, OnOk, OnErr, IsOkUnless};
+ghost use Rattle.std.specs.Prelude.{◌≡◌, ◌≢◌, ◌≤◌, ◌<◌, ◌+◌, ◌-◌, ◌/◌, ◌*◌, ◌^◌, ℕ, Bool, true, false, [], ◌∷◌, ◌++◌, length, take, drop, replicate, slice_set, slice_range, OnOk, OnErr, IsOkUnless};
 ghost use Rattle.vx_base.specs.Refusals.{Gives};
 ghost use Rattle.vx_base.specs.Bits.{bit_of, Filled};
 ghost use Rattle.vx_base.specs.declared.errors.VortexError.TheVariants.{Memory};
@@ -160,6 +160,33 @@ impl BitBufferMut {
         self.bytes.resize(room, 0)?;
         fill_bits(&mut self.bytes, self.len, end, value);
         self.len = end;
+        Ok(())
+    }
+
+    /// Adds booleans of a buffer at the end: those from place `start` up to, but not at, place
+    /// `end`. Asks that `start` is at most `end`, and `end` at most the buffer's length. Fails only
+    /// for want of memory, also where the booleans could not be counted, and then they are what
+    /// they were.
+    pub fn append_slice(
+        &mut self,
+        bits: &BitBuffer,
+        start: usize,
+        end: usize,
+    ) -> Result<(), VortexError>
+        requires start_le_end { start ≤ end }
+        requires in_bounds { end ≤ length bits.now }
+        ensures ok { Gives result (λ _. self.new ≡ self.old ++ slice_range bits.now start end) }
+        ensures err { OnErr result (self.new ≡ self.old) }
+    {
+        let count = end - start;
+        if count > usize::MAX - self.len {
+            return Err(VortexError::Memory);
+        }
+        let total = self.len + count;
+        let room = total.div_ceil(8).max(self.bytes.len());
+        self.bytes.resize(room, 0)?;
+        bits.copy_to(start, &mut self.bytes, self.len, total);
+        self.len = total;
         Ok(())
     }
 

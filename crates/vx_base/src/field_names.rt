@@ -1,6 +1,8 @@
 // The names of the fields of a record.
 
-ghost use Rattle.std.specs.Prelude.{◌≡◌, ◌<◌, length, bytes_eq, map, slice_get, Some};
+ghost use Rattle.std.specs.Prelude.{◌≡◌, ◌<◌, length, bytes_eq, map, slice_get, ◌++◌, Some};
+ghost use Rattle.std.specs.List.{remove};
+ghost use Rattle.vx_base.specs.Fields.{place_of_name};
 ghost use Rattle.vx_base.specs.Refusals.{Gives};
 ghost use Rattle.std.specs.Cmp.{partial_equiv_from_equiv};
 ghost use Rattle.vx_base.specs.SameKind.{name_equiv};
@@ -113,6 +115,29 @@ impl FieldNames {
         &self.names.as_slice()[i]
     }
 
+    /// The place of the first of the names that is this one, if one is.
+    pub fn find(&self, name: &str) -> Option<usize>
+        ensures { result ≡ place_of_name self.now name.now }
+    {
+        for (i, other) in self.as_slice().iter().enumerate() {
+            if other.as_str() == name {
+                return Some(i);
+            }
+        }
+        None
+    }
+
+    // The names without name `i`, shared.
+    pub(crate) fn without(&self, alloc: Global, i: usize) -> Result<FieldNames, VortexError>
+        requires { i < length self.now }
+        ensures { Gives result (λ n. n ≡ remove self.now i) }
+    {
+        let mut rest = Vec::with_capacity(alloc, self.len())?;
+        share_names(alloc, &self.as_slice()[..i], &mut rest)?;
+        share_names(alloc, &self.as_slice()[i + 1..], &mut rest)?;
+        FieldNames::from_names(alloc, rest)
+    }
+
     // The names, to be read.
     pub(crate) fn as_slice(&self) -> &[FieldName]
         ensures { result.now ≡ self.now }
@@ -127,4 +152,18 @@ impl FieldNames {
         let names = self.names.try_clone(alloc)?;
         Ok(FieldNames { names })
     }
+}
+
+// Adds these names at the end, shared.
+fn share_names(
+    alloc: Global,
+    names: &[FieldName],
+    out: &mut Vec<FieldName>,
+) -> Result<(), VortexError>
+    ensures { Gives result (λ _. out.new.items ≡ out.old.items ++ names.now) }
+{
+    for name in names {
+        out.push(name.try_clone(alloc)?)?;
+    }
+    Ok(())
 }

@@ -188,7 +188,7 @@ fn bits_of_runs(
     picked.freeze()
 }
 
-// Appends the booleans from `start` up to `end`.
+// Appends the booleans from `start` up to `end`, none where there is none between.
 fn append_run(
     picked: &mut BitBufferMut,
     bits: &BitBuffer,
@@ -198,8 +198,8 @@ fn append_run(
     requires { All (λ k. k < length bits.now) (run_positions (start, end)) }
     ensures { Gives result (λ _. picked.new ≡ picked.old ++ map (bit_of_position bits.now) (run_positions (start, end))) }
 {
-    for position in start..end {
-        picked.append(bits.value(position))?;
+    if start < end {
+        picked.append_slice(bits, start, end)?;
     }
     Ok(())
 }

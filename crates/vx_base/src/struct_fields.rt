@@ -1,6 +1,8 @@
 // The fields of a record: their names and data types.
 
-ghost use Rattle.std.specs.Prelude.{◌≡◌, ◌<◌, ◌&&◌, length, bytes_eq, IfOk};
+ghost use Rattle.std.specs.Prelude.{◌≡◌, ◌<◌, ◌&&◌, ◌+◌, ◌++◌, length, map, take, drop, bytes_eq, IfOk};
+ghost use Rattle.std.specs.List.{remove};
+ghost use Rattle.vx_base.specs.Fields.{place_of_name, kind_count, kinds_without};
 ghost use Rattle.vx_base.specs.Refusals.{Gives};
 ghost use Rattle.vx_base.specs.DTypes.{dtype_meaning, field_names, field_kinds, kinds_of};
 ghost use Rattle.std.specs.Cmp.Lexicographic.{pointwise};
@@ -44,6 +46,28 @@ impl StructFields {
         self.dtypes.as_slice()
     }
 
+    /// The place of the first field of this name, if there is one.
+    pub fn find(&self, name: &str) -> Option<usize>
+        ensures { result ≡ place_of_name (field_names self.now) name.now }
+    {
+        self.names.find(name)
+    }
+
+    /// The fields without field `i`, counted from 0, shared. Asks that there is one. Fails only for
+    /// want of memory.
+    #[tactic(auto, using(crate::proofs::Fields::kind_count_of))]
+    pub fn without_field(&self, alloc: Global, i: usize) -> Result<StructFields, VortexError>
+        requires names { i < length (field_names self.now) }
+        requires kinds { i < kind_count (field_kinds self.now) }
+        ensures names { Gives result (λ f. field_names f ≡ remove (field_names self.now) i) }
+        ensures kinds { IfOk result (λ f. field_kinds f ≡ kinds_without i (field_kinds self.now)) }
+    {
+        let names = self.names.without(alloc, i)?;
+        let rest = dtypes_without(alloc, self.dtypes.as_slice(), i)?;
+        let dtypes = Rc::new(alloc, rest)?;
+        Ok(StructFields { names, dtypes })
+    }
+
     // Whether both have the same names and data types.
     #[cycle(same_dtype)]
     pub(crate) fn same(&self, other: &StructFields) -> bool
@@ -62,4 +86,25 @@ impl StructFields {
         let dtypes = self.dtypes.clone()?;
         Ok(StructFields { names, dtypes })
     }
+}
+
+// The data types without data type `i`, shared.
+fn dtypes_without(alloc: Global, dtypes: &[DType], i: usize) -> Result<Vec<DType>, VortexError>
+    requires { i < length dtypes.now }
+    ensures { Gives result (λ ds. map dtype_meaning ds.items ≡ map dtype_meaning (take i dtypes.now) ++ map dtype_meaning (drop (i + 1) dtypes.now)) }
+{
+    let mut rest = Vec::with_capacity(alloc, dtypes.len())?;
+    share_dtypes(alloc, &dtypes[..i], &mut rest)?;
+    share_dtypes(alloc, &dtypes[i + 1..], &mut rest)?;
+    Ok(rest)
+}
+
+// Adds these data types at the end, shared.
+fn share_dtypes(alloc: Global, dtypes: &[DType], out: &mut Vec<DType>) -> Result<(), VortexError>
+    ensures { Gives result (λ _. map dtype_meaning out.new.items ≡ map dtype_meaning out.old.items ++ map dtype_meaning dtypes.now) }
+{
+    for dtype in dtypes {
+        out.push(dtype.try_clone(alloc)?)?;
+    }
+    Ok(())
 }

@@ -1,10 +1,12 @@
 // Each public call once, on values from outside.
 
 use crate::{
-    BitBuffer, BitBufferMut, Buffer, BufferMut, ByteBuffer, DType, Mask, NativePType, Nullability,
-    PType, Selection, VortexError, first_fault_is_least, gather_bits, gather_numbers, get_then_put,
-    int_at, int_of, number_count, put_int, put_then_get, read_counts, slice_numbers, write_counts,
+    BitBuffer, BitBufferMut, Buffer, BufferMut, ByteBuffer, DType, FieldNames, Mask, NativePType,
+    Nullability, PType, Selection, StructFields, VortexError, first_fault_is_least, gather_bits,
+    gather_numbers, get_then_put, int_at, int_of, number_count, put_int, put_then_get, read_counts,
+    slice_numbers, write_counts,
 };
+use std::rc::Rc;
 
 // ---- integer types
 
@@ -193,6 +195,32 @@ fn data_types_are_shared(rt: HostRuntime) -> Result<(), VortexError> {
     Ok(())
 }
 
+#[test]
+fn equal_data_types(rt: HostRuntime) {
+    let plain = Nullability::NonNullable;
+    assert!(rt; DType::Primitive(PType::U8, plain) == DType::Primitive(PType::U8, plain));
+    assert!(rt; DType::Primitive(PType::U8, plain) != DType::Primitive(PType::I8, plain));
+    assert!(rt; DType::Utf8(plain) != DType::Utf8(Nullability::Nullable));
+}
+
+#[test]
+fn fields_by_name_and_place(rt: HostRuntime) -> Result<(), VortexError> {
+    let plain = Nullability::NonNullable;
+    let names = FieldNames::try_new(rt.alloc(), &["a", "b", "a"])?;
+    let dtypes = vec![in rt.alloc();
+        DType::Bool(plain),
+        DType::Utf8(plain),
+        DType::Binary(plain),
+    ]?;
+    let fields = StructFields::new(names, Rc::new(rt.alloc(), dtypes)?);
+    assert!(rt; fields.find("b") == Some(1) && fields.find("a") == Some(0));
+    assert!(rt; fields.find("c").is_none() && fields.names().len() == 3);
+    let rest = fields.without_field(rt.alloc(), 0)?;
+    assert!(rt; rest.names().get(0).as_str() == "b" && rest.find("a") == Some(1));
+    assert!(rt; rest.fields().len() == 2 && rest.fields()[1] == DType::Binary(plain));
+    Ok(())
+}
+
 // ---- bytes and numbers
 
 #[test]
@@ -376,6 +404,38 @@ fn filled_bits(rt: HostRuntime) -> Result<(), VortexError> {
     assert_eq!(rt; bits.len(), 9);
     bits.fill_range(2, 9, false);
     assert_eq!(rt; bits.freeze()?.true_count(), 2);
+    Ok(())
+}
+
+#[test]
+fn repeated_bits(rt: HostRuntime) -> Result<(), VortexError> {
+    assert_eq!(rt; BitBuffer::full(rt.alloc(), true, 11)?.true_count(), 11);
+    let (_, _, bytes) = BitBuffer::new_set(rt.alloc(), 11)?.into_inner();
+    assert!(rt; bytes.as_slice() == [0xff, 0x07].as_slice());
+    let unset = BitBuffer::new_unset(rt.alloc(), 9)?;
+    assert!(rt; unset.len() == 9 && unset.true_count() == 0);
+    Ok(())
+}
+
+#[test]
+fn appended_runs_of_bits(rt: HostRuntime) -> Result<(), VortexError> {
+    let mut bits = BitBufferMut::new_unset(rt.alloc(), 3)?;
+    bits.append_n(true, 10)?;
+    let more = BitBuffer::from_bools(rt.alloc(), &[true, false, true, true, false])?;
+    bits.append_slice(&more, 1, 4)?;
+    let (offset, len, bytes) = bits.freeze()?.into_inner();
+    assert!(rt; offset == 0 && len == 16 && bytes.as_slice() == [0xf8, 0xdf].as_slice());
+    Ok(())
+}
+
+#[test]
+fn appended_bytes_of_bits(rt: HostRuntime) -> Result<(), VortexError> {
+    let bytes = ByteBuffer::copy_from(rt.alloc(), &[0xac, 0x69, 0x35])?;
+    let source = BitBuffer::new_with_offset(rt.alloc(), bytes, 22, 2)?;
+    let mut bits = BitBufferMut::new_unset(rt.alloc(), 5)?;
+    bits.append_slice(&source, 1, 21)?;
+    let (_, len, bytes) = bits.freeze()?.into_inner();
+    assert!(rt; len == 25 && bytes.as_slice() == [0xa0, 0xa6, 0xd5, 0x00].as_slice());
     Ok(())
 }
 
