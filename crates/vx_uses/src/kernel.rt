@@ -1,15 +1,20 @@
 //! Columns that a kernel cuts, regroups and reads, whatever their layout.
 
-ghost use Rattle.std.specs.Prelude.{◌≡◌, ◌≤◌, true, count_by, IfOk, slice_range};
+ghost use Rattle.std.specs.Prelude.{◌≡◌, ◌<◌, ◌≤◌, ◌+◌, ◌-◌, true, count_by, is_some, replicate, IfOk, IsOkUnless, slice_range};
+ghost use Rattle.std.specs.Option.{option_map};
 ghost use Rattle.vx_base.specs.Kinds.{is_integers, is_nullable_kind, or_nullable};
-ghost use Rattle.vx_base.specs.Rows.{is_present};
-ghost use Rattle.vx_tree.specs.Meaning.{tree_len, kind_of, rows};
+ghost use Rattle.vx_base.specs.Refusals.{Refuses, or_else};
+ghost use Rattle.vx_base.specs.Rows.{is_present, list_in};
+ghost use Rattle.vx_base.specs.declared.errors.VortexError.TheVariants.{Memory};
+ghost use Rattle.vx_tree.specs.Faults.{slice_fault};
+ghost use Rattle.vx_tree.specs.Meaning.{tree_len, kind_of, row_at, rows};
 ghost use Rattle.vx_tree.specs.Operations.{picks, positions};
 
 use std::alloc::Global;
 use std::ops::Range;
-use vx_base::VortexError;
-use vx_tree::ArrayRef;
+use vx_base::{Scalar, VortexError};
+use vx_lists::ListViewArray;
+use vx_tree::{ArrayRef, TypedArray};
 
 /// A page of a column, in another order: the rows of `page` at the places that `order` names.
 pub fn ordered_page(
@@ -27,6 +32,51 @@ pub fn ordered_page(
 {
     let page = column.slice(alloc, page)?;
     page.take(alloc, order)
+}
+
+/// A page of a page: the rows of the inner range, counted from the start of the outer one.
+pub fn inner_page(
+    alloc: Global,
+    column: &ArrayRef,
+    outer: Range<usize>,
+    inner: Range<usize>,
+) -> Result<ArrayRef, VortexError>
+    ensures rows { IfOk result (λ a. rows a
+        ≡ slice_range (rows column.now) (outer.start + inner.start) (outer.start + inner.end)) }
+    ensures refuses { Refuses result (or_else
+        (slice_fault (tree_len column.now) outer.start outer.end)
+        (slice_fault (outer.end - outer.start) inner.start inner.end)) }
+{
+    let page = column.slice(alloc, outer)?;
+    Ok(page.slice(alloc, inner)?)
+}
+
+/// A column of one row, however often, which takes no more memory for more rows.
+pub fn repeated_row(alloc: Global, row: Scalar, len: usize) -> Result<ArrayRef, VortexError>
+    ensures rows { IfOk result (λ a. rows a ≡ replicate len row.row) }
+    ensures kind { IfOk result (λ a. kind_of a ≡ row.kind) }
+    ensures err { IsOkUnless result Memory }
+{
+    Ok(ArrayRef::constant(alloc, row, len)?)
+}
+
+/// The rows of list `i`, where it is not null.
+pub fn list_of_row(
+    alloc: Global,
+    lists: &ListViewArray,
+    i: usize,
+) -> Result<Option<ArrayRef>, VortexError>
+    requires { i < tree_len lists.now }
+    ensures present { IfOk result (λ list. is_some list ≡ is_present (row_at lists.now i)) }
+    ensures rows { IfOk result (λ list. option_map rows list ≡ list_in (row_at lists.now i)) }
+    ensures err { IsOkUnless result Memory }
+{
+    let array = lists.as_array();
+    let _formed = array.layout();
+    if !array.is_valid(alloc, i)? {
+        return Ok(None);
+    }
+    Ok(Some(lists.list_elements_at(alloc, i)?))
 }
 
 /// How many rows of a column of numbers are not null.

@@ -2,14 +2,15 @@
 
 use crate::converter::lists_end_to_end;
 use crate::first::{column, third_list};
-use crate::kernel::{ordered_page, valid_count};
+use crate::kernel::{inner_page, list_of_row, ordered_page, repeated_row, valid_count};
 use crate::reader::{Lists, column_of_bytes, nullable_column, read_lists};
 use crate::texts::text_of_row;
 use std::alloc::Global;
 use std::test::Fail;
-use vx_base::{BitBuffer, Buffer, ByteBuffer, Mask, VortexError};
+use vx_base::{BitBuffer, Buffer, ByteBuffer, Mask, Nullability, PType, Scalar, VortexError};
+use vx_leaves::BoolArray;
 use vx_lists::ListViewArray;
-use vx_tree::{ArrayRef, Validity};
+use vx_tree::{ArrayRef, TypedArray, Validity};
 use vx_views::BinaryView;
 
 // Whether these are the rows of a column of numbers.
@@ -23,6 +24,13 @@ fn has_numbers(array: &ArrayRef, wanted: &[Option<i128>]) -> bool {
         }
     }
     true
+}
+
+// Truth values, none of them null.
+fn column_of_bits(alloc: Global, items: &[bool]) -> Result<ArrayRef, VortexError> {
+    let bits = BitBuffer::from_bools(alloc, items)?;
+    let column = BoolArray::try_new(alloc, bits, Validity::NonNullable)?;
+    Ok(column.into_array())
 }
 
 #[test]
@@ -80,6 +88,35 @@ fn pages_are_ordered(rt: HostRuntime) -> Result<(), Fail> {
     let order = column::<u8>(alloc, &[2, 0, 0])?;
     let page = ordered_page(alloc, &column_of_five, 1..4, &order)?;
     assert!(rt; has_numbers(&page, &[Some(13), Some(11), Some(11)]));
+    let page = inner_page(alloc, &column_of_five, 1..4, 1..3)?;
+    assert!(rt; has_numbers(&page, &[Some(12), Some(13)]));
+    let refused = inner_page(alloc, &column_of_five, 1..4, 1..4);
+    assert!(rt; matches!(refused, Err(VortexError::OutOfBounds { index: 4, len: 3 })));
+    Ok(())
+}
+
+#[test]
+fn rows_repeat(rt: HostRuntime) -> Result<(), Fail> {
+    let seven = Scalar::int(7, PType::U8, Nullability::NonNullable);
+    let column = repeated_row(rt.alloc(), seven, 3)?;
+    assert!(rt; has_numbers(&column, &[Some(7), Some(7), Some(7)]));
+    Ok(())
+}
+
+#[test]
+fn rows_of_lists_are_their_elements(rt: HostRuntime) -> Result<(), Fail> {
+    let alloc = rt.alloc();
+    let elements = column::<i32>(alloc, &[1, 2, 3])?;
+    let offsets = column::<u8>(alloc, &[1, 0])?;
+    let sizes = column::<u8>(alloc, &[2, 3])?;
+    let valid = column_of_bits(alloc, &[true, false])?;
+    let lists = ListViewArray::try_new(alloc, elements, offsets, sizes, Validity::Array(valid))?;
+    assert!(rt; lists.len() == 2);
+    let Some(first) = list_of_row(alloc, &lists, 0)? else {
+        return Err(VortexError::HasNulls.into());
+    };
+    assert!(rt; has_numbers(&first, &[Some(2), Some(3)]));
+    assert!(rt; list_of_row(alloc, &lists, 1)?.is_none());
     Ok(())
 }
 

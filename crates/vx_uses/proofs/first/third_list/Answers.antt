@@ -1,4 +1,4 @@
-use Rattle.std.proofs.Common.{◌≡◌, ◌<◌, Some, ◌∙◌, ap, arith}
+use Rattle.std.proofs.Common.{◌≡◌, ◌<◌, Some, refl, ◌∙◌, ap, arith}
 use Rattle.std.specs.Prelude.{pos}
 use Rattle.vx_base.specs.Rows.{number_in}
 use Rattle.vx_uses.proofs.FirstLists.{IsFirst, IsThird, first_rebuilt, third_read}
@@ -7,25 +7,25 @@ use Rattle.vx_uses.proofs.first.third_list.Goals as goal
 pub list_elements_at-requires : goal.list_elements_at-requires
 list_elements_at-requires c =
     let is : IsFirst c.in_ok-rebuilt.rebuilt =
-    first_rebuilt c.in_ok-elements.elements c.in_ok-offsets.offsets c.in_ok-sizes.sizes c.in_ok-lists.lists c.in_ok-rebuilt.rebuilt c.in_ok-elements.ensures.numbers c.in_ok-offsets.ensures.numbers c.in_ok-sizes.ensures.numbers c.in_ok-lists.ensures.parts c.in_ok-rebuilt.ensures.rebuilt in
+    first_rebuilt c.in_ok-elements.elements c.in_ok-offsets.offsets c.in_ok-sizes.sizes c.in_ok-lists.lists c.in_ok-rebuilt.rebuilt c.in_ok-elements.ensures.numbers c.in_ok-offsets.ensures.numbers c.in_ok-sizes.ensures.numbers c.in_ok-lists.ensures.parts (c.in_ok-rebuilt.ensures.rebuilt refl) in
     omega (arith, is.len)
 
 pub offset_at-requires : goal.offset_at-requires
 offset_at-requires c =
     let is : IsFirst c.in_ok-rebuilt.rebuilt =
-    first_rebuilt c.in_ok-elements.elements c.in_ok-offsets.offsets c.in_ok-sizes.sizes c.in_ok-lists.lists c.in_ok-rebuilt.rebuilt c.in_ok-elements.ensures.numbers c.in_ok-offsets.ensures.numbers c.in_ok-sizes.ensures.numbers c.in_ok-lists.ensures.parts c.in_ok-rebuilt.ensures.rebuilt in
+    first_rebuilt c.in_ok-elements.elements c.in_ok-offsets.offsets c.in_ok-sizes.sizes c.in_ok-lists.lists c.in_ok-rebuilt.rebuilt c.in_ok-elements.ensures.numbers c.in_ok-offsets.ensures.numbers c.in_ok-sizes.ensures.numbers c.in_ok-lists.ensures.parts (c.in_ok-rebuilt.ensures.rebuilt refl) in
     omega (arith, is.len)
 
 pub int_at-requires-clause-in_bounds : goal.int_at-requires-clause-in_bounds
 int_at-requires-clause-in_bounds c =
     let is : IsFirst c.in_ok-rebuilt.rebuilt =
-    first_rebuilt c.in_ok-elements.elements c.in_ok-offsets.offsets c.in_ok-sizes.sizes c.in_ok-lists.lists c.in_ok-rebuilt.rebuilt c.in_ok-elements.ensures.numbers c.in_ok-offsets.ensures.numbers c.in_ok-sizes.ensures.numbers c.in_ok-lists.ensures.parts c.in_ok-rebuilt.ensures.rebuilt in
+    first_rebuilt c.in_ok-elements.elements c.in_ok-offsets.offsets c.in_ok-sizes.sizes c.in_ok-lists.lists c.in_ok-rebuilt.rebuilt c.in_ok-elements.ensures.numbers c.in_ok-offsets.ensures.numbers c.in_ok-sizes.ensures.numbers c.in_ok-lists.ensures.parts (c.in_ok-rebuilt.ensures.rebuilt refl) in
     let third : IsThird c.in_ok-third.third = third_read c.in_ok-rebuilt.rebuilt c.in_ok-third.third is c.in_ok-third.ensures.rows in
     omega (arith, third.len)
 
 pub returns-clause-read : goal.returns-clause-read
 returns-clause-read c =
     let is : IsFirst c.in_ok-rebuilt.rebuilt =
-    first_rebuilt c.in_ok-elements.elements c.in_ok-offsets.offsets c.in_ok-sizes.sizes c.in_ok-lists.lists c.in_ok-rebuilt.rebuilt c.in_ok-elements.ensures.numbers c.in_ok-offsets.ensures.numbers c.in_ok-sizes.ensures.numbers c.in_ok-lists.ensures.parts c.in_ok-rebuilt.ensures.rebuilt in
+    first_rebuilt c.in_ok-elements.elements c.in_ok-offsets.offsets c.in_ok-sizes.sizes c.in_ok-lists.lists c.in_ok-rebuilt.rebuilt c.in_ok-elements.ensures.numbers c.in_ok-offsets.ensures.numbers c.in_ok-sizes.ensures.numbers c.in_ok-lists.ensures.parts (c.in_ok-rebuilt.ensures.rebuilt refl) in
     let third : IsThird c.in_ok-third.third = third_read c.in_ok-rebuilt.rebuilt c.in_ok-third.third is c.in_ok-third.ensures.rows in
     (c.offset_at.ensures ∙ is.start, c.int_at.ensures.value ∙ ap number_in third.first)

@@ -8,4 +8,4 @@ pub returns-clause-rows : goal.returns-clause-rows
 returns-clause-rows g c =
     ap rows c.into_array.ensures.value
     ∙ rows-numbers g.T.NativePType.PTYPE (map g.T.Number.value c.in_ok-numbers.numbers) c.in_ok-column.column c.in_ok-column.ensures.parts
-    ∙ ap (map whole) c.in_ok-numbers.ensures.ok
+    ∙ ap (map whole) c.in_ok-numbers.ensures
