@@ -28,6 +28,7 @@ pub record IsFirstFault (count : ℕ) (o s : Tree) (row : ℕ) (fault : Refusal)
 -- what is told of the parts is so
 abbrev pub TellsFault : Tree → Tree → Tree → Lists → Type 0
 TellsFault e o s (Read lists) = lists ≡ list_view e o s non_nullable false
-TellsFault e o s (NegativeRow row) = IsFirstFault (tree_len e) o s row (negative row) × (IsNegative (whole_at o row) ⊎ IsNegative (whole_at s row))
+TellsFault e o s (NegativeRow row) =
+    IsFirstFault (tree_len e) o s row (negative row) × (IsNegative (whole_at o row) ⊎ IsNegative (whole_at s row))
 TellsFault e o s (EndsPast end) = (row : ℕ) × IsFirstFault (tree_len e) o s row (out_of_bounds end)
 TellsFault e o s (Refused refusal) = Unit {0}

@@ -72,6 +72,7 @@ pub fn list_of_row(
     ensures err { IsOkUnless result Memory }
 {
     let array = lists.as_array();
+    // its parts are well formed, so the list lies within the elements
     let _formed = array.layout();
     if !array.is_valid(alloc, i)? {
         return Ok(None);
