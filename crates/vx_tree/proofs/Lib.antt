@@ -6,3 +6,5 @@ pub mod Nulled
 pub mod Taken
 pub mod Fitting
 pub mod Worked
+pub mod WorkedViews
+pub mod Composed

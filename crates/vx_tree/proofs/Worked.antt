@@ -1,6 +1,9 @@
--- The worked lists and codes are well formed.
-use Rattle.std.proofs.Common.{ℕ, zero, suc, ◌+◌, ◌≤◌, ◌≡◌, true, false, [], ◌∷◌, refl, arith}
-use Rattle.std.specs.Prelude.{pos}
+-- The worked arrays are well formed.
+use Rattle.std.proofs.Common.{ℕ, zero, suc, ◌+◌, ◌<◌, ◌≤◌, ◌≡◌, Bool, true, false, List, [], ◌∷◌, refl, arith}
+use Rattle.std.specs.Prelude.{pos, ◌&&◌, nat_lt, slice_index, IsUtf8}
+use Rattle.std.proofs.lemmas.Str.{IsUtf8-from_ascii}
+use Rattle.std.proofs.lemmas.Bool.Decides.{nat_tests}
+use Rattle.vx_base.specs.Bytes.{AreBytes}
 use Rattle.vx_base.specs.Integers.{numbers}
 use Rattle.vx_base.specs.Rows.{whole, count_in}
 use Rattle.vx_base.specs.declared.ptypes.PType.TheVariants.{U8}
@@ -44,3 +47,29 @@ are_codes (suc (suc zero)) = omega arith
 are_codes (suc (suc (suc zero))) = tt
 are_codes (suc (suc (suc (suc zero)))) = omega arith
 are_codes (suc (suc (suc (suc (suc i))))) = tt
+
+-- ---- bytes
+
+-- items that a test finds below a limit
+unfoldable pub are_below : ℕ → List ℕ → Bool
+are_below n [] = true
+are_below n (b ∷ bs) = nat_lt b n && are_below n bs
+
+both_true : (a b : Bool) → (a && b) ≡ true → (a ≡ true) × (b ≡ true)
+both_true true b h = (refl, h)
+both_true false b h = absurd (cc)
+
+is_below : (b n : ℕ) → nat_lt b n ≡ true → b < n
+is_below b n h = grind (arith, nat_tests)
+
+all_below : (n : ℕ) (bs : List ℕ) → 0 < n → are_below n bs ≡ true → (i : ℕ) → slice_index bs i < n
+unfolding are_below
+all_below n [] some h i = some
+all_below n (b ∷ bs) some h zero = is_below b n (both_true (nat_lt b n) (are_below n bs) h).0
+all_below n (b ∷ bs) some h (suc i) = all_below n bs some (both_true (nat_lt b n) (are_below n bs) h).1 i
+
+pub are_bytes : (bs : List ℕ) → are_below 256 bs ≡ true → AreBytes bs
+are_bytes bs h = all_below 256 bs (omega arith) h
+
+pub are_text : (bs : List ℕ) → are_below 128 bs ≡ true → IsUtf8 bs
+are_text bs h = IsUtf8-from_ascii bs (all_below 128 bs (omega arith) h)

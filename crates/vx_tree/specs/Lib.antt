@@ -7,5 +7,6 @@ pub mod Layouts
 pub mod Falls
 pub mod Faults
 pub mod Operations
+pub mod Composed
 pub mod Fitting
 pub mod Worked

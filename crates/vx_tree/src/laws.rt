@@ -7,6 +7,7 @@ ghost use Rattle.vx_tree.specs.Fitting.{AllFormed, RowsFit};
 ghost use Rattle.vx_tree.specs.Faults.{slice_fault, take_fault, take_overflow};
 ghost use Rattle.vx_tree.specs.Meaning.{tree_len, kind_of, row_at, rows};
 ghost use Rattle.vx_tree.specs.Operations.{picks};
+ghost use Rattle.vx_tree.specs.Composed.{SlicesCompose, SelectionsCompose};
 ghost use Rattle.vx_tree.specs.Worked.{signed_numbers, signed_rows, some_booleans, some_boolean_rows, all_null, all_null_rows, same_pair, same_pair_rows, dictionary_with_nulls, dictionary_rows, empty_lists, empty_list_rows, pairs, pair_rows, overlapping_lists, overlapping_rows, last_none_first, taken_rows, some_records, record_rows, some_texts, text_rows, some_bytes, bytes_rows, faulty_indices, negative_indices, null_indices};
 
 use crate::array::ArrayRef;
@@ -22,6 +23,16 @@ pub fn rows_fit_their_dtype(array: &ArrayRef)
 /// Of an array that is well formed at every depth, each row fits the array's data type.
 pub fn rows_fit_their_kind()
     ensures { RowsFit }
+{}
+
+/// Rows of a part that lie within it are a part of the array.
+pub fn slices_of_slices_are_slices()
+    ensures { SlicesCompose }
+{}
+
+/// Rows that are picked of picked rows are the rows at the positions that are picked.
+pub fn selections_of_selections_are_selections()
+    ensures { SelectionsCompose }
 {}
 
 /// The rows of small arrays of each layout are those that were worked by hand.
@@ -42,10 +53,16 @@ pub fn rows_of_worked_arrays()
 /// Such arrays are well formed at every depth, so that the law of their rows is of some use.
 pub fn worked_arrays_are_formed()
     ensures numbers { AllFormed signed_numbers }
+    ensures booleans { AllFormed some_booleans }
+    ensures nulls { AllFormed all_null }
+    ensures constant { AllFormed same_pair }
     ensures dictionary { AllFormed dictionary_with_nulls }
+    ensures empty_lists { AllFormed empty_lists }
     ensures fixed_lists { AllFormed pairs }
     ensures list_view { AllFormed overlapping_lists }
     ensures records { AllFormed some_records }
+    ensures texts { AllFormed some_texts }
+    ensures bytes { AllFormed some_bytes }
 {}
 
 /// The rows that small arrays are to give when taken, and the first fault of those that may not

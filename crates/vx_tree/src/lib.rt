@@ -18,6 +18,6 @@ mod validity;
 pub use crate::array::{ArrayRef, Layout, Validity};
 pub use crate::laws::{
     faults_of_worked_arrays, rows_fit_their_dtype, rows_fit_their_kind, rows_of_worked_arrays,
-    worked_arrays_are_formed,
+    selections_of_selections_are_selections, slices_of_slices_are_slices, worked_arrays_are_formed,
 };
 pub use crate::typed_array::TypedArray;

@@ -6,8 +6,9 @@ ghost use Rattle.vx_tree.specs.Parts.{valid_of};
 ghost use Rattle.vx_tree.specs.Tree.{bools, primitive, non_nullable, by_array};
 
 use crate::{
-    ArrayRef, Layout, Validity, faults_of_worked_arrays, rows_fit_their_kind,
-    rows_of_worked_arrays, worked_arrays_are_formed,
+    ArrayRef, Layout, Validity, faults_of_worked_arrays, rows_fit_their_dtype, rows_fit_their_kind,
+    rows_of_worked_arrays, selections_of_selections_are_selections, slices_of_slices_are_slices,
+    worked_arrays_are_formed,
 };
 use std::alloc::Global;
 use std::process::Abort;
@@ -253,8 +254,50 @@ fn slice_of_numbers(rt: HostRuntime) -> Result<(), VortexError> {
 fn slice_of_a_constant(rt: HostRuntime) -> Result<(), VortexError> {
     let scalar = Scalar::int(-7, PType::I16, Nullability::Nullable);
     let part = ArrayRef::constant(rt.alloc(), scalar, 5)?.slice(rt.alloc(), 1..3)?;
+    rows_fit_their_dtype(&part);
     assert!(rt; part.len() == 2 && part.is_valid(rt.alloc(), 1)?);
     assert!(rt; number(&rt, &part, 1) == Some(-7));
+    Ok(())
+}
+
+#[test]
+fn constant_taken_by_plain_indices(rt: HostRuntime) -> Result<(), VortexError> {
+    let scalar = Scalar::int(-7, PType::I16, Nullability::Nullable);
+    let array = ArrayRef::constant(rt.alloc(), scalar, 5)?;
+    let indices = numbers(rt.alloc(), PType::U8, &[4, 0, 4], Validity::NonNullable)?;
+    let taken = array.take(rt.alloc(), &indices)?;
+    assert!(rt; taken.len() == 3 && matches!(taken.layout(), Layout::Constant { .. }));
+    assert!(rt; number(&rt, &taken, 2) == Some(-7));
+    Ok(())
+}
+
+#[test]
+fn constant_taken_by_nullable_indices(rt: HostRuntime) -> Result<(), VortexError> {
+    let scalar = Scalar::bool(true, Nullability::NonNullable);
+    let array = ArrayRef::constant(rt.alloc(), scalar, 3)?;
+    let found = match array.take(rt.alloc(), &indices(rt.alloc())?) {
+        Err(VortexError::NotImplemented) => true,
+        _ => false,
+    };
+    assert!(rt; found);
+    Ok(())
+}
+
+#[test]
+fn indices_that_are_constant(rt: HostRuntime) -> Result<(), VortexError> {
+    let scalar = Scalar::int(1, PType::U64, Nullability::NonNullable);
+    let indices = ArrayRef::constant(rt.alloc(), scalar, 2)?;
+    let taken = lists(rt.alloc())?.take(rt.alloc(), &indices)?;
+    assert_eq!(rt; taken.len(), 2);
+    expect_list(&rt, rt.alloc(), &taken, 1, Some(&[1]))
+}
+
+#[test]
+fn numbers_taken_from_no_rows(rt: HostRuntime) -> Result<(), VortexError> {
+    let empty = numbers(rt.alloc(), PType::I32, &[], Validity::NonNullable)?;
+    let nulls = numbers(rt.alloc(), PType::U8, &[9, 9], Validity::AllInvalid)?;
+    let taken = empty.take(rt.alloc(), &nulls)?;
+    assert!(rt; taken.len() == 2 && !taken.is_valid(rt.alloc(), 1)?);
     Ok(())
 }
 
@@ -330,6 +373,23 @@ fn lengths_of_validities(rt: HostRuntime) -> Result<(), VortexError> {
 }
 
 #[test]
+fn check_of_validities(rt: HostRuntime) -> Result<(), VortexError> {
+    let validity = Validity::Array(booleans(rt.alloc(), &[true, false])?);
+    assert!(rt; validity.check(2).is_ok() && Validity::AllValid.check(7).is_ok());
+    let found = match validity.check(3) {
+        Err(
+            VortexError::LengthMismatch {
+                expected: 3,
+                found: 2,
+            },
+        ) => true,
+        _ => false,
+    };
+    assert!(rt; found);
+    Ok(())
+}
+
+#[test]
 fn shared_validity(rt: HostRuntime) -> Result<(), VortexError> {
     let validity = Validity::Array(booleans(rt.alloc(), &[true, false])?);
     assert_eq!(rt; validity.try_clone(rt.alloc())?.maybe_len(), Some(2));
@@ -358,5 +418,7 @@ fn laws() {
     rows_fit_their_kind();
     rows_of_worked_arrays();
     worked_arrays_are_formed();
+    slices_of_slices_are_slices();
+    selections_of_selections_are_selections();
     faults_of_worked_arrays();
 }

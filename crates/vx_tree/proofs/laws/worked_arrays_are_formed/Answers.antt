@@ -1,32 +1,32 @@
-use Rattle.std.proofs.Common.{ℕ, zero, suc, ◌<◌, ◌≡◌, Bool, true, false, List, [], ◌∷◌, refl, arith}
-use Rattle.std.specs.Prelude.{◌&&◌, nat_lt}
-use Rattle.std.proofs.lemmas.Bool.Decides.{nat_tests}
+use Rattle.std.proofs.Common.{[], ◌∷◌, refl, rules}
 use Rattle.vx_base.specs.Integers.{numbers}
-use Rattle.vx_base.specs.Bytes.{AreBytes}
-use Rattle.vx_tree.proofs.Worked.{overlapping_formed, are_codes}
+use Rattle.vx_tree.proofs.Worked.{overlapping_formed, are_codes, are_below, are_bytes}
+use Rattle.vx_tree.proofs.WorkedViews.{texts_formed, bytes_formed}
 use Rattle.vx_tree.proofs.laws.worked_arrays_are_formed.Goals as goal
-
--- bytes that a test finds to be bytes
-are_below : List ℕ → Bool
-are_below [] = true
-are_below (b ∷ bs) = nat_lt b 256 && are_below bs
-
-both_true : (a b : Bool) → (a && b) ≡ true → (a ≡ true) × (b ≡ true)
-both_true true b h = (refl, h)
-both_true false b h = absurd (cc)
-
-is_below : (b : ℕ) → nat_lt b 256 ≡ true → b < 256
-is_below b h = grind (arith, nat_tests)
-
-are_bytes : (bs : List ℕ) → are_below bs ≡ true → AreBytes bs
-unfolding are_below
-are_bytes [] h i = omega arith
-are_bytes (b ∷ bs) h zero = is_below b (both_true (nat_lt b 256) (are_below bs) h).0
-are_bytes (b ∷ bs) h (suc i) = are_bytes bs (both_true (nat_lt b 256) (are_below bs) h).1 i
 
 pub returns-clause-numbers : goal.returns-clause-numbers
 unfolding numbers are_below
 returns-clause-numbers c = ((tt, refl), are_bytes (254 ∷ 255 ∷ 1 ∷ 2 ∷ []) refl, tt)
+
+pub returns-clause-booleans : goal.returns-clause-booleans
+returns-clause-booleans c = (record { len = refl; kind = refl }, (tt, tt))
+
+pub returns-clause-nulls : goal.returns-clause-nulls
+unfolding numbers are_below
+returns-clause-nulls c = ((tt, refl), are_bytes (7 ∷ 8 ∷ []) refl, tt)
+
+pub returns-clause-constant : goal.returns-clause-constant
+returns-clause-constant c = (search rules, (search rules, tt))
+
+pub returns-clause-empty_lists : goal.returns-clause-empty_lists
+unfolding numbers are_below
+returns-clause-empty_lists c = ((tt, refl), ((tt, refl), are_bytes [] refl, tt), tt)
+
+pub returns-clause-texts : goal.returns-clause-texts
+returns-clause-texts c = texts_formed
+
+pub returns-clause-bytes : goal.returns-clause-bytes
+returns-clause-bytes c = bytes_formed
 
 pub returns-clause-dictionary : goal.returns-clause-dictionary
 unfolding numbers are_below
