@@ -15,3 +15,4 @@ pub mod Runs
 pub mod StructKinds
 pub mod ValueFits
 pub mod Fields
+pub mod Defaults

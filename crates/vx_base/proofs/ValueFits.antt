@@ -1,9 +1,9 @@
 -- Values fit a kind, or the fields of a record, where each of them fits from its place on.
-use Rattle.std.proofs.Common.{◌≡◌, ◌∙◌, ◌+◌, ◌<◌, ◌≤◌, ◌↔◌, sym, ap, subst, refl, arith, List, [], ◌∷◌, ℕ, zero, suc, max, length, drop, map, get_or, slice_index_or, Option, Some, Bool, IsTrue}
-use Rattle.std.proofs.lemmas.List.{drop_all, get_or_default}
+use Rattle.std.proofs.Common.{◌≡◌, ◌∙◌, ◌+◌, ◌<◌, ◌≤◌, ◌↔◌, sym, ap, subst, refl, arith, List, [], ◌∷◌, ℕ, zero, suc, length, drop, map, get_or, slice_index_or, Option, Some, Bool, IsTrue}
+use Rattle.std.proofs.lemmas.List.{get_or_default}
 use Rattle.vx_base.proofs.StructKinds.{from_place, struct_kind}
 use Rattle.vx_base.specs.Codes.{kind_depth, kinds_depth}
-use Rattle.vx_base.specs.Kinds.{Kind, Kinds, fixed_lists, records, is_nullable_kind, Fits, AllFit, FieldsFit, row_count}
+use Rattle.vx_base.specs.Kinds.{Kind, fixed_lists, records, is_nullable_kind, Fits, AllFit, FieldsFit, row_count}
 use Rattle.vx_base.specs.Rows.{Rows, rows_from}
 use Rattle.vx_base.specs.DTypes.{dtype_meaning, field_names, field_kinds, kinds_of}
 use Rattle.vx_base.specs.ValueRows.{option_row, row_under, unnamed, all_named, fields_named, ValuesFit, RecordFits}

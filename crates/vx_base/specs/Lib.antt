@@ -16,3 +16,4 @@ pub mod Codes
 pub mod ValueRows
 pub mod ValueFalls
 pub mod Scalars
+pub mod Defaults

@@ -1,7 +1,7 @@
 -- Whether two kinds are the same.
 use Rattle.std.specs.Prelude.{◌≡◌, ◌&&◌, ℕ, nat_eq, Bool, true, false, List, bytes_eq, refl}
 use Rattle.std.specs.Bool.{beq, Decides}
-use Rattle.std.specs.Cmp.{IsEquivalence, IsPartialEquivalence, equiv, booleans_Decides, unsigned_Decides}
+use Rattle.std.specs.Cmp.{IsEquivalence, equiv, booleans_Decides, unsigned_Decides}
 use Rattle.std.specs.Cmp.Lexicographic.{pointwise, pointwise_decides}
 use Rattle.std.proofs.Common.{ap, sym, ◌∙◌}
 use Rattle.std.proofs.lemmas.Bool.Decides.{same_from_decides}

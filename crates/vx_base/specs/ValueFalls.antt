@@ -8,7 +8,7 @@ use Rattle.vx_base.specs.declared.scalar_value.ScalarValues.TheDeep.{deep-Scalar
 use Rattle.vx_base.specs.declared.scalar_value.ScalarValues.TheShapes.{weighed-ScalarValues-values-at-1}
 use Rattle.vx_base.specs.Rows.{Rows, no_rows, row, rows_from}
 use Rattle.vx_base.specs.Codes.{row_depth, rows_depth, fields_depth}
-use Rattle.vx_base.specs.ValueRows.{unnamed, value_row, option_row}
+use Rattle.vx_base.specs.ValueRows.{unnamed, option_row}
 
 abbrev option_deep : Option ScalarValue → ℕ
 option_deep v = (weighed-ScalarValues-values-at-1).weight ScalarValue deep-ScalarValue v

@@ -3,7 +3,7 @@ use Rattle.std.specs.Prelude.{List, map, [], ◌∷◌, ℕ, Option, Some, None}
 use Rattle.vx_base.specs.declared.scalar_value.ScalarValue.{ScalarValue}
 use Rattle.vx_base.specs.declared.scalar_value.ScalarValue.TheVariants as value
 use Rattle.vx_base.specs.Rows.{Row, null, boolean, whole, bytes, text, items, record_of, Rows, no_rows, row, Fields, no_fields, field, rows_from}
-use Rattle.vx_base.specs.Kinds.{Kind, lists, fixed_lists, records, Kinds, no_kinds, kind, AllFit, FieldsFit}
+use Rattle.vx_base.specs.Kinds.{Kind, lists, fixed_lists, records, Kinds, kind, AllFit, FieldsFit}
 
 -- rows as the fields of a record that has no names yet
 abbrev pub unnamed : Rows → Fields

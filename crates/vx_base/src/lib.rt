@@ -7,6 +7,7 @@ mod buffer;
 mod buffer_mut;
 mod byte_buffer;
 mod counts;
+mod default_value;
 mod dtypes;
 mod errors;
 mod field_names;
@@ -18,6 +19,8 @@ mod nullability;
 mod numbers;
 mod ptypes;
 mod scalar;
+#[cfg(test)]
+mod scalar_tests;
 mod scalar_value;
 mod selection;
 mod struct_fields;

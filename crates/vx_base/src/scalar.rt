@@ -1,7 +1,8 @@
 // One row with its data type.
 
 ghost use Rattle.std.specs.Prelude.{◌≡◌, ◌↔◌, IsTrue, IfOk, IfErr};
-ghost use Rattle.vx_base.specs.Refusals.{Gives};
+ghost use Rattle.vx_base.specs.Refusals.{Gives, Refuses};
+ghost use Rattle.vx_base.specs.Defaults.{default_row, default_fault};
 ghost use Rattle.vx_base.specs.Rows.{null, boolean, whole, is_present, number_in, truth_of};
 ghost use Rattle.vx_base.specs.Kinds.{booleans, integers, is_nullable_kind, Fits};
 ghost use Rattle.vx_base.specs.Integers.{Holds};
@@ -10,11 +11,12 @@ ghost use Rattle.vx_base.specs.ValueRows.{row_under};
 ghost use Rattle.vx_base.specs.Scalars.{typed_row};
 ghost use Rattle.vx_base.specs.declared.errors.VortexError.TheVariants.{MismatchedTypes};
 
+use crate::default_value::{default_of, is_even};
 use crate::dtypes::DType;
 use crate::errors::VortexError;
 use crate::nullability::Nullability;
 use crate::ptypes::PType;
-use crate::scalar_value::{ScalarValue, fits};
+use crate::scalar_value::{ScalarValue, fits, share_value};
 use std::alloc::Global;
 use std::marker::Model;
 
@@ -56,6 +58,21 @@ impl Scalar {
         } else {
             Err(VortexError::MismatchedTypes)
         }
+    }
+
+    /// The row of a data type where none is given: null where it may stand, and else false, 0, an
+    /// empty text, byte list or list, a list of defaults of the fixed size, or a record of
+    /// defaults. Refuses with `MismatchedTypes` a data type with a record that has another number
+    /// of names than of data types, as none has whose fields `StructFields::new` gave.
+    pub fn default_value(alloc: Global, dtype: DType) -> Result<Scalar, VortexError>
+        ensures row { IfOk result (λ s. s ≡ typed_row (dtype_meaning dtype) (default_row (dtype_meaning dtype))) }
+        ensures refused { Refuses result (default_fault (dtype_meaning dtype)) }
+    {
+        if !is_even(&dtype) {
+            return Err(VortexError::MismatchedTypes);
+        }
+        let value = default_of(alloc, &dtype)?;
+        Ok(Scalar { dtype, value })
     }
 
     /// Null of a data type. Asks that null may stand under it.
@@ -141,10 +158,7 @@ impl Scalar {
         ensures { Gives result (λ s. s ≡ self.now) }
     {
         let dtype = self.dtype.try_clone(alloc)?;
-        let value = match &self.value {
-            Some(value) => Some(value.try_clone(alloc)?),
-            None => None,
-        };
+        let value = share_value(alloc, &self.value)?;
         Ok(Scalar { dtype, value })
     }
 }

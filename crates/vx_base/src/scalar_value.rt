@@ -105,6 +105,19 @@ impl ScalarValue {
     }
 }
 
+// The same value, or none, its parts shared.
+pub(crate) fn share_value(
+    alloc: Global,
+    value: &Option<ScalarValue>,
+) -> Result<Option<ScalarValue>, VortexError>
+    ensures { Gives result (λ v. v ≡ value.now) }
+{
+    match value {
+        Some(value) => Ok(Some(value.try_clone(alloc)?)),
+        None => Ok(None),
+    }
+}
+
 // Whether the row that a value is, or null for none, fits a data type.
 #[tactic(auto, using(crate::proofs::ValueFits::struct_depth))]
 #[cycle(fits)]

@@ -1,0 +1,150 @@
+-- The default of a kind fits it, and is what its parts' defaults make.
+use Rattle.std.proofs.Common.{◌≡◌, ◌∙◌, ◌+◌, ◌<◌, ◌&&◌, ◌++◌, sym, ap, subst, refl, arith, List, [], ◌∷◌, ℕ, zero, suc, pos, Bool, true, false, length, drop, take, map, replicate, get_or, slice_index_or, Option, Some, add-one}
+use Rattle.std.proofs.lemmas.List.{get_or_default}
+use Rattle.vx_base.proofs.StructKinds.{from_place, struct_kind}
+use Rattle.vx_base.specs.Kinds.{Kind, booleans, integers, texts, binaries, lists, fixed_lists, records, Kinds, no_kinds, kind, is_nullable_kind, Fits, AllFit, FieldsFit, row_count}
+use Rattle.vx_base.specs.Rows.{Row, items, record_of, Rows, row, rows_from, field}
+use Rattle.vx_base.specs.Defaults.{default_row, default_fields, is_even, even_fields}
+use Rattle.vx_base.specs.ValueRows.{option_row, row_under, all_named, fields_named, unnamed}
+use Rattle.vx_base.specs.DTypes.{dtype_meaning, field_names, field_kinds, kinds_of}
+use Rattle.vx_base.specs.declared.dtypes.DType.{DType, Struct as struct_dtype}
+use Rattle.vx_base.specs.declared.nullability.Nullability.{Nullability}
+use Rattle.vx_base.specs.declared.struct_fields.StructFields.{StructFields}
+use Rattle.vx_base.specs.declared.scalar_value.ScalarValue.TheVariants as value
+use Rattle.vx_base.specs.declared.ptypes.PType.{PType}
+use Rattle.vx_base.specs.declared.ptypes.PType.TheVariants.{U8, U16, U32, U64, I8, I16, I32, I64}
+use Rattle.vx_base.specs.Integers.{Holds}
+use Rattle.std.proofs.lemmas.Str.{IsUtf8-nil}
+use Rattle.vx_base.specs.declared.scalar_value.ScalarValue.{ScalarValue}
+use Rattle.std.specs.List.{AllZip}
+
+both : (a b : Bool) → (a && b) ≡ true → (a ≡ true) × (b ≡ true)
+both true true p = (refl, refl)
+both true false p = cc
+both false true p = cc
+both false false p = cc
+
+-- ---- lists of one row
+
+pub repeated_fit : (k : Kind) (r : Row) (n : ℕ) → Fits k r → AllFit k (rows_from (replicate n r))
+repeated_fit k r zero h = tt
+repeated_fit k r (suc n) h = (h, repeated_fit k r n h)
+
+pub repeated_count : (r : Row) (n : ℕ) → row_count (rows_from (replicate n r)) ≡ n
+repeated_count r zero = refl
+repeated_count r (suc n) = omega (arith, repeated_count r n)
+
+pub repeated_named : (k : Kind) (v : Option ScalarValue) (r : Row) (n : ℕ) → row_under k v ≡ r
+    → all_named k (rows_from (map option_row (replicate n v))) ≡ rows_from (replicate n r)
+repeated_named k v r zero same = refl
+repeated_named k v r (suc n) same = λ i. row (same i) (repeated_named k v r n same i)
+
+-- ---- the fields of records
+
+pub defaults_named : (ns : List (List ℕ)) (ds : List DType) (vs : List (Option ScalarValue)) → even_fields ns (kinds_of ds) ≡ true
+    → AllZip (λ d v. is_even (dtype_meaning d) ≡ true → row_under (dtype_meaning d) v ≡ default_row (dtype_meaning d)) ds vs
+    → fields_named ns (kinds_of ds) (unnamed (rows_from (map option_row vs))) ≡ default_fields ns (kinds_of ds)
+defaults_named [] [] [] even all = refl
+defaults_named [] [] (v ∷ vs) even all = absurd all
+defaults_named [] (d ∷ ds) vs even all = cc
+defaults_named (n ∷ ns) [] vs even all = cc
+defaults_named (n ∷ ns) (d ∷ ds) [] even all = absurd all
+defaults_named (n ∷ ns) (d ∷ ds) (v ∷ vs) even all =
+    let each = both (is_even (dtype_meaning d)) (even_fields ns (kinds_of ds)) even in
+    λ i. field n (all.0 each.0 i) (defaults_named ns ds vs each.1 all.1 i)
+
+-- ---- defaults fit
+
+zero_held : (t : PType) → Holds t (pos 0)
+zero_held U8 = (omega arith, omega arith)
+zero_held U16 = (omega arith, omega arith)
+zero_held U32 = (omega arith, omega arith)
+zero_held U64 = (omega arith, omega arith)
+zero_held I8 = (omega arith, omega arith)
+zero_held I16 = (omega arith, omega arith)
+zero_held I32 = (omega arith, omega arith)
+zero_held I64 = (omega arith, omega arith)
+
+mutual
+  pub default_fits : (k : Kind) → is_even k ≡ true → Fits k (default_row k)
+  default_fits (booleans true) even = refl
+  default_fits (booleans false) even = tt
+  default_fits (integers t true) even = refl
+  default_fits (integers t false) even = zero_held t
+  default_fits (texts true) even = refl
+  default_fits (texts false) even = (IsUtf8-nil, omega arith)
+  default_fits (binaries true) even = refl
+  default_fits (binaries false) even = ((λ i. omega arith), omega arith)
+  default_fits (lists k true) even = refl
+  default_fits (lists k false) even = tt
+  default_fits (fixed_lists k size true) even = refl
+  default_fits (fixed_lists k size false) even = (repeated_count (default_row k) size, repeated_fit k (default_row k) size (default_fits k even))
+  default_fits (records names ks true) even = refl
+  default_fits (records names ks false) even = default_fields_fit names ks even
+
+  default_fields_fit : (ns : List (List ℕ)) (ks : Kinds) → even_fields ns ks ≡ true → FieldsFit ns ks (default_fields ns ks)
+  default_fields_fit [] no_kinds even = tt
+  default_fields_fit [] (kind k ks) even = cc
+  default_fields_fit (n ∷ ns) no_kinds even = cc
+  default_fields_fit (n ∷ ns) (kind k ks) even =
+      let each = both (is_even k) (even_fields ns ks) even in
+      (refl, default_fits k each.0, default_fields_fit ns ks each.1)
+
+-- ---- read at a data type that is known
+
+pub even_lengths : (ns : List (List ℕ)) (ds : List DType) → ¬ (length ns ≡ length ds) → even_fields ns (kinds_of ds) ≡ false
+even_lengths [] [] apart = absurd (apart refl)
+even_lengths [] (d ∷ ds) apart = refl
+even_lengths (n ∷ ns) [] apart = refl
+even_lengths (n ∷ ns) (d ∷ ds) apart =
+    ap (λ x. is_even (dtype_meaning d) && x) (even_lengths ns ds (λ same. apart (ap suc same))) ∙ and_false (is_even (dtype_meaning d))
+  where
+    and_false : (b : Bool) → (b && false) ≡ false
+    and_false true = refl
+    and_false false = refl
+
+pub even_from : (ns : List (List ℕ)) (ds : List DType) (i : ℕ) (d : DType) → i < length ns → i < length ds → d ≡ slice_index_or ds i d
+    → even_fields (drop i ns) (kinds_of (drop i ds)) ≡ (is_even (dtype_meaning d) && even_fields (drop (i + 1) ns) (kinds_of (drop (i + 1) ds)))
+even_from ns ds i d in_ns in_ds at =
+    λ k. even_fields (from_place ns i (get_or ns i []) in_ns (get_or_default ns i [] (get_or ns i []) in_ns) k) (kinds_of (from_place ds i d in_ds at k))
+
+pub fixed_default : (h k : Kind) (size : ℕ) (n : Bool) (v : Option ScalarValue) (vs : List (Option ScalarValue)) (rs : Rows)
+    → h ≡ fixed_lists k size n → is_nullable_kind h ≡ false → (is_even k ≡ true → row_under k v ≡ default_row k)
+    → vs ≡ replicate size v → rs ≡ rows_from (map option_row vs) → is_even h ≡ true → row_under h (Some (value.List rs)) ≡ default_row h
+fixed_default h k size n v vs rs same plain each made rows =
+    let P : Kind → Type 0 = λ x. is_nullable_kind x ≡ false → is_even x ≡ true → row_under x (Some (value.List rs)) ≡ default_row x in
+    subst P (sym same) (known n) plain
+  where
+    known : (m : Bool) → is_nullable_kind (fixed_lists k size m) ≡ false → is_even (fixed_lists k size m) ≡ true
+        → row_under (fixed_lists k size m) (Some (value.List rs)) ≡ default_row (fixed_lists k size m)
+    known true p even = cc
+    known false p even = ap items (ap (all_named k) (rows ∙ ap (λ xs. rows_from (map option_row xs)) made) ∙ repeated_named k v (default_row k) size (each even))
+
+pub record_default : (d : DType) (fs : StructFields) (n : Nullability) (ds : List DType) (vs : List (Option ScalarValue)) (rs : Rows)
+    → d ≡ struct_dtype fs n → is_nullable_kind (dtype_meaning d) ≡ false → kinds_of ds ≡ field_kinds fs
+    → AllZip (λ d v. is_even (dtype_meaning d) ≡ true → row_under (dtype_meaning d) v ≡ default_row (dtype_meaning d)) ds vs
+    → rs ≡ rows_from (map option_row vs) → is_even (dtype_meaning d) ≡ true → row_under (dtype_meaning d) (Some (value.Record rs)) ≡ default_row (dtype_meaning d)
+record_default d fs n ds vs rs same plain kinds each rows =
+    let P : Kind → Type 0 = λ x. is_nullable_kind x ≡ false → is_even x ≡ true → row_under x (Some (value.Record rs)) ≡ default_row x in
+    let whole = struct_kind d fs n same ∙ ap (λ ks. records (field_names fs) ks (is_nullable_kind (dtype_meaning d))) (sym kinds) in
+    subst P (sym whole) (known (is_nullable_kind (dtype_meaning d))) plain
+  where
+    known : (m : Bool) → m ≡ false → is_even (records (field_names fs) (kinds_of ds) m) ≡ true
+        → row_under (records (field_names fs) (kinds_of ds) m) (Some (value.Record rs)) ≡ default_row (records (field_names fs) (kinds_of ds) m)
+    known true p even = cc
+    known false p even =
+        ap record_of (ap (λ x. fields_named (field_names fs) (kinds_of ds) (unnamed x)) rows ∙ defaults_named (field_names fs) ds vs even each)
+
+pub zip_push : {A B : Type 0} (R : A → B → Type 0) (xs : List A) (ys : List B) (x : A) (y : B) → AllZip R xs ys → R x y → AllZip R (xs ++ x ∷ []) (ys ++ y ∷ [])
+zip_push R [] [] x y all here = (here, tt)
+zip_push R [] (z ∷ ys) x y all here = absurd all
+zip_push R (w ∷ xs) [] x y all here = absurd all
+zip_push R (w ∷ xs) (z ∷ ys) x y all here = (all.0, zip_push R xs ys x y all.1 here)
+
+pub take_push : {X : Type 0} (xs : List X) (i : ℕ) (x : X) → i < length xs → x ≡ slice_index_or xs i x → take (i + 1) xs ≡ take i xs ++ x ∷ []
+take_push {X = X} xs i x inside at = rw add-one (by_suc xs i inside at)
+  where
+    by_suc : (ys : List X) (j : ℕ) → j < length ys → x ≡ slice_index_or ys j x → take (suc j) ys ≡ take j ys ++ x ∷ []
+    by_suc [] j within here = absurd (omega arith)
+    by_suc (y ∷ ys) zero within here = λ i. sym here i ∷ []
+    by_suc (y ∷ ys) (suc j) within here = ap (λ zs. y ∷ zs) (by_suc ys j (omega arith) here)

@@ -1,0 +1,107 @@
+// The value of a row where none is given.
+
+ghost use Rattle.std.specs.Prelude.{◌≡◌, ◌&&◌, true, replicate};
+ghost use Rattle.std.specs.List.{AllZip};
+ghost use Rattle.vx_base.specs.Refusals.{Gives};
+ghost use Rattle.vx_base.specs.DTypes.{dtype_meaning, field_names, field_kinds, kinds_of};
+ghost use Rattle.vx_base.specs.Defaults.{default_row, is_even, even_fields};
+ghost use Rattle.vx_base.specs.ValueRows.{row_under};
+
+use crate::byte_buffer::ByteBuffer;
+use crate::dtypes::DType;
+use crate::errors::VortexError;
+use crate::scalar_value::{ScalarValue, ScalarValues, share_value};
+use crate::struct_fields::StructFields;
+use std::alloc::Global;
+
+// Whether each record has as many names as data types.
+#[tactic(auto, using(crate::proofs::ValueFits::struct_depth))]
+#[cycle(is_even)]
+pub(crate) fn is_even(dtype: &DType) -> bool
+    ensures { result ≡ is_even (dtype_meaning dtype.now) }
+{
+    match dtype {
+        DType::Bool(_) | DType::Primitive(_, _) | DType::Utf8(_) | DType::Binary(_) => true,
+        DType::List(items, _) => is_even(items),
+        DType::FixedSizeList(items, _, _) => is_even(items),
+        DType::Struct(fields, _) => are_even(fields),
+    }
+}
+
+// The same of a record's fields.
+#[tactic(auto, using(crate::proofs::ValueFits::field_depth))]
+#[cycle(is_even)]
+fn are_even(fields: &StructFields) -> bool
+    ensures { result ≡ even_fields (field_names fields.now) (field_kinds fields.now) }
+{
+    let dtypes = fields.fields();
+    if fields.names().len() != dtypes.len() {
+        return false;
+    }
+    for dtype in dtypes {
+        if !is_even(dtype) {
+            return false;
+        }
+    }
+    true
+}
+
+// The default of a data type.
+#[tactic(auto, using(crate::proofs::ValueFits::struct_depth))]
+#[cycle(default)]
+pub(crate) fn default_of(alloc: Global, dtype: &DType) -> Result<Option<ScalarValue>, VortexError>
+    ensures { Gives result (λ v. is_even (dtype_meaning dtype.now) ≡ true
+        → row_under (dtype_meaning dtype.now) v ≡ default_row (dtype_meaning dtype.now)) }
+{
+    if dtype.is_nullable() {
+        return Ok(None);
+    }
+    match dtype {
+        DType::Bool(_) => Ok(Some(ScalarValue::Bool(false))),
+        DType::Primitive(_, _) => Ok(Some(ScalarValue::Int(0))),
+        DType::Utf8(_) => Ok(Some(ScalarValue::Text(ByteBuffer::empty(alloc)?))),
+        DType::Binary(_) => Ok(Some(ScalarValue::Bytes(ByteBuffer::empty(alloc)?))),
+        DType::List(_, _) => {
+            let none = ScalarValues::from_vec(alloc, Vec::new(alloc))?;
+            Ok(Some(ScalarValue::List(none)))
+        }
+        DType::FixedSizeList(items, size, _) => {
+            let item = default_of(alloc, items)?;
+            let rows = ScalarValues::from_vec(alloc, repeated(alloc, &item, *size as usize)?)?;
+            Ok(Some(ScalarValue::List(rows)))
+        }
+        DType::Struct(fields, _) => {
+            let values = ScalarValues::from_vec(alloc, defaults_of(alloc, fields.fields())?)?;
+            Ok(Some(ScalarValue::Record(values)))
+        }
+    }
+}
+
+// The defaults of data types, in order.
+#[tactic(auto, using(crate::proofs::ValueFits::field_depth))]
+#[cycle(default)]
+fn defaults_of(alloc: Global, dtypes: &[DType]) -> Result<Vec<Option<ScalarValue>>, VortexError>
+    ensures { Gives result (λ vs. AllZip (λ d v. is_even (dtype_meaning d) ≡ true
+        → row_under (dtype_meaning d) v ≡ default_row (dtype_meaning d)) dtypes.now vs.items) }
+{
+    let mut values = Vec::with_capacity(alloc, dtypes.len())?;
+    for dtype in dtypes {
+        values.push(default_of(alloc, dtype)?)?;
+    }
+    Ok(values)
+}
+
+// One value, so many times, its parts shared.
+fn repeated(
+    alloc: Global,
+    value: &Option<ScalarValue>,
+    count: usize,
+) -> Result<Vec<Option<ScalarValue>>, VortexError>
+    ensures { Gives result (λ vs. vs.items ≡ replicate count value.now) }
+{
+    let mut values = Vec::with_capacity(alloc, count)?;
+    for _made in 0..count {
+        values.push(share_value(alloc, value)?)?;
+    }
+    Ok(values)
+}
