@@ -55,13 +55,13 @@ def read_file(path: pathlib.Path) -> List[Case]:
             if line.startswith("```"):
                 name = f"{path.relative_to(ROOT)}:{number}: {title}"
                 words = line[3:].split()
-                if words[:1] != ["vx"] and path.name != "README.md":
+                is_case = words[:1] == ["vx"]
+                if not is_case and path.name != "README.md":
                     raise SystemExit(f"{name}: no case")
-                opened = (name, words, [])
+                opened = (name, words[1:], [])
         elif line == "```":
-            name, words, block = opened
-            if words[0] == "vx":
-                cases.append(read_case(name, words[1:], block))
+            if is_case:
+                cases.append(read_case(*opened))
             opened = None
         else:
             opened[2].append(line)
@@ -72,5 +72,6 @@ def read_file(path: pathlib.Path) -> List[Case]:
 
 def read_all() -> List[Case]:
     """The cases of every file."""
-    paths = sorted((ROOT / "cases").glob("*.md")) + [ROOT / "docs" / "SCRIPT.md", ROOT / "README.md"]
+    pages = [ROOT / "docs" / "SCRIPT.md", ROOT / "README.md"]
+    paths = sorted((ROOT / "cases").glob("*.md")) + pages
     return [case for path in paths for case in read_file(path)]

@@ -7,21 +7,21 @@ ghost use Rattle.vx_base.specs.declared.errors.VortexError.TheVariants.{Memory};
 use std::alloc::{AllocError, AllocFailed};
 use vx_base::VortexError;
 
-/// Why a script ends at a line.
+// Why a script ends at a line.
 #[derive(Clone, Copy, Debug, PartialEq, Eq)]
 pub(crate) enum LineFault {
-    /// The line is not in the grammar of the script language.
+    // The line is not in the grammar of the script language.
     Syntax,
-    /// The line names a register that is not made yet.
+    // The line names a register that is not made yet.
     NoRegister,
-    /// The line could not be read.
+    // The line could not be read.
     Read,
-    /// The call that the line makes is refused.
+    // The call that the line makes is refused.
     Refused(VortexError),
 }
 
 impl LineFault {
-    /// The name that the script prints.
+    // The name that the script prints.
     pub(crate) fn name(&self) -> &'static str {
         match self {
             LineFault::Syntax => "Syntax",

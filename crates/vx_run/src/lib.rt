@@ -3,9 +3,9 @@
 
 mod command;
 mod faults;
-mod leaves;
-mod lexemes;
 mod line_buffer;
+mod literals;
+mod operands;
 mod parts;
 mod registers;
 mod run;

@@ -7,10 +7,10 @@ ghost use Rattle.vx_run.specs.declared.faults.LineFault.TheVariants.{Syntax};
 use crate::faults::LineFault;
 use std::alloc::Global;
 
-/// The most bytes that a line may have, without its line feed.
+// The most bytes that a line may have, without its line feed.
 pub(crate) const MOST_LINE_BYTES: usize = 1_048_576;
 
-/// The line of a script that is being read: its number and its bytes so far.
+// The line of a script that is being read: its number and its bytes so far.
 #[derive(Debug, Drop)]
 pub(crate) struct LineBuffer {
     number: u64,
@@ -19,7 +19,7 @@ pub(crate) struct LineBuffer {
 }
 
 impl LineBuffer {
-    /// The first line of a script, of which nothing was read yet.
+    // The first line of a script, of which nothing was read yet.
     pub(crate) fn new(alloc: Global) -> LineBuffer
         ensures number { result.number ≡ 1 }
         ensures empty { result.bytes.items ≡ [] }
@@ -30,23 +30,23 @@ impl LineBuffer {
         }
     }
 
-    /// The line's number, from 1.
+    // The line's number, from 1.
     pub(crate) fn number(&self) -> u64
         ensures { result ≡ self.now.number }
     {
         self.number
     }
 
-    /// The bytes of the line that were read so far.
+    // The bytes of the line that were read so far.
     pub(crate) fn as_slice(&self) -> &[u8]
         ensures { result.now ≡ self.now.bytes.items }
     {
         self.bytes.as_slice()
     }
 
-    /// Adds bytes that were read.
-    ///
-    /// Refuses `Syntax` where the line would pass the length of a line, then memory.
+    // Adds bytes that were read.
+    //
+    // Refuses `Syntax` where the line would pass the length of a line, then memory.
     pub(crate) fn extend(&mut self, piece: &[u8]) -> Result<(), LineFault>
         ensures fits { OnOk result (length self.old.bytes.items + length piece.now ≤ MOST_LINE_BYTES) }
         ensures too_long { result ≡ Err Syntax → MOST_LINE_BYTES < length self.old.bytes.items + length piece.now }
@@ -61,7 +61,7 @@ impl LineBuffer {
         Ok(())
     }
 
-    /// Goes on to the next line, of which nothing was read yet.
+    // Goes on to the next line, of which nothing was read yet.
     pub(crate) fn advance(&mut self)
         ensures { self.new.bytes.items ≡ [] }
     {

@@ -7,7 +7,7 @@ use std::alloc::Global;
 use vx_base::VortexError;
 use vx_tree::{ArrayRef, Layout};
 
-/// Adds the parts of an array to a text, by its layout.
+// Adds the parts of an array to a text, by its layout.
 pub(crate) fn show_parts(
     alloc: Global,
     array: &ArrayRef,
@@ -20,6 +20,7 @@ pub(crate) fn show_parts(
             let ptype = *ptype;
             write!(text, "primitive {ptype} {len}")?;
         }
+        Layout::Constant { .. } => write!(text, "constant {len}")?,
         Layout::ListView {
             elements,
             offsets,
@@ -39,7 +40,7 @@ pub(crate) fn show_parts(
     Ok(())
 }
 
-/// Adds the integer type of an array of counts, and its rows.
+// Adds the integer type of an array of counts, and its rows.
 fn show_counts(alloc: Global, counts: &ArrayRef, text: &mut String) -> Result<(), VortexError>
     requires { IsCounts counts.now }
 {

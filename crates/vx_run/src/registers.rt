@@ -1,17 +1,16 @@
 // The arrays that a script has made, and the commands on them.
 
-use crate::command::{Command, RebuildMode};
+use crate::command::Command;
 use crate::faults::LineFault;
-use crate::leaves::{boolean_array, integer_array};
-use crate::lexemes::{RegisterWord, ValidityWord};
+use crate::operands::{RegisterWord, ValidityWord};
 use crate::parts::show_parts;
 use crate::show::show_array;
 use std::alloc::Global;
 use vx_base::VortexError;
 use vx_lists::{ListViewArray, ListViewRebuildMode};
-use vx_tree::{ArrayRef, Validity};
+use vx_tree::{ArrayRef, TypedArray, Validity};
 
-/// The arrays that a script has made, by the numbers of their registers.
+// The arrays that a script has made, by the numbers of their registers.
 pub(crate) struct Registers {
     arrays: Vec<ArrayRef>,
 }
@@ -28,46 +27,41 @@ impl Drop for Registers {
 }
 
 impl Registers {
-    /// No arrays.
+    // No arrays.
     pub(crate) fn new(alloc: Global) -> Registers {
         Registers {
             arrays: Vec::new(alloc),
         }
     }
 
-    /// Runs one command: makes the next register, or answers the line to print, which ends in a
-    /// line feed.
-    ///
-    /// Refuses `NoRegister` where an operand is not made yet, then what the call refuses.
+    // Runs one command: makes the next register, or answers the line to print, which ends in a
+    // line feed.
+    //
+    // Refuses `NoRegister` where an operand is not made yet, then what the call refuses.
     pub(crate) fn run(
         &mut self,
         alloc: Global,
-        command: &Command,
+        command: Command,
     ) -> Result<Option<String>, LineFault> {
         let array = match command {
-            Command::Integers {
-                nullability,
-                values,
-            } => integer_array(alloc, *nullability, values)?,
-            Command::Booleans {
-                nullability,
-                values,
-            } => boolean_array(alloc, *nullability, values)?,
+            Command::Literal(array) => array.ok_or(VortexError::HasNulls)?,
             Command::ListView {
                 elements,
                 offsets,
                 sizes,
                 validity,
-            } => self.list_view(alloc, *elements, *offsets, *sizes, *validity)?,
-            Command::Rebuild { array, mode } => self.rebuild(alloc, *array, *mode)?,
-            Command::Show { array } => return Ok(Some(self.show(alloc, *array)?)),
-            Command::Parts { array } => return Ok(Some(self.parts(alloc, *array)?)),
+            } => self.list_view(alloc, elements, offsets, sizes, validity)?,
+            Command::Slice { array, start, end } => self.get(array)?.slice(alloc, start..end)?,
+            Command::Take { array, indices } => self.get(array)?.take(alloc, self.get(indices)?)?,
+            Command::Rebuild { array, mode } => self.rebuild(alloc, array, mode)?,
+            Command::Show { array } => return Ok(Some(self.show(alloc, array)?)),
+            Command::Parts { array } => return Ok(Some(self.parts(alloc, array)?)),
         };
         self.arrays.push(array)?;
         Ok(None)
     }
 
-    /// The array of a register. Refuses `NoRegister` where it is not made yet.
+    // The array of a register. Refuses `NoRegister` where it is not made yet.
     fn get(&self, register: RegisterWord) -> Result<&ArrayRef, LineFault> {
         register
             .number()
@@ -75,7 +69,7 @@ impl Registers {
             .ok_or(LineFault::NoRegister)
     }
 
-    /// A list view over three registers.
+    // A list view over three registers.
     fn list_view(
         &self,
         alloc: Global,
@@ -98,7 +92,7 @@ impl Registers {
         Ok(list_view.into_array())
     }
 
-    /// The validity that a word names.
+    // The validity that a word names.
     fn validity(&self, alloc: Global, validity: ValidityWord) -> Result<Validity, LineFault> {
         Ok(match validity {
             ValidityWord::NonNull => Validity::NonNullable,
@@ -110,24 +104,21 @@ impl Registers {
         })
     }
 
-    /// A list view rebuilt. Refuses `MismatchedTypes` where the register is no list view.
+    // A list view rebuilt. Refuses `MismatchedTypes` where the register is no list view.
     fn rebuild(
         &self,
         alloc: Global,
         array: RegisterWord,
-        mode: RebuildMode,
+        mode: ListViewRebuildMode,
     ) -> Result<ArrayRef, LineFault> {
         let array = self.get(array)?.try_clone(alloc)?;
         let Ok(list_view) = ListViewArray::try_from_array(array) else {
             return Err(LineFault::Refused(VortexError::MismatchedTypes));
         };
-        let mode = match mode {
-            RebuildMode::ZeroCopyToList => ListViewRebuildMode::MakeZeroCopyToList,
-        };
         Ok(list_view.rebuild(alloc, mode)?.into_array())
     }
 
-    /// The rows of a register, and a line feed.
+    // The rows of a register, and a line feed.
     fn show(&self, alloc: Global, array: RegisterWord) -> Result<String, LineFault> {
         let array = self.get(array)?;
         let mut line = String::new(alloc);
@@ -136,7 +127,7 @@ impl Registers {
         Ok(line)
     }
 
-    /// The parts of a register, and a line feed.
+    // The parts of a register, and a line feed.
     fn parts(&self, alloc: Global, array: RegisterWord) -> Result<String, LineFault> {
         let array = self.get(array)?;
         let mut line = String::new(alloc);

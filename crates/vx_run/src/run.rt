@@ -1,6 +1,9 @@
 // Runs a script line by line as it is read.
 
-ghost use Rattle.std.specs.Prelude.{◌≤◌};
+ghost use Rattle.std.specs.Prelude.{◌≡◌, ◌≤◌};
+ghost use Rattle.vx_base.specs.declared.errors.VortexError.TheVariants.{Memory};
+ghost use Rattle.vx_run.specs.declared.faults.LineFault.TheVariants.{Refused};
+ghost use Rattle.vx_run.specs.declared.run.Stop.TheVariants.{Fault};
 
 use crate::command::parse_command;
 use crate::faults::LineFault;
@@ -9,33 +12,37 @@ use crate::registers::Registers;
 use std::alloc::{AllocError, Global};
 use std::io::{Cursor, Read, Write};
 
-/// The most read calls that a reader may answer before it ends.
+// The most read calls that a reader may answer before it ends.
 const MOST_READS: usize = 1_048_576;
 
-/// How many bytes are asked for at a time.
+// How many bytes are asked for at a time.
 const BLOCK_BYTES: usize = 65_536;
 
-/// Room for the longest line that tells a fault.
+// Room for the longest line that tells a fault.
 const FAULT_LINE_BYTES: usize = 64;
 
-/// Why a script stops before its end.
+// Why a script stops before its end.
 #[derive(Clone, Copy, Debug)]
 enum Stop {
-    /// A fault at the line that is being read or run.
+    // A fault at the line that is being read or run.
     Fault(LineFault),
-    /// The output could not be written.
+    // The output could not be written.
     Output,
 }
 
 impl From<LineFault> for Stop {
+    ghost from_gives = { λ fault stop. stop ≡ Fault fault };
+
     fn from(fault: LineFault) -> Stop {
         Stop::Fault(fault)
     }
 }
 
 impl From<AllocError> for Stop {
+    ghost from_gives = { λ _ stop. stop ≡ Fault (Refused Memory) };
+
     fn from(error: AllocError) -> Stop {
-        Stop::Fault(LineFault::from(error))
+        Stop::from(LineFault::from(error))
     }
 }
 
@@ -76,7 +83,7 @@ pub fn run_script<R: Read, W: Write>(alloc: Global, input: &mut R, output: &mut 
     }
 }
 
-/// A script that is being run: the line that is being read and the arrays made so far.
+// A script that is being run: the line that is being read and the arrays made so far.
 #[derive(Drop)]
 struct Script {
     line: LineBuffer,
@@ -84,7 +91,7 @@ struct Script {
 }
 
 impl Script {
-    /// A script of which nothing was read yet.
+    // A script of which nothing was read yet.
     fn new(alloc: Global) -> Script {
         Script {
             line: LineBuffer::new(alloc),
@@ -92,7 +99,7 @@ impl Script {
         }
     }
 
-    /// Reads the input to its end in blocks, and runs the lines of each.
+    // Reads the input to its end in blocks, and runs the lines of each.
     fn run_all<R: Read, W: Write>(
         &mut self,
         alloc: Global,
@@ -112,7 +119,7 @@ impl Script {
         Err(Stop::Fault(LineFault::Read))
     }
 
-    /// Runs the lines that end in a block, and keeps the beginning of the next.
+    // Runs the lines that end in a block, and keeps the beginning of the next.
     fn run_block<W: Write>(
         &mut self,
         alloc: Global,
@@ -131,10 +138,10 @@ impl Script {
         Ok(())
     }
 
-    /// Runs the line that was read, and goes on to the next.
+    // Runs the line that was read, and goes on to the next.
     fn run_line<W: Write>(&mut self, alloc: Global, output: &mut W) -> Result<(), Stop> {
         if let Some(command) = parse_command(alloc, self.line.as_slice())? {
-            if let Some(text) = self.registers.run(alloc, &command)? {
+            if let Some(text) = self.registers.run(alloc, command)? {
                 write_line(text.as_bytes(), output)?;
             }
         }
@@ -143,7 +150,7 @@ impl Script {
     }
 }
 
-/// Writes a whole line, its line feed included.
+// Writes a whole line, its line feed included.
 fn write_line<W: Write>(line: &[u8], output: &mut W) -> Result<(), Stop> {
     if output.write_all(line).is_err() || output.flush().is_err() {
         return Err(Stop::Output);
@@ -151,7 +158,7 @@ fn write_line<W: Write>(line: &[u8], output: &mut W) -> Result<(), Stop> {
     Ok(())
 }
 
-/// Writes the line that tells a fault. It takes no memory.
+// Writes the line that tells a fault. It takes no memory.
 fn write_fault<W: Write>(number: u64, fault: LineFault, output: &mut W) -> Result<(), Stop> {
     let mut line = Cursor::new([0u8; FAULT_LINE_BYTES]);
     let name = fault.name();

@@ -1,15 +1,21 @@
 // The rows of an array as text.
 
-ghost use Rattle.std.specs.Prelude.{◌≡◌, ◌<◌, ◌≤◌};
-ghost use Rattle.vx_tree.specs.Meaning.{tree_len, row_at};
-ghost use Rattle.vx_tree.specs.Formed.{IsCounts};
+ghost use Rattle.std.specs.Prelude.{ℕ, ◌≡◌, ◌+◌, ◌-◌, ◌<◌, ◌≤◌, length, slice_index, IfOk};
+ghost use Rattle.vx_base.specs.Integers.{numbers};
 ghost use Rattle.vx_base.specs.Rows.{count_in};
+ghost use Rattle.vx_tree.specs.Formed.{IsCounts, ValidCovers};
+ghost use Rattle.vx_tree.specs.Meaning.{tree_len, row_at};
+ghost use Rattle.vx_tree.specs.Parts.{valid_of};
+ghost use Rattle.vx_run.specs.Shown.{AreCountsFrom};
 
 use std::alloc::Global;
-use vx_base::VortexError;
-use vx_tree::{ArrayRef, Layout};
+use vx_base::{
+    BitBuffer, Buffer, ByteBuffer, Mask, NativePType, PType, Scalar, VortexError, read_counts,
+    slice_numbers,
+};
+use vx_tree::{ArrayRef, Layout, Validity};
 
-/// Adds all rows of an array to a text, as `[a,b,..]` without spaces.
+// Adds all rows of an array to a text, as `[a,b,..]` without spaces.
 pub(crate) fn show_array(
     alloc: Global,
     array: &ArrayRef,
@@ -18,7 +24,7 @@ pub(crate) fn show_array(
     show_rows(alloc, array, 0, array.len(), text)
 }
 
-/// Adds the rows from `start` up to `end`, in brackets.
+// Adds the rows from `start` up to `end`, in brackets.
 #[cycle(show)]
 fn show_rows(
     alloc: Global,
@@ -27,60 +33,223 @@ fn show_rows(
     end: usize,
     text: &mut String,
 ) -> Result<(), VortexError>
-    requires { end ≤ tree_len array.now }
+    requires ordered { start ≤ end }
+    requires in_bounds { end ≤ tree_len array.now }
 {
     text.push('[')?;
-    for row in start..end {
-        if row > start {
-            text.push(',')?;
+    match array.layout() {
+        Layout::Bool { bits, validity } => {
+            let mask = mask_of(alloc, validity, start, end)?;
+            show_bits(&bits.slice(alloc, start..end)?, &mask, text)?;
         }
-        show_row(alloc, array, row, text)?;
+        Layout::Primitive {
+            ptype,
+            bytes,
+            validity,
+        } => {
+            let mask = mask_of(alloc, validity, start, end)?;
+            let bytes = slice_numbers(alloc, bytes, *ptype, start..end)?;
+            show_numbers(alloc, *ptype, &bytes, &mask, text)?;
+        }
+        Layout::Constant { scalar, .. } => show_constant(alloc, scalar, end - start, text)?,
+        Layout::ListView {
+            elements,
+            offsets,
+            sizes,
+            validity,
+            ..
+        } => {
+            let mask = mask_of(alloc, validity, start, end)?;
+            let offsets = counts_of(alloc, offsets, start, end)?;
+            let sizes = counts_of(alloc, sizes, start, end)?;
+            show_lists(alloc, elements, &offsets, &sizes, &mask, text)?;
+        }
     }
     text.push(']')?;
     Ok(())
 }
 
-/// Adds one row: `null`, a truth value, a decimal number or a list.
-#[cycle(show)]
-fn show_row(
+// Adds truth values, null where the mask is false.
+fn show_bits(bits: &BitBuffer, mask: &Mask, text: &mut String) -> Result<(), VortexError>
+    requires { length mask.now ≡ length bits.now }
+{
+    for row in 0..bits.len() {
+        separate(row, text)?;
+        let word = match (mask.value(row), bits.value(row)) {
+            (false, _) => "null",
+            (true, false) => "false",
+            (true, true) => "true",
+        };
+        text.push_str(word)?;
+    }
+    Ok(())
+}
+
+// Adds the numbers of a type, null where the mask is false.
+fn show_numbers(
     alloc: Global,
-    array: &ArrayRef,
-    row: usize,
+    ptype: PType,
+    bytes: &ByteBuffer,
+    mask: &Mask,
     text: &mut String,
 ) -> Result<(), VortexError>
-    requires { row < tree_len array.now }
+    requires { length (numbers ptype bytes.now) ≡ length mask.now }
 {
-    if !array.is_valid(alloc, row)? {
-        text.push_str("null")?;
-        return Ok(());
+    match ptype {
+        PType::U8 => show_native::<u8>(alloc, bytes, mask, text),
+        PType::U16 => show_native::<u16>(alloc, bytes, mask, text),
+        PType::U32 => show_native::<u32>(alloc, bytes, mask, text),
+        PType::U64 => show_native::<u64>(alloc, bytes, mask, text),
+        PType::I8 => show_native::<i8>(alloc, bytes, mask, text),
+        PType::I16 => show_native::<i16>(alloc, bytes, mask, text),
+        PType::I32 => show_native::<i32>(alloc, bytes, mask, text),
+        PType::I64 => show_native::<i64>(alloc, bytes, mask, text),
     }
-    match array.layout() {
-        Layout::Bool { bits, .. } => {
-            let value = bits.value(row);
-            write!(text, "{value}")?;
-        }
-        Layout::Primitive { .. } => {
-            if let Some(number) = array.int_at(row) {
-                write!(text, "{number}")?;
-            }
-        }
-        Layout::ListView {
-            elements,
-            offsets,
-            sizes,
-            ..
-        } => {
-            let len = elements.len();
-            let start = count_at(offsets, row);
-            let size = count_at(sizes, row);
-            prove!(start <= len && size <= len - start);
-            show_rows(alloc, elements, start, start + size, text)?;
+}
+
+fn show_native<T: NativePType + Drop>(
+    alloc: Global,
+    bytes: &ByteBuffer,
+    mask: &Mask,
+    text: &mut String,
+) -> Result<(), VortexError>
+    requires { length (numbers T.PTYPE bytes.now) ≡ length mask.now }
+{
+    let numbers = Buffer::<T>::from_byte_buffer(alloc, bytes)?;
+    for (row, number) in numbers.as_slice().iter().enumerate() {
+        separate(row, text)?;
+        if mask.value(row) {
+            let number = number.as_i128();
+            write!(text, "{number}")?;
+        } else {
+            text.push_str("null")?;
         }
     }
     Ok(())
 }
 
-/// The count of a row of an array of counts.
+// Adds one row `count` times.
+fn show_constant(
+    alloc: Global,
+    scalar: &Scalar,
+    count: usize,
+    text: &mut String,
+) -> Result<(), VortexError> {
+    let mut word = String::new(alloc);
+    match scalar.as_int() {
+        _ if !scalar.is_valid() => word.push_str("null")?,
+        Some(number) => write!(word, "{number}")?,
+        None => {
+            let truth = scalar.as_bool();
+            write!(word, "{truth}")?;
+        }
+    }
+    for row in 0..count {
+        separate(row, text)?;
+        text.push_str(word.as_str())?;
+    }
+    Ok(())
+}
+
+// Adds lists of the elements, null where the mask is false.
+#[cycle(show)]
+fn show_lists(
+    alloc: Global,
+    elements: &ArrayRef,
+    offsets: &[usize],
+    sizes: &[usize],
+    mask: &Mask,
+    text: &mut String,
+) -> Result<(), VortexError>
+    requires sizes { length sizes.now ≡ length offsets.now }
+    requires mask { length mask.now ≡ length offsets.now }
+    requires within { (i : ℕ) → i < length offsets.now →
+        slice_index offsets.now i + slice_index sizes.now i ≤ tree_len elements.now }
+{
+    let len = elements.len();
+    for row in 0..offsets.len() {
+        separate(row, text)?;
+        if mask.value(row) {
+            let (start, size) = (offsets[row], sizes[row]);
+            prove!(start <= len && size <= len - start);
+            show_rows(alloc, elements, start, start + size, text)?;
+        } else {
+            text.push_str("null")?;
+        }
+    }
+    Ok(())
+}
+
+// Adds the comma before each row but the first.
+fn separate(row: usize, text: &mut String) -> Result<(), VortexError> {
+    if row > 0 {
+        text.push(',')?;
+    }
+    Ok(())
+}
+
+// Whether each row from `start` up to `end` is valid.
+#[tactic(auto, using(crate::proofs::Counts::masks))]
+fn mask_of(
+    alloc: Global,
+    validity: &Validity,
+    start: usize,
+    end: usize,
+) -> Result<Mask, VortexError>
+    requires ordered { start ≤ end }
+    requires in_bounds { ValidCovers (valid_of validity.now) end }
+    ensures { IfOk result (λ mask. length mask ≡ end - start) }
+{
+    let count = end - start;
+    match validity {
+        Validity::Array(rows) => {
+            Validity::Array(rows.slice(alloc, start..end)?).execute_mask(alloc, count)
+        }
+        validity => validity.execute_mask(alloc, count),
+    }
+}
+
+// The counts of the rows from `start` up to `end`.
+fn counts_of(
+    alloc: Global,
+    counts: &ArrayRef,
+    start: usize,
+    end: usize,
+) -> Result<Vec<usize>, VortexError>
+    requires counts { IsCounts counts.now }
+    requires ordered { start ≤ end }
+    requires in_bounds { end ≤ tree_len counts.now }
+    ensures { IfOk result (λ read. AreCountsFrom counts.now start (end - start) read.items) }
+{
+    match counts.layout() {
+        Layout::Primitive { ptype, bytes, .. } => {
+            let bytes = slice_numbers(alloc, bytes, *ptype, start..end)?;
+            read_counts(alloc, *ptype, bytes.as_slice())
+        }
+        _ => counts_by_row(alloc, counts, start, end),
+    }
+}
+
+// The same in any layout, row by row.
+fn counts_by_row(
+    alloc: Global,
+    counts: &ArrayRef,
+    start: usize,
+    end: usize,
+) -> Result<Vec<usize>, VortexError>
+    requires counts { IsCounts counts.now }
+    requires ordered { start ≤ end }
+    requires in_bounds { end ≤ tree_len counts.now }
+    ensures { IfOk result (λ read. AreCountsFrom counts.now start (end - start) read.items) }
+{
+    let mut read = Vec::with_capacity(alloc, end - start)?;
+    for i in 0..end - start {
+        read.push(count_at(counts, start + i))?;
+    }
+    Ok(read)
+}
+
+// The count of a row of an array of counts.
 fn count_at(counts: &ArrayRef, row: usize) -> usize
     requires counts { IsCounts counts.now }
     requires in_bounds { row < tree_len counts.now }

@@ -4,16 +4,16 @@ ghost use Rattle.std.specs.Prelude.{◌≡◌, ◌↔◌, ◌≢◌, ◌≤◌, 
 ghost use Rattle.std.specs.Iterator.{at_most};
 ghost use Rattle.vx_run.specs.Words.{IsDigit, decimal, with_digit};
 
-/// The words of a line, in order: the longest runs of bytes other than spaces.
-///
-/// A line of spaces alone has no words.
+// The words of a line, in order: the longest runs of bytes other than spaces.
+//
+// A line of spaces alone has no words.
 #[derive(Clone, Copy, Debug)]
 pub(crate) struct Words<'a> {
     rest: &'a [u8],
 }
 
 impl<'a> Words<'a> {
-    /// The words of `line`, which has no line feed at its end.
+    // The words of `line`, which has no line feed at its end.
     pub(crate) fn new(line: &'a [u8]) -> Words<'a> {
         Words { rest: line }
     }
@@ -37,14 +37,14 @@ impl<'a> Iterator for Words<'a> {
     }
 }
 
-/// Whether a word is decimal digits alone, at least one.
+// Whether a word is decimal digits alone, at least one.
 pub(crate) fn is_decimal(word: &[u8]) -> bool
     ensures { IsTrue result ↔ (word.now ≢ []) × All IsDigit word.now }
 {
     !word.is_empty() && word.iter().all(|byte| byte.is_ascii_digit())
 }
 
-/// The number that decimal digits write, or `None` where it passes `usize`.
+// The number that decimal digits write, or `None` where it passes `usize`.
 pub(crate) fn decimal_value(digits: &[u8]) -> Option<usize>
     requires { All IsDigit digits.now }
     ensures { MatchOption result (2 ^ 64 ≤ decimal digits.now) (λ number. number ≡ decimal digits.now) }
@@ -56,8 +56,8 @@ pub(crate) fn decimal_value(digits: &[u8]) -> Option<usize>
     Some(number)
 }
 
-/// The number whose digits are those of `number` and then `digit`, or `None` where it passes
-/// `usize`.
+// The number whose digits are those of `number` and then `digit`, or `None` where it passes
+// `usize`.
 fn append_digit(number: usize, digit: u8) -> Option<usize>
     requires { IsDigit digit }
     ensures { MatchOption result (2 ^ 64 ≤ with_digit number digit) (λ more. more ≡ with_digit number digit) }

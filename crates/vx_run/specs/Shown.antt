@@ -1,0 +1,10 @@
+-- What is read of an array to be printed.
+use Rattle.std.specs.Prelude.{◌≡◌, ◌+◌, ◌<◌, ℕ, List, length, slice_index}
+use Rattle.vx_base.specs.Rows.{count_in}
+use Rattle.vx_tree.specs.Tree.{Tree}
+use Rattle.vx_tree.specs.Meaning.{row_at}
+
+-- the counts of n rows, from one on
+pub record AreCountsFrom (t : Tree) (start n : ℕ) (counts : List ℕ) : Type 0 where
+  pub len : length counts ≡ n
+  pub each : (i : ℕ) → i < n → slice_index counts i ≡ count_in (row_at t (start + i))

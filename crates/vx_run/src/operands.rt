@@ -1,0 +1,134 @@
+// The kinds of word that a command takes.
+
+ghost use Rattle.std.specs.Prelude.{◌≡◌, IfSome};
+ghost use Rattle.vx_base.specs.Integers.{Holds};
+ghost use Rattle.vx_run.specs.Words.{decimal, integer_written};
+
+use crate::words::{decimal_value, is_decimal};
+use vx_base::{DType, NativePType, Nullability, PType};
+
+// The most digits that a number of a type may have.
+const MOST_DIGITS: usize = 20;
+
+// The data type that a word names, or `None` where it names none: an integer type or `bool`,
+// followed by `?` where a row may be null.
+pub(crate) fn dtype_named(word: &[u8]) -> Option<DType> {
+    let (name, nullability) = match word {
+        [name @ .., b'?'] => (name, Nullability::Nullable),
+        name => (name, Nullability::NonNullable),
+    };
+    let ptype = match name {
+        b"u8" => PType::U8,
+        b"u16" => PType::U16,
+        b"u32" => PType::U32,
+        b"u64" => PType::U64,
+        b"i8" => PType::I8,
+        b"i16" => PType::I16,
+        b"i32" => PType::I32,
+        b"i64" => PType::I64,
+        b"bool" => return Some(DType::Bool(nullability)),
+        _ => return None,
+    };
+    Some(DType::Primitive(ptype, nullability))
+}
+
+// A register, by the number that a word of decimal digits writes, however large.
+#[derive(Clone, Copy, Debug, PartialEq, Eq)]
+pub(crate) struct RegisterWord {
+    number: Option<usize>,
+}
+
+impl RegisterWord {
+    // The register that a word names, or `None` where the word is not decimal digits alone.
+    pub(crate) fn from_word(word: &[u8]) -> Option<RegisterWord> {
+        if !is_decimal(word) {
+            return None;
+        }
+        Some(RegisterWord {
+            number: decimal_value(word),
+        })
+    }
+
+    // The register's number, or `None` where it passes every count of registers.
+    pub(crate) fn number(self) -> Option<usize> {
+        self.number
+    }
+}
+
+// Which rows are null: `nonnull`, `allvalid`, `allinvalid` or a register.
+#[derive(Clone, Copy, Debug, PartialEq, Eq)]
+pub(crate) enum ValidityWord {
+    NonNull,
+    AllValid,
+    AllInvalid,
+    Register(RegisterWord),
+}
+
+impl ValidityWord {
+    // The validity that a word names, or `None` where it names none.
+    pub(crate) fn from_word(word: &[u8]) -> Option<ValidityWord> {
+        match word {
+            b"nonnull" => Some(ValidityWord::NonNull),
+            b"allvalid" => Some(ValidityWord::AllValid),
+            b"allinvalid" => Some(ValidityWord::AllInvalid),
+            _ => RegisterWord::from_word(word).map(ValidityWord::Register),
+        }
+    }
+}
+
+// The number that a word of decimal digits writes, or `None` where the word is no such number or
+// it passes `usize`.
+pub(crate) fn whole_number(word: &[u8]) -> Option<usize>
+    ensures { IfSome result (λ number. number ≡ decimal word.now) }
+{
+    if is_decimal(word) {
+        decimal_value(word)
+    } else {
+        None
+    }
+}
+
+// The integer that a word writes by an optional `-` and one to twenty digits, or `None` where the
+// word writes none or its digits pass `usize`.
+fn integer(word: &[u8]) -> Option<i128>
+    ensures { IfSome result (λ number. number ≡ integer_written word.now) }
+{
+    let (is_negative, digits) = match word {
+        [b'-', digits @ ..] => (true, digits),
+        digits => (false, digits),
+    };
+    if digits.len() > MOST_DIGITS || !is_decimal(digits) {
+        return None;
+    }
+    let magnitude = decimal_value(digits)? as i128;
+    Some(if is_negative { -magnitude } else { magnitude })
+}
+
+// The integer that a word writes, or `None` where it writes none or `ptype` does not hold it.
+pub(crate) fn integer_of(ptype: PType, word: &[u8]) -> Option<i128>
+    ensures written { IfSome result (λ number. number ≡ integer_written word.now) }
+    ensures held { IfSome result (Holds ptype) }
+{
+    let number = integer(word)?;
+    if ptype.holds(number) {
+        Some(number)
+    } else {
+        None
+    }
+}
+
+// The integer that a word writes, or `None` where it writes none or `T` does not hold it.
+pub(crate) fn integer_within<T: NativePType>(word: &[u8]) -> Option<T>
+    ensures { IfSome result (λ number. T.value number ≡ integer_written word.now) }
+{
+    T::from_i128(integer(word)?)
+}
+
+// The truth value that a word names, or `None` where it names none.
+pub(crate) fn truth_value(word: &[u8]) -> Option<bool> {
+    match word {
+        b"true" => Some(true),
+        b"false" => Some(false),
+        _ => None,
+    }
+}
