@@ -1,0 +1,224 @@
+"""A second reading of the rules of the script language, in rows: for comparison with `vx`."""
+import re
+from typing import Any, Dict, List, NamedTuple, Optional
+
+RANGES: Dict[str, range] = {f"u{bits}": range(0, 2**bits) for bits in (8, 16, 32, 64)}
+RANGES.update({f"i{bits}": range(-(2 ** (bits - 1)), 2 ** (bits - 1)) for bits in (8, 16, 32, 64)})
+REBUILT = {"u8": "u32", "u16": "u32", "u32": "u32", "u64": "u64"}
+REBUILT.update({"i8": "i32", "i16": "i32", "i32": "i32", "i64": "i64"})
+VALIDITIES = ("nonnull", "allvalid", "allinvalid")
+
+
+class Fault(Exception):
+    """A refusal, by its name."""
+
+
+class Array(NamedTuple):
+    layout: str  # bool, primitive, constant or listview
+    kind: str  # bool, list or an integer type
+    nullable: bool
+    rows: List[Any]  # None where a row is null
+    elements: Optional["Array"] = None
+    offsets: Optional["Array"] = None
+    sizes: Optional["Array"] = None
+    flag: bool = False
+    is_exact: bool = True  # whether a rule fixes each offset and size
+
+    def is_plain_integers(self) -> bool:
+        return self.kind in RANGES and not self.nullable
+
+
+def want(condition, fault: str):
+    if not condition:
+        raise Fault(fault)
+
+
+# ---- words
+
+
+def read_type(word: str):
+    kind = word[:-1] if word.endswith("?") else word
+    want(kind == "bool" or kind in RANGES, "Syntax")
+    return kind, word.endswith("?")
+
+
+def read_item(kind: str, word: str):
+    if word == "null":
+        return None
+    if kind == "bool":
+        want(word in ("true", "false"), "Syntax")
+        return word == "true"
+    want(re.fullmatch(r"-?[0-9]{1,20}", word), "Syntax")
+    want(abs(int(word)) < 2**64 and int(word) in RANGES[kind], "Syntax")
+    return int(word)
+
+
+def read_number(word: str, limit: Optional[int] = 2**64) -> int:
+    want(re.fullmatch(r"[0-9]+", word) and (limit is None or int(word) < limit), "Syntax")
+    return int(word)
+
+
+def read_register(word: str) -> int:
+    return read_number(word, None)
+
+
+# ---- calls
+
+
+def literal(layout: str, kind: str, nullable: bool, rows: List[Any]) -> Array:
+    want(nullable or None not in rows, "HasNulls")
+    return Array(layout, kind, nullable, rows)
+
+
+def list_rows(elements: Array, offsets: List[int], sizes: List[int], mask: List[bool]):
+    spans = zip(offsets, sizes, mask)
+    return [elements.rows[o : o + s] if there else None for o, s, there in spans]
+
+
+def list_view(elements: Array, offsets: Array, sizes: Array, validity) -> Array:
+    want(offsets.is_plain_integers() and sizes.is_plain_integers(), "MismatchedTypes")
+    count = len(offsets.rows)
+    if isinstance(validity, Array):
+        want(validity.kind == "bool" and not validity.nullable, "MismatchedTypes")
+        want(len(sizes.rows) == count and len(validity.rows) == count, "LengthMismatch")
+        mask = validity.rows
+    else:
+        want(len(sizes.rows) == count, "LengthMismatch")
+        mask = [validity != "allinvalid"] * count
+    for offset, size in zip(offsets.rows, sizes.rows):
+        want(offset >= 0 and size >= 0, "Negative")
+        want(offset + size < 2**64, "Overflow")
+        want(offset + size <= len(elements.rows), "OutOfBounds")
+    rows = list_rows(elements, offsets.rows, sizes.rows, mask)
+    return Array("listview", "list", validity != "nonnull", rows, elements, offsets, sizes)
+
+
+def rebuild(array: Array) -> Array:
+    want(array.layout == "listview", "MismatchedTypes")
+    if not array.rows:
+        return array._replace(flag=True)
+    if array.flag:
+        return array
+    offset_type = REBUILT[array.offsets.kind]
+    sizes = [0 if row is None else len(row) for row in array.rows]
+    want(sum(sizes) in RANGES[offset_type], "Overflow")
+    offsets = [sum(sizes[:i]) for i in range(len(sizes))]
+    rows = [item for row in array.rows if row is not None for item in row]
+    return array._replace(
+        elements=array.elements._replace(rows=rows),
+        offsets=Array("primitive", offset_type, False, offsets),
+        sizes=Array("primitive", array.sizes.kind, False, sizes),
+        flag=True,
+        is_exact=True,
+    )
+
+
+def slice_array(array: Array, start: int, end: int) -> Array:
+    want(end <= len(array.rows) and start <= end, "OutOfBounds")
+    array = array._replace(rows=array.rows[start:end])
+    if array.layout == "listview":
+        offsets = slice_array(array.offsets, start, end)
+        return array._replace(offsets=offsets, sizes=slice_array(array.sizes, start, end))
+    return array
+
+
+def take(array: Array, indices: Array) -> Array:
+    want(indices.kind in RANGES, "MismatchedTypes")
+    for index in indices.rows:
+        want(index is None or index >= 0, "Negative")
+        want(index is None or index < len(array.rows), "OutOfBounds")
+    want(array.layout != "constant" or not indices.nullable, "NotImplemented")
+    rows = [None if index is None else array.rows[index] for index in indices.rows]
+    taken = array._replace(rows=rows, nullable=array.nullable or indices.nullable)
+    if array.layout == "listview":
+        is_exact = array.is_exact and None not in indices.rows
+        there = Array("primitive", "u64", False, [index or 0 for index in indices.rows])
+        if is_exact:
+            taken = taken._replace(
+                offsets=take(array.offsets, there), sizes=take(array.sizes, there)
+            )
+        return taken._replace(flag=False, is_exact=is_exact)
+    return taken
+
+
+# ---- text
+
+
+def row_text(row) -> str:
+    if isinstance(row, list):
+        return "[" + ",".join(map(row_text, row)) + "]"
+    return "null" if row is None else str(row).lower()
+
+
+def parts_text(array: Array) -> str:
+    if array.layout == "listview":
+        counts = [f"{part.kind} {row_text(part.rows)}" for part in (array.offsets, array.sizes)]
+        flag = "true" if array.flag else "false"
+        count = len(array.elements.rows)
+        return f"listview offsets {counts[0]} sizes {counts[1]} elements {count} flag {flag}"
+    kind = f" {array.kind}" if array.layout == "primitive" else ""
+    return f"{array.layout}{kind} {len(array.rows)}"
+
+
+# ---- scripts
+
+
+def run_line(arrays: List[Array], words: List[str]) -> Optional[str]:
+    """Runs a line: makes the next array, or answers what it prints."""
+    name, *operands = words
+
+    def get(register: int) -> Array:
+        want(register < len(arrays), "NoRegister")
+        return arrays[register]
+
+    counts = {"ints": 2, "bools": 2, "const": 3, "listview": 4, "slice": 3, "take": 2, "rebuild": 2}
+    want(len(operands) == counts.get(name, 1), "Syntax")
+    if name in ("ints", "bools"):
+        kind, nullable = read_type(operands[0])
+        want((kind == "bool") == (name == "bools"), "Syntax")
+        items = [] if operands[1] == "-" else operands[1].split(",")
+        rows = [read_item(kind, item) for item in items]
+        arrays.append(literal("bool" if kind == "bool" else "primitive", kind, nullable, rows))
+    elif name == "const":
+        kind, nullable = read_type(operands[0])
+        item = read_item(kind, operands[1])
+        count = read_number(operands[2])
+        want(nullable or item is not None, "HasNulls")
+        arrays.append(literal("constant", kind, nullable, [item] * count))
+    elif name == "listview":
+        registers = [read_register(word) for word in operands[:3]]
+        validity = operands[3] if operands[3] in VALIDITIES else read_register(operands[3])
+        parts = [get(register) for register in registers]
+        arrays.append(list_view(*parts, validity if isinstance(validity, str) else get(validity)))
+    elif name == "slice":
+        register, start, end = read_register(operands[0]), *map(read_number, operands[1:])
+        arrays.append(slice_array(get(register), start, end))
+    elif name == "take":
+        registers = [read_register(word) for word in operands]
+        arrays.append(take(*[get(register) for register in registers]))
+    elif name == "rebuild":
+        register = read_register(operands[0])
+        want(operands[1] == "zctl", "Syntax")
+        arrays.append(rebuild(get(register)))
+    elif name in ("show", "parts"):
+        array = get(read_register(operands[0]))
+        return row_text(array.rows) if name == "show" else parts_text(array)
+    else:
+        raise Fault("Syntax")
+    return None
+
+
+def run_script(script: str) -> str:
+    """What a script prints."""
+    arrays: List[Array] = []
+    printed = []
+    for number, line in enumerate(script.split("\n"), 1):
+        words = [word for word in line.split(" ") if word]
+        try:
+            text = run_line(arrays, words) if words else None
+        except Fault as fault:
+            printed.append(f"error {number} {fault}")
+            break
+        if text is not None:
+            printed.append(text)
+    return "".join(line + "\n" for line in printed)
