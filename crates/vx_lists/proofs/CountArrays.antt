@@ -1,19 +1,20 @@
 -- Arrays of counts by their numbers.
-use Rattle.std.proofs.Common.{◌≡◌, ℕ, zero, suc, ◌+◌, ◌*◌, ◌/◌, ◌<◌, true, List, [], ◌∷◌, length, take, drop, map, get_or, refl, sym, ◌∙◌, ap, subst, arith}
-use Rattle.std.specs.Prelude.{ℤ, pos, negsuc, ◌≤ℤ◌}
-use Rattle.std.specs.List.{All}
-use Rattle.std.proofs.lemmas.Int.{ints}
-use Rattle.std.proofs.lemmas.List.{length-map, get_or-map, get_or-drop, get_or_default}
-use Rattle.std.proofs.lemmas.List.FromFn.{fill_by_all}
-use Rattle.vx_base.proofs.NumberBytes.{holds-number_of}
-use Rattle.vx_base.proofs.NumberLists.{length_numbers, get_numbers}
-use Rattle.vx_base.specs.Integers.{byte_width, number_at, numbers, Holds}
+use Rattle.std.proofs.Common.{◌≡◌, ℕ, ◌+◌, ◌*◌, ◌<◌, true, List, [], ◌∷◌, ◌++◌, zero-add, length, map, get_or, refl, sym, ◌∙◌, ap, subst, arith}
+use Rattle.std.specs.Prelude.{ℤ, pos, negsuc}
+use Rattle.std.specs.List.{All, range_with_len}
+use Rattle.std.proofs.lemmas.List.{length-map, get_or-map}
+use Rattle.std.proofs.lemmas.List.Elements.{All-push}
+use Rattle.std.proofs.lemmas.List.FromFn.{fill_by_all, map-range_with_len_more}
+use Rattle.std.proofs.lemmas.Simd.{map-map}
+use Rattle.vx_base.specs.Integers.{byte_width, numbers, Holds}
 use Rattle.vx_base.specs.Rows.{null, whole as whole_row, count_in}
 use Rattle.vx_base.specs.Kinds.{Kind, booleans, integers, texts, binaries, lists, fixed_lists, records, is_integers, is_plain_integers, integer_type}
 use Rattle.vx_base.specs.declared.ptypes.PType.{PType}
 use Rattle.vx_tree.specs.Tree.{Tree, primitive, Valid, non_nullable, all_valid, all_invalid, by_array}
-use Rattle.vx_tree.specs.Meaning.{kind_of, row_at, rows, number_nth}
-use Rattle.vx_tree.specs.Formed.{IsCounts}
+use Rattle.vx_base.specs.Selections.{number_of_position}
+use Rattle.vx_tree.specs.Meaning.{tree_len, kind_of, row_at, rows}
+use Rattle.vx_tree.specs.Formed.{IsCounts, WellFormed}
+use Rattle.vx_lists.specs.CountBytes.{HoldCounts}
 use Rattle.vx_lists.specs.ListViews.{counts_in, IsCountArray}
 
 -- plain integers are integers
@@ -36,9 +37,9 @@ map-count_in-whole (n ∷ counts) = ap (λ rest. n ∷ rest) (map-count_in-whole
 
 rows-by_numbers : (t : PType) (bs : List ℕ) → rows (primitive t bs non_nullable) ≡ map whole_row (numbers t bs)
 rows-by_numbers t bs =
-    let each : (k : ℕ) → k < length (numbers t bs) → get_or (map whole_row (numbers t bs)) k null ≡ whole_row (number_nth (numbers t bs) k) =
+    let each : (k : ℕ) → k < length (numbers t bs) → get_or (map whole_row (numbers t bs)) k null ≡ whole_row (number_of_position (numbers t bs) k) =
     λ k inside. get_or-map whole_row (numbers t bs) k (pos 0) null inside in
-    sym (fill_by_all (λ k. whole_row (number_nth (numbers t bs) k)) (map whole_row (numbers t bs)) (length (numbers t bs)) null (length-map (numbers t bs) whole_row) each)
+    sym (fill_by_all (λ k. whole_row (number_of_position (numbers t bs) k)) (map whole_row (numbers t bs)) (length (numbers t bs)) null (length-map (numbers t bs) whole_row) each)
 
 pub counts_in-primitive : (t : PType) (bs : List ℕ) (counts : List ℕ) → numbers t bs ≡ map pos counts → counts_in (primitive t bs non_nullable) ≡ counts
 counts_in-primitive t bs counts same = ap (map count_in) (rows-by_numbers t bs ∙ ap (map whole_row) same) ∙ map-count_in-whole counts
@@ -53,17 +54,13 @@ count_array_of_numbers t bs counts same = record {
     kind = refl;
     counts = λ i inside.
         let inside_counts : i < length counts = omega (arith, ap length same, length-map counts pos) in
-        let number : number_nth (numbers t bs) i ≡ pos (get_or counts i 0) = ap (λ zs. number_nth zs i) same ∙ get_or-map pos counts i 0 (pos 0) inside_counts in
-        is_count (number_nth (numbers t bs) i) (get_or counts i 0) number;
+        let number : number_of_position (numbers t bs) i ≡ pos (get_or counts i 0) = ap (λ zs. number_of_position zs i) same ∙ get_or-map pos counts i 0 (pos 0) inside_counts in
+        is_count (number_of_position (numbers t bs) i) (get_or counts i 0) number;
   };
   counts_are = counts_in-primitive t bs counts same;
 }
 
 -- ---- the numbers of an array of counts
-
-not_negative : (z : ℤ) (n : ℕ) → whole_row z ≡ whole_row (pos n) → pos 0 ≤ℤ z
-not_negative (pos m) n same = omega (arith, ints)
-not_negative (negsuc m) n same = cc
 
 -- only in the state that knows no null are integers plain
 pub plain_numbers : (t : PType) (bs : List ℕ) (v : Valid) → is_plain_integers (kind_of (primitive t bs v)) ≡ true → v ≡ non_nullable
@@ -72,40 +69,38 @@ plain_numbers t bs all_valid plain = cc
 plain_numbers t bs all_invalid plain = cc
 plain_numbers t bs (by_array m) plain = cc
 
-pub numbers_of_counts : (a : Tree) (t : PType) (bs : List ℕ) (v : Valid) → a ≡ primitive t bs v → IsCounts a → All (λ z. pos 0 ≤ℤ z) (numbers t bs)
-numbers_of_counts a t bs v parts are_counts =
+counted : (z : ℤ) (n : ℕ) → whole_row z ≡ whole_row (pos n) → z ≡ pos (count_in (whole_row z))
+counted (pos m) n same = refl
+counted (negsuc m) n same = cc
+
+-- their bytes hold them
+pub number_bytes_hold : (a : Tree) (t : PType) (bs : List ℕ) (v : Valid) → a ≡ primitive t bs v → WellFormed (primitive t bs v) → IsCounts a → HoldCounts (integer_type (kind_of a)) bs (counts_in a)
+number_bytes_hold a t bs v parts formed are_counts =
     let same : a ≡ primitive t bs non_nullable = parts ∙ ap (primitive t bs) (plain_numbers t bs v (ap (λ x. is_plain_integers (kind_of x)) (sym parts) ∙ are_counts.kind)) in
     let counts : IsCounts (primitive t bs non_nullable) = subst IsCounts same are_counts in
-    λ i d inside.
-    subst (λ z. pos 0 ≤ℤ z) (get_or_default (numbers t bs) i (pos 0) d inside) (not_negative (number_nth (numbers t bs) i) (count_in (row_at (primitive t bs non_nullable) i)) (counts.counts i inside))
+    let each : (k : ℕ) → k < length (numbers t bs) → get_or (numbers t bs) k (pos 0) ≡ pos (count_in (row_at (primitive t bs non_nullable) k)) = λ k inside. counted (number_of_position (numbers t bs) k) (count_in (row_at (primitive t bs non_nullable) k)) (counts.counts k inside) in
+    let are : numbers t bs ≡ map pos (counts_in (primitive t bs non_nullable)) =
+    fill_by_all (λ k. pos (count_in (row_at (primitive t bs non_nullable) k))) (numbers t bs) (length (numbers t bs)) (pos 0) refl each
+    ∙ sym (map-map pos (λ k. count_in (row_at (primitive t bs non_nullable) k)) (range_with_len 0 (length (numbers t bs))))
+    ∙ sym (ap (map pos) (map-map count_in (row_at (primitive t bs non_nullable)) (range_with_len 0 (length (numbers t bs))))) in
+    let hold : HoldCounts t bs (counts_in (primitive t bs non_nullable)) = record {
+      are = are;
+      whole = formed.1 ∙ ap (λ n. n * byte_width t) (ap length are ∙ length-map (counts_in (primitive t bs non_nullable)) pos);
+    } in
+    subst (λ x. HoldCounts (integer_type (kind_of x)) bs (counts_in x)) (sym same) hold
 
-small-take : (n : ℕ) (bs : List ℕ) → ((k : ℕ) → get_or bs k 0 < 256) → (k : ℕ) → get_or (take n bs) k 0 < 256
-small-take zero bs small k = omega arith
-small-take (suc n) [] small k = omega arith
-small-take (suc n) (b ∷ bs) small zero = small 0
-small-take (suc n) (b ∷ bs) small (suc k) = small-take n bs (λ j. small (suc j)) k
+-- ---- counts that are read row by row
 
-small-drop : (n : ℕ) (bs : List ℕ) → ((k : ℕ) → get_or bs k 0 < 256) → (k : ℕ) → get_or (drop n bs) k 0 < 256
-small-drop n bs small k = omega (arith, get_or-drop n bs k 0, small (n + k))
+pub record AreCountsRead (a : Tree) (n : ℕ) (counts : List ℕ) : Type 0 where
+  pub read : counts ≡ map (λ k. count_in (row_at a k)) (range_with_len 0 n)
+  pub held : All (λ n. Holds (integer_type (kind_of a)) (pos n)) counts
 
--- the numbers of bytes lie in the range of their type
-number_at_held : (t : PType) (bs : List ℕ) (i : ℕ) → ((k : ℕ) → get_or bs k 0 < 256) → Holds t (number_at t bs i)
-number_at_held t bs i small = holds-number_of t (take (byte_width t) (drop (i * byte_width t) bs)) (small-take (byte_width t) (drop (i * byte_width t) bs) (small-drop (i * byte_width t) bs small))
+pub one_count_more : (a : Tree) (n : ℕ) (counts more : List ℕ) (count : ℕ) → AreCountsRead a n counts → count ≡ count_in (row_at a n) → Holds (integer_type (kind_of a)) (pos count) → more ≡ counts ++ count ∷ [] → AreCountsRead a (n + 1) more
+one_count_more a n counts more count h same held e =
+    rw e (record {
+      read = rw (h.read, same) (sym (map-range_with_len_more (λ k. count_in (row_at a k)) 0 n n (zero-add n)));
+      held = All-push (λ n. Holds (integer_type (kind_of a)) (pos n)) counts count h.held held;
+    })
 
-pub counts_held : (t : PType) (bs counts : List ℕ) → ((k : ℕ) → get_or bs k 0 < 256) → numbers t bs ≡ map pos counts → All (λ n. Holds t (pos n)) counts
-counts_held t bs counts small same = λ i d inside.
-    let inside_numbers : i < length bs / byte_width t = omega (arith, length_numbers t bs, ap length same, length-map counts pos) in
-    let number : number_at t bs i ≡ pos (get_or counts i d) = sym (get_numbers t bs i (pos 0) inside_numbers) ∙ ap (λ zs. get_or zs i (pos 0)) same ∙ get_or-map pos counts i d (pos 0) inside in
-    subst (Holds t) number (number_at_held t bs i small)
-
--- what reading the numbers of an array of counts gives
-module _ (a : Tree) (t : PType) (bs counts : List ℕ) (v : Valid) (parts : a ≡ primitive t bs v) (are_counts : IsCounts a) (read : map pos counts ≡ numbers t bs) where
-  pub counts_read : counts ≡ counts_in a
-  counts_read =
-      let same : a ≡ primitive t bs non_nullable = parts ∙ ap (primitive t bs) (plain_numbers t bs v (ap (λ x. is_plain_integers (kind_of x)) (sym parts) ∙ are_counts.kind)) in
-      sym (ap counts_in same ∙ counts_in-primitive t bs counts (sym read))
-
-pub counts_read_type : (a : Tree) (t : PType) (bs counts : List ℕ) (v : Valid) → a ≡ primitive t bs v → All (λ n. Holds t (pos n)) counts → All (λ n. Holds (integer_type (kind_of a)) (pos n)) counts
-counts_read_type a t bs counts v parts held =
-    let type_is : integer_type (kind_of a) ≡ t = ap (λ x. integer_type (kind_of x)) parts in
-    subst (λ u. All (λ n. Holds u (pos n)) counts) (sym type_is) held
+pub all_counts_read : (a : Tree) (counts : List ℕ) → AreCountsRead a (tree_len a) counts → counts ≡ counts_in a
+all_counts_read a counts h = h.read ∙ sym (map-map count_in (row_at a) (range_with_len 0 (tree_len a)))

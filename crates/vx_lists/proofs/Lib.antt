@@ -4,7 +4,9 @@ pub mod MappedLayouts
 pub mod PlannedRows
 pub mod PlannedNumbers
 pub mod ViewLayouts
+pub mod CountBytes
 pub mod CountArrays
 pub mod RebuiltViews
+pub mod RebuiltAlike
 pub mod ListFaults
 pub mod ListPlans

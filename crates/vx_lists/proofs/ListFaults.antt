@@ -8,14 +8,14 @@ use Rattle.vx_base.specs.declared.errors.VortexError.{VortexError}
 use Rattle.vx_base.specs.declared.ptypes.PType.{PType}
 use Rattle.vx_base.specs.declared.ptypes.PType.TheVariants.{U8, U16, U32, U64, I8, I16, I32, I64}
 use Rattle.vx_base.specs.Integers.{Holds}
-use Rattle.vx_base.specs.Refusals.{Refusal, or_else, first_fault}
+use Rattle.vx_base.specs.Refusals.{Refusal, Names, Tests, or_else, first_fault}
 use Rattle.vx_base.specs.Rows.{Row, null, boolean, whole, bytes, text, items, record_of, number_in, count_in}
 use Rattle.vx_base.specs.Kinds.{Kind, booleans, integers, texts, binaries, lists, fixed_lists, records, is_plain_booleans, is_plain_integers}
 use Rattle.vx_tree.specs.Tree.{Tree, list_view, Valid, non_nullable, all_valid, all_invalid, by_array}
 use Rattle.vx_tree.specs.Meaning.{tree_len, kind_of, row_at}
 use Rattle.vx_tree.specs.Formed.{IsCounts, ValidFits, WellFormed}
 use Rattle.vx_tree.specs.Faults.{valid_type_fault, valid_len_fault}
-use Rattle.vx_lists.specs.ListViewFaults.{Names, list_row_fault, count_type_fault, whole_at, sizes_len_fault, list_parts_fault, list_rows_fault}
+use Rattle.vx_lists.specs.ListViewFaults.{list_row_fault, count_type_fault, whole_at, sizes_len_fault, list_parts_fault, list_rows_fault}
 
 -- ---- first faults
 
@@ -27,8 +27,12 @@ pub or_else-first : (a b : Option Refusal) → IsSome a → or_else a b ≡ a
 or_else-first None b some = cc
 or_else-first (Some r) b some = refl
 
+-- a fault that an error names stands
+Names-stands : (a : Option Refusal) (e : VortexError) → Names a e → IsSome a
+Names-stands a e names = subst (λ f. IsSome f) (sym names.1) names.0
+
 pub Names-or_else_first : (a b : Option Refusal) (e : VortexError) → Names a e → Names (or_else a b) e
-Names-or_else_first a b e names = subst (λ f. Names f e) (sym (or_else-first a b names.0)) names
+Names-or_else_first a b e names = subst (λ f. Names f e) (sym (or_else-first a b (Names-stands a e names))) names
 
 pub Names-or_else_second : (a b : Option Refusal) (e : VortexError) → a ≡ None → Names b e → Names (or_else a b) e
 Names-or_else_second a b e none names = rw none names
@@ -103,7 +107,7 @@ module _ (count : ℕ) (o s : Tree) (n : ℕ) (offset size : ℤ) (checked : Are
   pub AreChecked-fault : (e : VortexError) → n < tree_len o → Names (list_row_fault count n offset size) e → Names (list_rows_fault count o s) e
   AreChecked-fault e inside names =
       let names_here : Names (list_row_fault count n (whole_at o n) (whole_at s n)) e = subst (λ f. Names f e) (sym fault_is) names in
-      subst (λ f. Names f e) (sym (first_fault-found (λ i. list_row_fault count i (whole_at o i) (whole_at s i)) (tree_len o) n checked.none names_here.0 inside)) names_here
+      subst (λ f. Names f e) (sym (first_fault-found (λ i. list_row_fault count i (whole_at o i) (whole_at s i)) (tree_len o) n checked.none (Names-stands (list_row_fault count n (whole_at o n) (whole_at s n)) e names_here) inside)) names_here
 
 -- ---- parts without a fault
 
@@ -188,6 +192,11 @@ number_passed I64 z held = to_z-of_z w128 z (search (rules, ints))
 -- so is one that a reader found
 pub found_passed : (t : PType) (read : Option ℤ) (z : ℤ) → read ≡ Some z → IfSome read (Holds t) → to_z w128 (of_z w128 z) ≡ z
 found_passed t read z found held = number_passed t z (subst (λ r. IfSome r (Holds t)) found held)
+
+-- where a call that tests answers Ok, no fault stands
+pub OnOk-tests : {T : Type 0} (r : Result T VortexError) (fault : Option Refusal) → Tests r fault → OnOk r (fault ≡ None)
+OnOk-tests (Ok x) fault tests = tests
+OnOk-tests (Err e) fault tests = tt
 
 pub OnOk-three : {T E A B C D : Type 0} (r : Result T E) → OnOk r A → OnOk r B → OnOk r C → (A → B → C → D) → OnOk r D
 OnOk-three (Ok x) a b c together = together a b c

@@ -1,12 +1,15 @@
--- Rows laid end to end, one row after another.
-use Rattle.std.proofs.Common.{◌≡◌, ℕ, zero, suc, ◌+◌, ◌*◌, ◌-◌, ◌^◌, ◌<◌, ◌≤◌, Bool, true, false, cond, List, [], ◌∷◌, ◌++◌, length, take, map, get_or, sum, Option, Some, None, refl, sym, ◌∙◌, ap, add-zero, zero-add, arith}
+-- Valid rows laid end to end, one row after another.
+use Rattle.std.proofs.Common.{◌≡◌, ◌⊎◌, ⊎_elim, ℕ, zero, suc, ◌+◌, ◌*◌, ◌-◌, ◌^◌, ◌<◌, ◌≤◌, Bool, true, false, cond, List, [], ◌∷◌, ◌++◌, length, take, replicate, get_or, sum, Option, Some, None, refl, sym, ◌∙◌, ap, zero-add, add-one, arith}
+use Rattle.std.specs.Prelude.{count_by}
 use Rattle.std.specs.List.{flat_map, range_with_len}
-use Rattle.std.proofs.lemmas.List.{append-nil, append_assoc, map_push, map-append, length-map, take_more, take_all}
+use Rattle.std.proofs.lemmas.List.{append_assoc, append-nil, length-append, take_all, get_or-replicate}
 use Rattle.std.proofs.lemmas.List.Concat.{flat_map-append}
-use Rattle.std.proofs.lemmas.List.FromFn.{length-range_with_len, map-range_with_len_more}
-use Rattle.std.proofs.lemmas.List.Sums.{sum_by_more}
-use Rattle.vx_lists.specs.ListLayout.{items_of, size_of, starts_from, position_rows, valid_sizes, valid_total, IsPlan}
-use Rattle.vx_lists.proofs.CanonicalRows.{sum-cons, length-flat_map-items_of}
+use Rattle.std.proofs.lemmas.List.FromFn.{length-range_with_len}
+use Rattle.std.proofs.lemmas.List.Sums.{sum_by_more, sum_by-take-le}
+use Rattle.vx_base.proofs.MaskCounts.{all_true_from_count}
+use Rattle.vx_base.specs.Selections.{run_positions}
+use Rattle.vx_lists.specs.ListLayout.{items_of, position_rows, joined_positions, starts_from, valid_sizes, valid_total}
+use Rattle.vx_lists.proofs.CanonicalRows.{sum-cons, get_or-starts_from}
 
 -- ---- the total of the valid sizes
 
@@ -44,72 +47,135 @@ IsTotal-more sizes mask i total total' same_len inside fits so_far added =
 pub IsTotal-all : (sizes : List ℕ) (mask : List Bool) (i total : ℕ) → length mask ≡ length sizes → length sizes ≤ i → IsTotal sizes mask i total → total ≡ valid_total sizes mask
 IsTotal-all sizes mask i total same_len all so_far = so_far.total_is ∙ ap sum (take_all i (valid_sizes sizes mask) (omega (arith, length-valid_sizes sizes mask same_len)))
 
--- ---- the plan of a rebuild
+-- in a mask that is all true each row is
+pub all_true_at : (mask : List Bool) (i : ℕ) → count_by (λ b. b) mask ≡ length mask → i < length mask → get_or mask i false ≡ true
+all_true_at mask i counted inside = ap (λ m. get_or m i false) (all_true_from_count mask counted) ∙ get_or-replicate (length mask) i true false inside
 
--- one more position after those from `start` on
-pub positions_more : (before now new : List (Option ℕ)) (start position : ℕ) → start ≤ position → now ≡ before ++ map Some (range_with_len start (position - start)) → new ≡ now ++ Some position ∷ [] → new ≡ before ++ map Some (range_with_len start (position + 1 - start))
-positions_more before now new start position above so_far pushed =
-    let count : position + 1 - start ≡ position - start + 1 = omega arith in
-    let more : map Some (range_with_len start (position - start + 1)) ≡ map Some (range_with_len start (position - start)) ++ Some position ∷ [] = map-range_with_len_more Some start (position - start) position (omega arith) in
-    pushed ∙ ap (λ ps. ps ++ Some position ∷ []) so_far ∙ append_assoc before (map Some (range_with_len start (position - start))) (Some position ∷ []) ∙ ap (λ ps. before ++ ps) (sym more) ∙ ap (λ n. before ++ map Some (range_with_len start n)) (sym count)
+-- where no row is null all sizes are valid
+valid_sizes-all : (sizes : List ℕ) → valid_sizes sizes (replicate (length sizes) true) ≡ sizes
+valid_sizes-all [] = refl
+valid_sizes-all (size ∷ sizes) = ap (λ rest. size ∷ rest) (valid_sizes-all sizes)
 
-starts_from_push : (start : ℕ) (sizes : List ℕ) (size : ℕ) → starts_from start (sizes ++ size ∷ []) ≡ starts_from start sizes ++ (start + sum sizes) ∷ []
-starts_from_push start [] size = ap (λ n. n ∷ []) (sym (add-zero start))
-starts_from_push start (first ∷ sizes) size =
-    let further : start + first + sum sizes ≡ start + sum (first ∷ sizes) = omega (arith, sum-cons first sizes) in
-    ap (λ rest. start ∷ rest) (starts_from_push (start + first) sizes size ∙ ap (λ n. starts_from (start + first) sizes ++ n ∷ []) further)
+pub valid_sizes-all_true : (sizes : List ℕ) (mask : List Bool) → count_by (λ b. b) mask ≡ length mask → length mask ≡ length sizes → valid_sizes sizes mask ≡ sizes
+valid_sizes-all_true sizes mask counted same_len = ap (valid_sizes sizes) (all_true_from_count mask counted ∙ ap (λ n. replicate n true) same_len) ∙ valid_sizes-all sizes
 
--- one more row at the end
-IsPlan-push : (rows : List (Option (List ℕ))) (row : Option (List ℕ)) (offsets sizes : List ℕ) (positions : List (Option ℕ)) → IsPlan rows offsets sizes positions → IsPlan (rows ++ row ∷ []) (offsets ++ length positions ∷ []) (sizes ++ size_of row ∷ []) (positions ++ map Some (items_of row))
-IsPlan-push rows row offsets sizes positions plan =
-    let end : length positions ≡ 0 + sum (map size_of rows) = ap length plan.positions_are ∙ length-map (flat_map items_of rows) Some ∙ length-flat_map-items_of rows ∙ sym (zero-add (sum (map size_of rows))) in
-    let more : map size_of (rows ++ row ∷ []) ≡ map size_of rows ++ size_of row ∷ [] = map_push size_of rows row in
-    let joined : flat_map items_of (rows ++ row ∷ []) ≡ flat_map items_of rows ++ items_of row = flat_map-append items_of rows (row ∷ []) ∙ ap (λ xs. flat_map items_of rows ++ xs) (append-nil (items_of row)) in
-    record {
-      offsets_are = ap (λ n. offsets ++ n ∷ []) end ∙ ap (λ ns. ns ++ (0 + sum (map size_of rows)) ∷ []) plan.offsets_are ∙ sym (starts_from_push 0 (map size_of rows) (size_of row)) ∙ ap (starts_from 0) (sym more);
-      sizes_are = ap (λ ns. ns ++ size_of row ∷ []) plan.sizes_are ∙ sym more;
-      positions_are = ap (λ ps. ps ++ map Some (items_of row)) plan.positions_are ∙ sym (map-append Some (flat_map items_of rows) (items_of row)) ∙ ap (map Some) (sym joined);
-    }
+-- ---- where lists start
 
-abbrev pub position_row : ℕ → ℕ → Bool → Option (List ℕ)
-position_row offset size present = cond present (Some (range_with_len offset size)) None
+starts_more : (sizes : List ℕ) (i at : ℕ) → i < length sizes → at ≡ sum (take i sizes) → at + get_or sizes i 0 ≡ sum (take (i + 1) sizes)
+starts_more sizes i at inside at_is = ap (λ n. n + get_or sizes i 0) at_is ∙ sym (sum_by_more (λ (x : ℕ). x) sizes i 0 inside)
 
-length-position_rows : (offsets sizes : List ℕ) (mask : List Bool) → length sizes ≡ length offsets → length mask ≡ length offsets → length (position_rows offsets sizes mask) ≡ length offsets
-length-position_rows [] sizes mask sizes_len mask_len = refl
-length-position_rows (offset ∷ offsets) [] mask sizes_len mask_len = absurd (omega arith)
-length-position_rows (offset ∷ offsets) (size ∷ sizes) [] sizes_len mask_len = absurd (omega arith)
-length-position_rows (offset ∷ offsets) (size ∷ sizes) (present ∷ mask) sizes_len mask_len = ap suc (length-position_rows offsets sizes mask (omega arith) (omega arith))
+sum-take-le : (sizes : List ℕ) (i : ℕ) → sum (take i sizes) ≤ sum sizes
+sum-take-le sizes i = sum_by-take-le (λ (x : ℕ). x) sizes i
 
-get_or-position_rows : (offsets sizes : List ℕ) (mask : List Bool) (i : ℕ) → length sizes ≡ length offsets → length mask ≡ length offsets → i < length offsets → get_or (position_rows offsets sizes mask) i None ≡ position_row (get_or offsets i 0) (get_or sizes i 0) (get_or mask i false)
-get_or-position_rows [] sizes mask i sizes_len mask_len inside = absurd (omega arith)
-get_or-position_rows (offset ∷ offsets) [] mask i sizes_len mask_len inside = absurd (omega arith)
-get_or-position_rows (offset ∷ offsets) (size ∷ sizes) [] i sizes_len mask_len inside = absurd (omega arith)
-get_or-position_rows (offset ∷ offsets) (size ∷ sizes) (present ∷ mask) zero sizes_len mask_len inside = refl
-get_or-position_rows (offset ∷ offsets) (size ∷ sizes) (present ∷ mask) (suc i) sizes_len mask_len inside = get_or-position_rows offsets sizes mask i (omega arith) (omega arith) (omega arith)
+-- the next list starts where this one ends, within them all
+pub next_start : (sizes : List ℕ) (i at : ℕ) → i < length sizes → at ≡ sum (take i sizes) → (at ≡ get_or (starts_from 0 sizes) i 0) × (at ≤ sum sizes) × (at + get_or sizes i 0 ≡ sum (take (i + 1) sizes)) × (at + get_or sizes i 0 ≤ sum sizes)
+next_start sizes i at inside at_is =
+    let more = starts_more sizes i at inside at_is in
+    (at_is ∙ sym (get_or-starts_from 0 sizes i inside ∙ zero-add (sum (take i sizes))), omega (arith, sum-take-le sizes i), more, omega (arith, more, sum-take-le sizes (i + 1)))
 
-size_of-position_row : (offset size : ℕ) (present : Bool) → size_of (position_row offset size present) ≡ cond present size 0
-size_of-position_row offset size true = length-range_with_len offset size
-size_of-position_row offset size false = refl
+-- ---- the positions of the elements of lists
 
-items_of-position_row : (offset size : ℕ) (present : Bool) → items_of (position_row offset size present) ≡ range_with_len offset (cond present size 0)
-items_of-position_row offset size true = refl
-items_of-position_row offset size false = refl
+range_append : (a n m : ℕ) → range_with_len a n ++ range_with_len (a + n) m ≡ range_with_len a (n + m)
+range_append a zero m =
+    let start : a + 0 ≡ a = omega arith in
+    let count : 0 + m ≡ m = omega arith in
+    rw (start, count) refl
+range_append a (suc n) m =
+    let start : a + suc n ≡ a + 1 + n = omega arith in
+    let count : suc n + m ≡ suc (n + m) = omega arith in
+    rw (start, count) (ap (λ ks. a ∷ ks) (range_append (a + 1) n m))
 
--- one more row, of the size that its place in the mask leaves it
-pub IsPlan-more : (offsets sizes : List ℕ) (mask : List Bool) (i size : ℕ) (new_offsets new_offsets' new_sizes new_sizes' : List ℕ) (positions positions' : List (Option ℕ)) → length sizes ≡ length offsets → length mask ≡ length offsets → i < length offsets → IsPlan (take i (position_rows offsets sizes mask)) new_offsets new_sizes positions → size ≡ cond (get_or mask i false) (get_or sizes i 0) 0 → new_offsets' ≡ new_offsets ++ length positions ∷ [] → new_sizes' ≡ new_sizes ++ size ∷ [] → positions' ≡ positions ++ map Some (range_with_len (get_or offsets i 0) size) → IsPlan (take (i + 1) (position_rows offsets sizes mask)) new_offsets' new_sizes' positions'
-IsPlan-more offsets sizes mask i size new_offsets new_offsets' new_sizes new_sizes' positions positions' sizes_len mask_len inside plan size_is pushed_offset pushed_size pushed_positions =
-    let row = position_row (get_or offsets i 0) (get_or sizes i 0) (get_or mask i false) in
-    let rows = position_rows offsets sizes mask in
-    let next : take (i + 1) rows ≡ take i rows ++ row ∷ [] =
-    take_more rows i None (omega (arith, length-position_rows offsets sizes mask sizes_len mask_len)) ∙ ap (λ r. take i rows ++ r ∷ []) (get_or-position_rows offsets sizes mask i sizes_len mask_len inside) in
-    let size_same : size ≡ size_of row = size_is ∙ sym (size_of-position_row (get_or offsets i 0) (get_or sizes i 0) (get_or mask i false)) in
-    let items_same : range_with_len (get_or offsets i 0) size ≡ items_of row = ap (range_with_len (get_or offsets i 0)) size_is ∙ sym (items_of-position_row (get_or offsets i 0) (get_or sizes i 0) (get_or mask i false)) in
-    let pushed = IsPlan-push (take i rows) row new_offsets new_sizes positions plan in
-    let sizes_are : new_sizes' ≡ new_sizes ++ size_of row ∷ [] = pushed_size ∙ ap (λ n. new_sizes ++ n ∷ []) size_same in
-    let positions_are : positions' ≡ positions ++ map Some (items_of row) = pushed_positions ∙ ap (λ ps. positions ++ map Some ps) items_same in
-    rw (next, pushed_offset, sizes_are, positions_are) pushed
+-- those of the valid rows alone
+pub joined_positions-valid : (offsets sizes : List ℕ) (mask : List Bool) → flat_map items_of (position_rows offsets sizes mask) ≡ joined_positions offsets (valid_sizes sizes mask)
+joined_positions-valid [] sizes mask = refl
+joined_positions-valid (offset ∷ offsets) [] mask = refl
+joined_positions-valid (offset ∷ offsets) (size ∷ sizes) [] = refl
+joined_positions-valid (offset ∷ offsets) (size ∷ sizes) (true ∷ mask) = ap (λ rest. range_with_len offset size ++ rest) (joined_positions-valid offsets sizes mask)
+joined_positions-valid (offset ∷ offsets) (size ∷ sizes) (false ∷ mask) = joined_positions-valid offsets sizes mask
 
-pub IsPlan-all : (offsets sizes : List ℕ) (mask : List Bool) (i : ℕ) (new_offsets new_sizes : List ℕ) (positions : List (Option ℕ)) → length sizes ≡ length offsets → length mask ≡ length offsets → length offsets ≤ i → IsPlan (take i (position_rows offsets sizes mask)) new_offsets new_sizes positions → IsPlan (position_rows offsets sizes mask) new_offsets new_sizes positions
-IsPlan-all offsets sizes mask i new_offsets new_sizes positions sizes_len mask_len all plan =
-    let whole : take i (position_rows offsets sizes mask) ≡ position_rows offsets sizes mask = take_all i (position_rows offsets sizes mask) (omega (arith, length-position_rows offsets sizes mask sizes_len mask_len)) in
-    rw whole at plan
+pub length-joined_positions : (offsets sizes : List ℕ) → length sizes ≡ length offsets → length (joined_positions offsets sizes) ≡ sum sizes
+length-joined_positions [] [] same_len = refl
+length-joined_positions [] (size ∷ sizes) same_len = absurd (omega arith)
+length-joined_positions (offset ∷ offsets) [] same_len = absurd (omega arith)
+length-joined_positions (offset ∷ offsets) (size ∷ sizes) same_len =
+    length-append (range_with_len offset size) (joined_positions offsets sizes)
+    ∙ omega (arith, length-range_with_len offset size, length-joined_positions offsets sizes (omega arith), sum-cons size sizes)
+
+joined_positions-next : (offsets sizes : List ℕ) (i : ℕ) → length sizes ≡ length offsets → i < length offsets
+    → joined_positions (take (suc i) offsets) (take (suc i) sizes) ≡ joined_positions (take i offsets) (take i sizes) ++ range_with_len (get_or offsets i 0) (get_or sizes i 0)
+joined_positions-next [] sizes i same_len inside = absurd (omega arith)
+joined_positions-next (offset ∷ offsets) [] i same_len inside = absurd (omega arith)
+joined_positions-next (offset ∷ offsets) (size ∷ sizes) zero same_len inside = append-nil (range_with_len offset size)
+joined_positions-next (offset ∷ offsets) (size ∷ sizes) (suc i) same_len inside =
+    ap (λ rest. range_with_len offset size ++ rest) (joined_positions-next offsets sizes i (omega arith) (omega arith))
+    ∙ sym (append_assoc (range_with_len offset size) (joined_positions (take i offsets) (take i sizes)) (range_with_len (get_or offsets i 0) (get_or sizes i 0)))
+
+joined_positions-more : (offsets sizes : List ℕ) (i : ℕ) → length sizes ≡ length offsets → i < length offsets
+    → joined_positions (take (i + 1) offsets) (take (i + 1) sizes) ≡ joined_positions (take i offsets) (take i sizes) ++ range_with_len (get_or offsets i 0) (get_or sizes i 0)
+joined_positions-more offsets sizes i same_len inside = rw add-one (joined_positions-next offsets sizes i same_len inside)
+
+-- ---- runs of them, the last of which may grow
+
+pub record AreRuns (offsets sizes : List ℕ) (rows : ℕ) (runs : List (ℕ × ℕ)) (start end : ℕ) : Type 0 where
+  pub forward : start ≤ end
+  pub joined : flat_map run_positions runs ++ range_with_len start (end - start) ≡ joined_positions (take rows offsets) (take rows sizes)
+
+-- one run more
+runs_push : (runs runs' : List (ℕ × ℕ)) (start end : ℕ) → runs' ≡ runs ++ (start, end) ∷ [] → flat_map run_positions runs' ≡ flat_map run_positions runs ++ range_with_len start (end - start)
+runs_push runs runs' start end pushed =
+    ap (flat_map run_positions) pushed ∙ flat_map-append run_positions runs ((start, end) ∷ [])
+    ∙ ap (λ ps. flat_map run_positions runs ++ ps) (append-nil (range_with_len start (end - start)))
+
+module _ (offsets sizes : List ℕ) (i : ℕ) (runs : List (ℕ × ℕ)) (start end : ℕ) (same_len : length sizes ≡ length offsets) (inside : i < length offsets) (so_far : AreRuns offsets sizes i runs start end) where
+  -- a list that begins where the last run ends, or has no element, makes it longer
+  AreRuns-grown : (end' : ℕ) → end' ≡ end + get_or sizes i 0 → (get_or offsets i 0 ≡ end) ⊎ (get_or sizes i 0 ≡ 0) → AreRuns offsets sizes (i + 1) runs start end'
+  AreRuns-grown end' grown meets =
+      let offset : ℕ = get_or offsets i 0 in
+      let size : ℕ = get_or sizes i 0 in
+      let low : start ≤ end = so_far.forward in
+      let here : range_with_len end size ≡ range_with_len offset size = ⊎_elim (λ (at : offset ≡ end). ap (λ k. range_with_len k size) (sym at)) (λ (none : size ≡ 0). ap (range_with_len end) none ∙ sym (ap (range_with_len offset) none)) meets in
+      let place : start + (end - start) ≡ end = omega arith in
+      let count : end' - start ≡ (end - start) + size = omega arith in
+      let longer : range_with_len start (end' - start) ≡ range_with_len start (end - start) ++ range_with_len offset size =
+      ap (range_with_len start) count ∙ sym (range_append start (end - start) size) ∙ ap (λ k. range_with_len start (end - start) ++ range_with_len k size) place ∙ ap (λ ps. range_with_len start (end - start) ++ ps) here in
+      record {
+        forward = omega arith;
+        joined = ap (λ ps. flat_map run_positions runs ++ ps) longer ∙ sym (append_assoc (flat_map run_positions runs) (range_with_len start (end - start)) (range_with_len offset size))
+            ∙ ap (λ ps. ps ++ range_with_len offset size) so_far.joined ∙ sym (joined_positions-more offsets sizes i same_len inside);
+      }
+
+  pub AreRuns-grow : (runs' : List (ℕ × ℕ)) (start' end' : ℕ) → runs' ≡ runs → start' ≡ start → end' ≡ end + get_or sizes i 0 → (get_or offsets i 0 ≡ end) ⊎ (get_or sizes i 0 ≡ 0) → AreRuns offsets sizes (i + 1) runs' start' end'
+  AreRuns-grow runs' start' end' same_runs same_start grown meets = rw (same_runs, same_start) (AreRuns-grown end' grown meets)
+
+  -- any other begins a run
+  AreRuns-begun : (runs' : List (ℕ × ℕ)) (end' : ℕ) → runs' ≡ runs ++ (start, end) ∷ [] → end' ≡ get_or offsets i 0 + get_or sizes i 0 → AreRuns offsets sizes (i + 1) runs' (get_or offsets i 0) end'
+  AreRuns-begun runs' end' pushed end_is =
+      let offset : ℕ = get_or offsets i 0 in
+      let size : ℕ = get_or sizes i 0 in
+      let count : end' - offset ≡ size = omega arith in
+      record {
+        forward = omega arith;
+        joined = ap (λ ps. ps ++ range_with_len offset (end' - offset)) (runs_push runs runs' start end pushed ∙ so_far.joined)
+            ∙ ap (λ n. joined_positions (take i offsets) (take i sizes) ++ range_with_len offset n) count ∙ sym (joined_positions-more offsets sizes i same_len inside);
+      }
+
+  pub AreRuns-next : (runs' : List (ℕ × ℕ)) (start' end' : ℕ) → runs' ≡ runs ++ (start, end) ∷ [] → start' ≡ get_or offsets i 0 → end' ≡ get_or offsets i 0 + get_or sizes i 0 → AreRuns offsets sizes (i + 1) runs' start' end'
+  AreRuns-next runs' start' end' pushed same_start end_is = rw same_start (AreRuns-begun runs' end' pushed end_is)
+
+pub AreRuns-all : (offsets sizes : List ℕ) (rows : ℕ) (runs runs' : List (ℕ × ℕ)) (start end : ℕ) → length sizes ≡ length offsets → length offsets ≤ rows → AreRuns offsets sizes rows runs start end → runs' ≡ runs ++ (start, end) ∷ []
+    → flat_map run_positions runs' ≡ joined_positions offsets sizes
+AreRuns-all offsets sizes rows runs runs' start end same_len all so_far pushed =
+    runs_push runs runs' start end pushed ∙ so_far.joined
+    ∙ ap (λ os. joined_positions os (take rows sizes)) (take_all rows offsets all) ∙ ap (joined_positions offsets) (take_all rows sizes (omega arith))
+
+-- ---- the positions of a run, one by one
+
+pub one_position_more : (before now more : List ℕ) (start k : ℕ) → start ≤ k → now ≡ before ++ range_with_len start (k - start) → more ≡ now ++ k ∷ [] → more ≡ before ++ range_with_len start (k + 1 - start)
+one_position_more before now more start k low so_far pushed =
+    let place : start + (k - start) ≡ k = omega arith in
+    let count : k + 1 - start ≡ (k - start) + 1 = omega arith in
+    let last : range_with_len start (k - start) ++ k ∷ [] ≡ range_with_len start (k - start + 1) = ap (λ n. range_with_len start (k - start) ++ n ∷ []) (sym place) ∙ range_append start (k - start) 1 in
+    pushed ∙ ap (λ ps. ps ++ k ∷ []) so_far ∙ append_assoc before (range_with_len start (k - start)) (k ∷ []) ∙ ap (λ ps. before ++ ps) (last ∙ ap (range_with_len start) (sym count))
+
+pub run_size : (start end k : ℕ) → start ≤ k → (start ≤ end → k ≤ end) → end ≤ k → (end ≤ start → k ≡ start) → k - start ≡ end - start
+run_size start end k low high over empty = grind arith

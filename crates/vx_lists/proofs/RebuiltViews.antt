@@ -1,23 +1,21 @@
 -- A list view that is made by a plan is the rebuilt one.
-use Rattle.std.proofs.Common.{◌≡◌, ℕ, suc, ◌+◌, ◌<◌, ◌≤◌, Bool, true, false, List, [], ◌∷◌, length, map, get_or, sum, Option, Some, None, refl, sym, ◌∙◌, ap, subst, arith}
-use Rattle.std.specs.Prelude.{IfSome, IsSome}
+use Rattle.std.proofs.Common.{◌≡◌, ℕ, suc, ◌+◌, ◌<◌, ◌≤◌, Bool, true, false, List, [], ◌∷◌, length, map, get_or, sum, refl, sym, ◌∙◌, ap, subst, arith}
 use Rattle.std.specs.List.{All, flat_map, range_with_len}
 use Rattle.std.proofs.lemmas.List.{length-map, get_or-map}
-use Rattle.std.proofs.lemmas.List.Elements.{All-nil, All-append, All-map, All-get_or}
+use Rattle.std.proofs.lemmas.List.Elements.{All-nil, All-append, All-get_or}
 use Rattle.std.proofs.lemmas.List.FromFn.{fill_by_all, length-range_with_len, get_or-range_with_len}
 use Rattle.vx_base.specs.declared.ptypes.PType.{PType}
 use Rattle.vx_base.specs.Rows.{Row, null}
-use Rattle.vx_base.specs.Kinds.{Kind, booleans, integers, texts, binaries, lists, fixed_lists, records, is_plain_integers, integer_type, or_nullable}
+use Rattle.vx_base.specs.Kinds.{Kind, booleans, integers, texts, binaries, lists, fixed_lists, records, is_plain_integers, integer_type}
 use Rattle.vx_tree.specs.Tree.{Tree, list_view, Valid}
-use Rattle.vx_tree.specs.Meaning.{tree_len, kind_of, row_at, rows, valid_mask, nullable, picked}
-use Rattle.vx_tree.specs.Shapes.{never_null}
+use Rattle.vx_tree.specs.Meaning.{tree_len, kind_of, rows, valid_mask, nullable}
 use Rattle.vx_tree.specs.Formed.{IsListView, ValidFits, WellFormed}
-use Rattle.vx_tree.specs.Operations.{IsTaken, AreWithin, AreThere, position_at}
+use Rattle.vx_tree.specs.Operations.{IsSelected, AreBelow}
 use Rattle.vx_lists.specs.ListLayout.{ListLayout, layout, rows_of, IsWellFormed, IsTidy, items_of, size_of, canonical, position_rows, valid_total, IsPlan}
-use Rattle.vx_lists.specs.ListViews.{counts_in, list_layout_of, list_rows, rebuilt_type, IsCountArray, IsRebuilt}
+use Rattle.vx_lists.specs.ListViews.{counts_in, list_layout_of, list_rows, rebuilt_offset_ptype, IsCountArray, IsRebuilt}
 use Rattle.vx_lists.proofs.CanonicalRows.{canonical_well_formed, rows_of-canonical, length-flat_map-items_of, length-starts_from}
 use Rattle.vx_lists.proofs.TidyLayouts.{canonical_tidy}
-use Rattle.vx_lists.proofs.PlannedNumbers.{planned_is_canonical, map-size_of-position_rows, element_at}
+use Rattle.vx_lists.proofs.PlannedNumbers.{planned_is_canonical, map-size_of-position_rows}
 use Rattle.vx_lists.proofs.PlannedRows.{length-valid_sizes}
 use Rattle.vx_lists.proofs.ViewLayouts.{length-rows, get_or-rows, length-counts_in, get_or-counts_in, layout_well_formed, rows_of-list_layout_of, same_rows_by_lists}
 
@@ -39,20 +37,13 @@ positions_below n (offset ∷ offsets) (size ∷ sizes) (true ∷ mask) sizes_le
 positions_below n (offset ∷ offsets) (size ∷ sizes) (false ∷ mask) sizes_len mask_len within =
     positions_below n offsets sizes mask (omega arith) (omega arith) (λ i inside. within (suc i) (omega arith))
 
-module _ (offsets sizes : List ℕ) (mask : List Bool) (new_offsets new_sizes : List ℕ) (positions : List (Option ℕ)) (plan : IsPlan (position_rows offsets sizes mask) new_offsets new_sizes positions) (sizes_len : length sizes ≡ length offsets) (mask_len : length mask ≡ length offsets) where
-  pub planned_within : (n : ℕ) → ((i : ℕ) → i < length offsets → get_or offsets i 0 + get_or sizes i 0 ≤ n) → AreWithin n positions
-  planned_within n within =
-      let P : Option ℕ → Type 0 = λ p. IfSome p (λ k. k < n) in
-      subst (All P) (sym plan.positions_are) (All-map P Some (flat_map items_of (position_rows offsets sizes mask)) (positions_below n offsets sizes mask sizes_len mask_len within))
-
-  pub planned_there : AreThere positions
-  planned_there =
-      let P : Option ℕ → Type 0 = λ p. IsSome p in
-      subst (All P) (sym plan.positions_are) (All-map P Some (flat_map items_of (position_rows offsets sizes mask)) (λ i d inside. refl))
+module _ (offsets sizes : List ℕ) (mask : List Bool) (new_offsets new_sizes positions : List ℕ) (plan : IsPlan (position_rows offsets sizes mask) new_offsets new_sizes positions) (sizes_len : length sizes ≡ length offsets) (mask_len : length mask ≡ length offsets) where
+  pub planned_below : (n : ℕ) → ((i : ℕ) → i < length offsets → get_or offsets i 0 + get_or sizes i 0 ≤ n) → AreBelow n positions
+  planned_below n within = subst (All (λ k. k < n)) (sym plan.positions_are) (positions_below n offsets sizes mask sizes_len mask_len within)
 
   pub length-planned : length positions ≡ valid_total sizes mask
   length-planned =
-      ap length plan.positions_are ∙ length-map (flat_map items_of (position_rows offsets sizes mask)) Some ∙ length-flat_map-items_of (position_rows offsets sizes mask)
+      ap length plan.positions_are ∙ length-flat_map-items_of (position_rows offsets sizes mask)
       ∙ ap sum (map-size_of-position_rows offsets sizes mask sizes_len mask_len)
 
   pub length-planned_offsets : length new_offsets ≡ length offsets
@@ -62,29 +53,16 @@ module _ (offsets sizes : List ℕ) (mask : List Bool) (new_offsets new_sizes : 
 
 -- ---- the elements that are taken
 
-picked_rows : (e : Tree) (p : Option ℕ) → IfSome p (λ k. k < tree_len e) → picked (row_at e) p ≡ element_at (rows e) null p
-picked_rows e None within = refl
-picked_rows e (Some k) within = sym (get_or-rows e k null within)
-
-rows-taken : (e : Tree) (ps : List (Option ℕ)) (r : Tree) → AreWithin (tree_len e) ps → IsTaken e ps never_null r → rows r ≡ map (element_at (rows e) null) ps
-rows-taken e ps r within taken =
-    let each : (i : ℕ) → i < length ps → get_or (rows r) i null ≡ get_or (map (element_at (rows e) null) ps) i null =
+rows-selected : (e : Tree) (ps : List ℕ) (r : Tree) → AreBelow (tree_len e) ps → IsSelected e ps r → rows r ≡ map (λ i. get_or (rows e) i null) ps
+rows-selected e ps r below selected =
+    let f : ℕ → Row = λ i. get_or (rows e) i null in
+    let each : (i : ℕ) → i < length ps → get_or (rows r) i null ≡ get_or (map f ps) i null =
     λ i inside.
-    get_or-rows r i null (omega (arith, taken.len)) ∙ taken.rows i inside
-    ∙ picked_rows e (position_at ps i) (All-get_or (λ p. IfSome p (λ k. k < tree_len e)) ps i None inside within)
-    ∙ sym (get_or-map (element_at (rows e) null) ps i None null inside) in
-    let f : ℕ → Row = λ i. get_or (map (element_at (rows e) null) ps) i null in
-    fill_by_all f (rows r) (length ps) null (length-rows r ∙ taken.len) each
-    ∙ sym (fill_by_all f (map (element_at (rows e) null) ps) (length ps) null (length-map ps (element_at (rows e) null)) (λ i inside. refl))
-
-or_nullable-false : (k : Kind) → or_nullable false k ≡ k
-or_nullable-false (booleans n) = refl
-or_nullable-false (integers t n) = refl
-or_nullable-false (texts n) = refl
-or_nullable-false (binaries n) = refl
-or_nullable-false (lists k n) = refl
-or_nullable-false (fixed_lists k size n) = refl
-or_nullable-false (records names ks n) = refl
+    get_or-rows r i null (omega (arith, selected.len)) ∙ selected.rows i inside
+    ∙ sym (get_or-map f ps i 0 null inside ∙ get_or-rows e (get_or ps i 0) null (All-get_or (λ k. k < tree_len e) ps i 0 inside below)) in
+    let g : ℕ → Row = λ i. get_or (map f ps) i null in
+    fill_by_all g (rows r) (length ps) null (length-rows r ∙ selected.len) each
+    ∙ sym (fill_by_all g (map f ps) (length ps) null (length-map ps f) (λ i inside. refl))
 
 plain_kind : (k : Kind) → is_plain_integers k ≡ true → k ≡ integers (integer_type k) false
 plain_kind (booleans n) plain = cc
@@ -98,7 +76,7 @@ plain_kind (records names ks n) plain = cc
 
 -- ---- the new list view
 
-module _ (e o s : Tree) (v : Valid) (f : Bool) (good : IsListView e o s f) (fits : ValidFits v (tree_len o)) (new_offsets new_sizes : List ℕ) (positions : List (Option ℕ)) (plan : IsPlan (position_rows (counts_in o) (counts_in s) (valid_mask v (tree_len o))) new_offsets new_sizes positions) (e' o' s' : Tree) (taken : IsTaken e positions never_null e') (t_o t_s : PType) (o_is : IsCountArray t_o new_offsets o') (s_is : IsCountArray t_s new_sizes s') where
+module _ (e o s : Tree) (v : Valid) (f : Bool) (good : IsListView e o s f) (fits : ValidFits v (tree_len o)) (new_offsets new_sizes positions : List ℕ) (plan : IsPlan (position_rows (counts_in o) (counts_in s) (valid_mask v (tree_len o))) new_offsets new_sizes positions) (e' o' s' : Tree) (taken : IsSelected e positions e') (t_o t_s : PType) (o_is : IsCountArray t_o new_offsets o') (s_is : IsCountArray t_s new_sizes s') where
   same_len : tree_len o' ≡ tree_len o
   same_len =
       let well = layout_well_formed e o s v f good in
@@ -108,8 +86,8 @@ module _ (e o s : Tree) (v : Valid) (f : Bool) (good : IsListView e o s f) (fits
   rebuilt_layout =
       let old : ListLayout Row = list_layout_of (list_view e o s v f) in
       let well = layout_well_formed e o s v f good in
-      let within = planned_within (counts_in o) (counts_in s) (valid_mask v (tree_len o)) new_offsets new_sizes positions plan well.sizes_len well.mask_len (tree_len e) (λ i inside. omega (arith, well.within i inside, length-rows e)) in
-      let planned = planned_is_canonical old null new_offsets new_sizes positions (rows e') well plan (rows-taken e positions e' within taken) in
+      let within = planned_below (counts_in o) (counts_in s) (valid_mask v (tree_len o)) new_offsets new_sizes positions plan well.sizes_len well.mask_len (tree_len e) (λ i inside. omega (arith, well.within i inside, length-rows e)) in
+      let planned = planned_is_canonical old null new_offsets new_sizes positions (rows e') well plan (rows-selected e positions e' within taken) in
       ap (λ os. layout os (counts_in s') (valid_mask v (tree_len o')) (rows e')) o_is.counts_are
       ∙ ap (λ ss. layout new_offsets ss (valid_mask v (tree_len o')) (rows e')) s_is.counts_are
       ∙ ap (λ n. layout new_offsets new_sizes (valid_mask v n) (rows e')) same_len
@@ -134,7 +112,7 @@ module _ (e o s : Tree) (v : Valid) (f : Bool) (good : IsListView e o s f) (fits
         },
       )
 
-  pub rebuilt_view : t_o ≡ rebuilt_type (integer_type (kind_of o)) → t_s ≡ integer_type (kind_of s) → IsRebuilt (list_view e o s v f) (list_view e' o' s' v true)
+  pub rebuilt_view : t_o ≡ rebuilt_offset_ptype (integer_type (kind_of o)) → t_s ≡ integer_type (kind_of s) → IsRebuilt (list_view e o s v f) (list_view e' o' s' v true)
   rebuilt_view offset_type size_type =
       let formed = rebuilt_formed in
       let same_lists : list_rows (list_view e' o' s' v true) ≡ list_rows (list_view e o s v f) =
@@ -145,7 +123,7 @@ module _ (e o s : Tree) (v : Valid) (f : Bool) (good : IsListView e o s f) (fits
         flag = refl;
         offsets_kind = o_is.kind ∙ ap (λ t. integers t false) offset_type;
         sizes_kind = s_is.kind ∙ ap (λ t. integers t false) size_type ∙ sym (plain_kind (kind_of s) good.sizes.kind);
-        kind = ap (λ k. lists k (nullable v)) (taken.kind ∙ or_nullable-false (kind_of e));
+        kind = ap (λ k. lists k (nullable v)) taken.kind;
         state = refl;
         same_rows = same_rows_by_lists e' o' s' v true e o s v f same_lists;
       }

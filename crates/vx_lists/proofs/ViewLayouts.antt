@@ -6,7 +6,8 @@ use Rattle.std.proofs.lemmas.Simd.{map-map}
 use Rattle.std.proofs.lemmas.List.FromFn.{fill_by_all, length-map-range_with_len, get_or-map-range_with_len}
 use Rattle.vx_base.proofs.ListParts.{map_range_same}
 use Rattle.vx_base.specs.Rows.{Row, null, items, Rows, no_rows, row, list_from, rows_from, list_in, count_in}
-use Rattle.vx_tree.specs.Tree.{Tree, list_view, Valid}
+use Rattle.vx_tree.specs.Tree.{Tree, bools, primitive, constant, dictionary, fixed_list, list_view, structure, view_array, Valid}
+use Rattle.vx_tree.specs.Layouts.{is_list_view}
 use Rattle.vx_tree.specs.Meaning.{tree_len, row_at, rows, rows_range, is_valid_at, valid_mask}
 use Rattle.vx_tree.specs.Formed.{IsListView}
 use Rattle.vx_lists.specs.ListLayout.{list_at, lists_at, rows_of, IsWellFormed}
@@ -96,7 +97,7 @@ module _ (e o s : Tree) (v : Valid) (f : Bool) (good : IsListView e o s f) where
 
 -- ---- a list view has the rows that its lists are
 
-abbrev row_of_list : Option (List Row) → Row
+abbrev pub row_of_list : Option (List Row) → Row
 row_of_list None = null
 row_of_list (Some xs) = items (rows_from xs)
 
@@ -117,3 +118,13 @@ rows-by_lists e o s v f =
 
 pub same_rows_by_lists : (e o s : Tree) (v : Valid) (f : Bool) (e' o' s' : Tree) (v' : Valid) (f' : Bool) → list_rows (list_view e o s v f) ≡ list_rows (list_view e' o' s' v' f') → rows (list_view e o s v f) ≡ rows (list_view e' o' s' v' f')
 same_rows_by_lists e o s v f e' o' s' v' f' same = rows-by_lists e o s v f ∙ ap (map row_of_list) same ∙ sym (rows-by_lists e' o' s' v' f')
+
+pub rows-by_list_rows : (t : Tree) → is_list_view t ≡ true → rows t ≡ map row_of_list (list_rows t)
+rows-by_list_rows (bools bits v) is_view = cc
+rows-by_list_rows (primitive t bs v) is_view = cc
+rows-by_list_rows (constant k r n) is_view = cc
+rows-by_list_rows (dictionary c v f) is_view = cc
+rows-by_list_rows (fixed_list e k v n) is_view = cc
+rows-by_list_rows (list_view e o s v f) is_view = rows-by_lists e o s v f
+rows-by_list_rows (structure ns ts v n) is_view = cc
+rows-by_list_rows (view_array vs bs k v) is_view = cc

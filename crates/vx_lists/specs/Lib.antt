@@ -1,3 +1,4 @@
 pub mod ListLayout
+pub mod CountBytes
 pub mod ListViews
 pub mod ListViewFaults

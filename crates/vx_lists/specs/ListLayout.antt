@@ -1,5 +1,5 @@
 -- A column of lists: where each list lies among the elements, and the one layout that its rows fix.
-use Rattle.std.specs.Prelude.{◌≡◌, ℕ, ◌+◌, ◌-◌, ◌<◌, ◌≤◌, Bool, false, if◌then◌else◌, List, [], ◌∷◌, length, take, drop, map, sum, slice_index, slice_index_or, Option, Some, None, is_some}
+use Rattle.std.specs.Prelude.{◌≡◌, ℕ, ◌+◌, ◌-◌, ◌<◌, ◌≤◌, Bool, false, if◌then◌else◌, List, [], ◌∷◌, ◌++◌, length, take, drop, map, sum, slice_index, slice_index_or, Option, Some, None, is_some}
 use Rattle.std.specs.List.{flat_map, range_with_len}
 use Rattle.std.specs.Option.{option_map}
 
@@ -102,8 +102,14 @@ map_rows f rows = map (option_map (map f)) rows
 abbrev pub map_layout : {X Y : Type 0} → (X → Y) → ListLayout X → ListLayout Y
 map_layout f l = layout l.offsets l.sizes l.mask (map f l.elements)
 
+-- the positions of the elements of lists, one list after another
+abbrev pub joined_positions : List ℕ → List ℕ → List ℕ
+joined_positions [] sizes = []
+joined_positions (offset ∷ offsets) [] = []
+joined_positions (offset ∷ offsets) (size ∷ sizes) = range_with_len offset size ++ joined_positions offsets sizes
+
 -- offsets, sizes and positions to take that make the canonical layout of these rows of positions
-pub record IsPlan (rows : List (Option (List ℕ))) (offsets sizes : List ℕ) (positions : List (Option ℕ)) : Type 0 where
+pub record IsPlan (rows : List (Option (List ℕ))) (offsets sizes positions : List ℕ) : Type 0 where
   pub offsets_are : offsets ≡ (canonical rows).offsets
   pub sizes_are : sizes ≡ (canonical rows).sizes
-  pub positions_are : positions ≡ map Some (canonical rows).elements
+  pub positions_are : positions ≡ (canonical rows).elements

@@ -1,20 +1,16 @@
 -- Why a list view, or its rebuilding, is refused.
-use Rattle.std.specs.Prelude.{◌≡◌, ℕ, ◌+◌, ◌^◌, ◌==◌, nat_lt, nat_le, int_le, if◌then◌else◌, ℤ, pos, negsuc, Option, Some, None, unwrap_or, IsSome}
-use Rattle.vx_base.specs.declared.errors.VortexError.{VortexError}
+use Rattle.std.specs.Prelude.{◌≡◌, ℕ, ◌+◌, ◌^◌, ◌==◌, nat_lt, nat_le, int_le, if◌then◌else◌, ℤ, pos, negsuc, Option, Some, None, unwrap_or}
 use Rattle.vx_base.specs.declared.ptypes.PType.{PType}
 use Rattle.vx_base.specs.Integers.{greatest}
-use Rattle.vx_base.specs.Refusals.{Refusal, refusal_of, mismatched_types, length_mismatch, negative, overflow, out_of_bounds, or_else, first_fault}
+use Rattle.vx_base.specs.Refusals.{Refusal, mismatched_types, length_mismatch, negative, overflow, out_of_bounds, or_else, first_fault}
 use Rattle.vx_base.specs.Rows.{number_in}
 use Rattle.vx_base.specs.Kinds.{is_plain_integers, integer_type}
 use Rattle.vx_tree.specs.Tree.{Tree, Valid}
 use Rattle.vx_tree.specs.Meaning.{tree_len, kind_of, row_at}
 use Rattle.vx_tree.specs.Faults.{valid_type_fault, valid_len_fault, take_overflow}
-use Rattle.vx_lists.specs.ListLayout.{valid_total}
-use Rattle.vx_lists.specs.ListViews.{elements_of, offsets_of, sizes_of, flag_of, counts_in, mask_of, rebuilt_type}
-
--- an error that names a fault, which stands
-abbrev pub Names : Option Refusal → VortexError → Type 0
-Names fault e = IsSome fault × (fault ≡ refusal_of e)
+use Rattle.vx_lists.specs.declared.rebuild.ListViewRebuildMode.{ListViewRebuildMode}
+use Rattle.vx_lists.specs.declared.rebuild.ListViewRebuildMode.TheVariants.{MakeZeroCopyToList}
+use Rattle.vx_lists.specs.ListViews.{elements_of, offsets_of, flag_of, rebuilt_offset_ptype, total_of}
 
 -- the fault of one row over `count` elements: a negative offset or size, an end past every usize, or an end past the elements
 abbrev pub list_row_fault : ℕ → ℕ → ℤ → ℤ → Option Refusal
@@ -51,19 +47,15 @@ list_view_fault e o s v = or_else (list_parts_fault o s v) (list_rows_fault (tre
 abbrev pub total_fault : PType → ℕ → Option Refusal
 total_fault t total = if int_le (pos total) (greatest t) then None else Some overflow
 
--- how many elements the valid rows of a list view have in all
-abbrev pub total_of : Tree → ℕ
-total_of t = valid_total (counts_in (sizes_of t)) (mask_of t)
-
--- that total passes the greatest rebuilt offset
+-- the total of the valid sizes passes the greatest rebuilt offset
 abbrev pub rebuilt_total_fault : Tree → Option Refusal
-rebuilt_total_fault t = total_fault (rebuilt_type (integer_type (kind_of (offsets_of t)))) (total_of t)
+rebuilt_total_fault t = total_fault (rebuilt_offset_ptype (integer_type (kind_of (offsets_of t)))) (total_of t)
 
 -- a list view cannot be laid out anew: the total of the valid sizes passes the greatest rebuilt offset, or that many
 -- elements cannot be taken
 abbrev pub rebuild_overflow : Tree → Option Refusal
 rebuild_overflow t = or_else (rebuilt_total_fault t) (take_overflow (elements_of t) (total_of t))
 
--- the same, but an array without rows and a flagged one stay as they are
-abbrev pub rebuild_fault : Tree → Option Refusal
-rebuild_fault t = if tree_len t == 0 then None else (if flag_of t then None else rebuild_overflow t)
+-- the same by mode: an array without rows comes back in each
+abbrev pub rebuild_fault : ListViewRebuildMode → Tree → Option Refusal
+rebuild_fault MakeZeroCopyToList t = if tree_len t == 0 then None else (if flag_of t then None else rebuild_overflow t)

@@ -1,28 +1,18 @@
 -- What a list view is made of, what it stands for, and what rebuilding gives.
-use Rattle.std.specs.Prelude.{◌≡◌, ◌<◌, ◌+◌, ◌^◌, ℕ, length, slice_index, Bool, true, false, List, map, pos, Option}
-use Rattle.std.specs.List.{All}
-use Rattle.vx_base.specs.Integers.{Holds}
+use Rattle.std.specs.Prelude.{◌≡◌, ℕ, Bool, true, false, List, map, Option}
 use Rattle.vx_base.specs.declared.ptypes.PType.{PType}
 use Rattle.vx_base.specs.declared.ptypes.PType.TheVariants.{U8, U16, U32, U64, I8, I16, I32, I64}
 use Rattle.vx_base.specs.Rows.{Row, count_in, list_in}
 use Rattle.vx_base.specs.Kinds.{integers, integer_type}
 use Rattle.vx_tree.specs.Tree.{Tree, bools, primitive, constant, dictionary, fixed_list, list_view, structure, view_array, Valid, non_nullable}
+pub use Rattle.vx_tree.specs.Layouts.{is_list_view}
 use Rattle.vx_tree.specs.Meaning.{tree_len, kind_of, rows, valid_mask}
 use Rattle.vx_tree.specs.Shapes.{state_of}
 use Rattle.vx_tree.specs.Formed.{IsCounts}
-use Rattle.vx_lists.specs.ListLayout.{ListLayout, layout, canonical, position_rows, IsPlan}
+use Rattle.vx_lists.specs.CountBytes.{HoldCounts}
+use Rattle.vx_lists.specs.ListLayout.{ListLayout, layout, canonical, valid_sizes, valid_total, joined_positions}
 
 -- ---- the parts of a list view; another layout has none
-
-abbrev pub is_list_view : Tree → Bool
-is_list_view (bools bits v) = false
-is_list_view (primitive t bs v) = false
-is_list_view (constant k r n) = false
-is_list_view (dictionary c v f) = false
-is_list_view (fixed_list e k v n) = false
-is_list_view (list_view e o s v f) = true
-is_list_view (structure ns ts v n) = false
-is_list_view (view_array vs bs u v) = false
 
 abbrev pub elements_of : Tree → Tree
 elements_of (bools bits v) = bools bits v
@@ -106,32 +96,36 @@ list_rows t = map list_in (rows t)
 -- ---- what rebuilding gives
 
 -- the type of the offsets of a rebuilt list view, by the type of those before
-abbrev pub rebuilt_type : PType → PType
-rebuilt_type U8 = U32
-rebuilt_type U16 = U32
-rebuilt_type U32 = U32
-rebuilt_type U64 = U64
-rebuilt_type I8 = I32
-rebuilt_type I16 = I32
-rebuilt_type I32 = I32
-rebuilt_type I64 = I64
+abbrev pub rebuilt_offset_ptype : PType → PType
+rebuilt_offset_ptype U8 = U32
+rebuilt_offset_ptype U16 = U32
+rebuilt_offset_ptype U32 = U32
+rebuilt_offset_ptype U64 = U64
+rebuilt_offset_ptype I8 = I32
+rebuilt_offset_ptype I16 = I32
+rebuilt_offset_ptype I32 = I32
+rebuilt_offset_ptype I64 = I64
 
--- the numbers of a list view, with the type of its rebuilt offsets; every end fits a usize
-pub record AreNumbersOf (t : Tree) (offset_type : PType) (offsets sizes : List ℕ) (mask : List Bool) : Type 0 where
-  pub offset_type_is : offset_type ≡ rebuilt_type (integer_type (kind_of (offsets_of t)))
-  pub offsets_are : offsets ≡ counts_in (offsets_of t)
-  pub sizes_are : sizes ≡ counts_in (sizes_of t)
-  pub mask_is : mask ≡ mask_of t
-  pub sizes_len : length sizes ≡ length offsets
-  pub mask_len : length mask ≡ length offsets
-  pub ends_fit : (i : ℕ) → i < length offsets → slice_index offsets i + slice_index sizes i < 2 ^ 64
-  pub sizes_held : All (λ n. Holds (integer_type (kind_of (sizes_of t))) (pos n)) sizes
+-- the sizes of a list view, 0 at its null rows
+abbrev pub valid_sizes_of : Tree → List ℕ
+valid_sizes_of t = valid_sizes (counts_in (sizes_of t)) (mask_of t)
 
--- the offsets, the sizes and the positions to take of a rebuilt list view, and that their types hold them
-pub record PlansRebuild (t : Tree) (offsets sizes : List ℕ) (positions : List (Option ℕ)) : Type 0 where
-  pub plan : IsPlan (position_rows (counts_in (offsets_of t)) (counts_in (sizes_of t)) (mask_of t)) offsets sizes positions
-  pub offsets_held : All (λ n. Holds (rebuilt_type (integer_type (kind_of (offsets_of t)))) (pos n)) offsets
-  pub sizes_held : All (λ n. Holds (integer_type (kind_of (sizes_of t))) (pos n)) sizes
+-- the positions of the elements of its valid rows, one row after another
+abbrev pub valid_positions_of : Tree → List ℕ
+valid_positions_of t = joined_positions (counts_in (offsets_of t)) (valid_sizes_of t)
+
+-- how many elements its valid rows have in all
+abbrev pub total_of : Tree → ℕ
+total_of t = valid_total (counts_in (sizes_of t)) (mask_of t)
+
+-- what a list view is rebuilt from: its offsets and the sizes of its valid rows, as bytes of their types, and the total of
+-- these sizes
+pub record IsRebuildPlan (t : Tree) (offset_type : PType) (offsets : List ℕ) (size_type : PType) (sizes : List ℕ) (count : ℕ) : Type 0 where
+  pub offset_type_is : offset_type ≡ integer_type (kind_of (offsets_of t))
+  pub offsets_are : HoldCounts offset_type offsets (counts_in (offsets_of t))
+  pub size_type_is : size_type ≡ integer_type (kind_of (sizes_of t))
+  pub sizes_are : HoldCounts size_type sizes (valid_sizes_of t)
+  pub count_is : count ≡ total_of t
 
 -- a flagged list view in the canonical layout of the rows of another, under the same kind and state, with offsets of the
 -- rebuilt type and sizes of their own
@@ -139,8 +133,15 @@ pub record IsRebuilt (t r : Tree) : Type 0 where
   pub is_view : is_list_view r ≡ true
   pub canonical_layout : list_layout_of r ≡ canonical (list_rows t)
   pub flag : flag_of r ≡ true
-  pub offsets_kind : kind_of (offsets_of r) ≡ integers (rebuilt_type (integer_type (kind_of (offsets_of t)))) false
+  pub offsets_kind : kind_of (offsets_of r) ≡ integers (rebuilt_offset_ptype (integer_type (kind_of (offsets_of t)))) false
   pub sizes_kind : kind_of (sizes_of r) ≡ kind_of (sizes_of t)
   pub kind : kind_of r ≡ kind_of t
   pub state : state_of (validity_of r) ≡ state_of (validity_of t)
   pub same_rows : rows r ≡ rows t
+
+-- two list views of equal offsets and sizes as numbers, equal masks and equal element rows
+pub record AreAlike (t u : Tree) : Type 0 where
+  pub offsets : counts_in (offsets_of t) ≡ counts_in (offsets_of u)
+  pub sizes : counts_in (sizes_of t) ≡ counts_in (sizes_of u)
+  pub masks : mask_of t ≡ mask_of u
+  pub elements : rows (elements_of t) ≡ rows (elements_of u)

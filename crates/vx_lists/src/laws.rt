@@ -1,7 +1,11 @@
 //! Laws of list layouts. Each function stands for the law that its clause states.
 
 ghost use Rattle.std.specs.Prelude.{◌≡◌, ◌↔◌, ◌<◌, ◌∷◌, [], ℕ, true, false, List, Option, length, map, sum, take, slice_index, slice_index_or};
+ghost use Rattle.vx_base.specs.Rows.{Row};
+ghost use Rattle.vx_tree.specs.Meaning.{rows};
+ghost use Rattle.vx_tree.specs.Tree.{Tree};
 ghost use Rattle.vx_lists.specs.ListLayout.{ListLayout, layout, rows_of, IsWellFormed, StandsFor, size_of, canonical, IsTidy, valid_total, numbered, position_rows, map_layout};
+ghost use Rattle.vx_lists.specs.ListViews.{AreAlike, IsRebuilt};
 
 /// The canonical layout stands for its rows.
 pub fn canonical_stands<T>()
@@ -49,6 +53,36 @@ pub fn gather_by_positions<T>()
     ensures { (l : ListLayout T) (d : T) → IsWellFormed l → canonical (rows_of l)
         ≡ map_layout (λ i. slice_index_or l.elements i d)
         (canonical (position_rows l.offsets l.sizes l.mask)) }
+{}
+
+/// The canonical layout of lists of rows stands for them.
+pub fn canonical_rows_stand()
+    ensures { (rows : List (Option (List Row))) → StandsFor (canonical rows) rows }
+{}
+
+/// Two canonical layouts of lists of rows are equal exactly where the lists are.
+pub fn canonical_rows_are_exact()
+    ensures { (rows others : List (Option (List Row))) →
+        (canonical rows ≡ canonical others) ↔ (rows ≡ others) }
+{}
+
+/// The canonical layout of lists of rows is tidy.
+pub fn canonical_rows_are_tidy()
+    ensures { (rows : List (Option (List Row))) → IsTidy (canonical rows) }
+{}
+
+/// No other layout that stands for lists of rows is tidy.
+pub fn tidy_rows_are_canonical()
+    ensures { (l : ListLayout Row) (rows : List (Option (List Row))) →
+        StandsFor l rows → IsTidy l → l ≡ canonical rows }
+{}
+
+/// Two list views rebuild alike, in offsets and sizes as numbers, in masks and in element rows,
+/// exactly where their rows are equal: as `rebuild_by_take` does, and `rebuild` where neither is
+/// flagged and both have rows.
+pub fn equal_rows_rebuild_alike()
+    ensures { (t u r q : Tree) → IsRebuilt t r → IsRebuilt u q →
+        AreAlike r q ↔ (rows t ≡ rows u) }
 {}
 
 /// Lists that overlap are laid out one after the other.

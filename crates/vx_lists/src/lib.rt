@@ -1,13 +1,17 @@
 //! Columns of lists: the one layout that rows of lists fix, and list view arrays.
 #![tactic(auto)]
 
+mod by_type;
 mod count_arrays;
 pub mod laws;
 mod list_checks;
 mod list_view;
+mod number_rows;
 mod rebuild;
+mod rebuild_plan;
 
-pub use crate::list_view::{ListViewArray, ListViewRebuildMode};
+pub use crate::list_view::ListViewArray;
+pub use crate::rebuild::ListViewRebuildMode;
 
 #[cfg(test)]
 mod tests;

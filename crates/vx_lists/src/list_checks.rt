@@ -1,16 +1,18 @@
 // What is tested of the parts of a list view, and of its total before it is rebuilt.
 
-ghost use Rattle.std.specs.Prelude.{◌≡◌, ◌<ℤ◌, ◌^◌, pos, true, false, None, IfOk, IfErr, is_none};
+ghost use Rattle.std.specs.Prelude.{◌≡◌, ◌<ℤ◌, ◌^◌, pos, true, false, IfOk, is_none};
 ghost use Rattle.vx_base.specs.DTypes.{dtype_meaning};
+ghost use Rattle.vx_base.specs.Refusals.{Tests};
 ghost use Rattle.vx_base.specs.Kinds.{is_plain_integers};
 ghost use Rattle.vx_tree.specs.Faults.{valid_type_fault};
 ghost use Rattle.vx_tree.specs.Formed.{WellFormed, IsCounts};
 ghost use Rattle.vx_tree.specs.Meaning.{tree_len, kind_of};
 ghost use Rattle.vx_tree.specs.Parts.{valid_of};
 ghost use Rattle.vx_tree.specs.Tree.{list_view};
-ghost use Rattle.vx_lists.specs.ListViewFaults.{Names, list_row_fault, list_parts_fault, list_rows_fault, list_view_fault, total_fault};
-ghost use Rattle.vx_lists.specs.ListViews.{rebuilt_type};
+ghost use Rattle.vx_lists.specs.ListViewFaults.{list_row_fault, list_parts_fault, list_rows_fault, list_view_fault, total_fault};
 
+use crate::count_arrays::number_bytes;
+use crate::number_rows::check_number_rows;
 use vx_base::{DType, PType, VortexError};
 use vx_tree::{ArrayRef, Validity};
 
@@ -38,10 +40,7 @@ fn check_list_parts(
     sizes: &ArrayRef,
     validity: &Validity,
 ) -> Result<(), VortexError>
-    ensures accepted { IfOk result (λ _.
-        list_parts_fault offsets.now sizes.now (valid_of validity.now) ≡ None) }
-    ensures refused { IfErr result (Names
-        (list_parts_fault offsets.now sizes.now (valid_of validity.now))) }
+    ensures tests { Tests result (list_parts_fault offsets.now sizes.now (valid_of validity.now)) }
 {
     if !is_count_type(offsets.dtype()) || !is_count_type(sizes.dtype()) {
         return Err(VortexError::MismatchedTypes);
@@ -60,12 +59,17 @@ fn check_list_parts(
     }
 }
 
-// Refuses a row that is not `size` elements from `offset` on, among `count` elements.
-fn check_list_row(count: usize, row: usize, offset: i128, size: i128) -> Result<(), VortexError>
+/// Refuses a row that is not `size` elements from `offset` on, among `count` elements.
+#[inline]
+pub(crate) fn check_list_row(
+    count: usize,
+    row: usize,
+    offset: i128,
+    size: i128,
+) -> Result<(), VortexError>
     requires offset { offset <ℤ pos (2 ^ 64) }
     requires size { size <ℤ pos (2 ^ 64) }
-    ensures accepted { IfOk result (λ _. list_row_fault count row offset size ≡ None) }
-    ensures refused { IfErr result (Names (list_row_fault count row offset size)) }
+    ensures tests { Tests result (list_row_fault count row offset size) }
 {
     if offset < 0 || size < 0 {
         return Err(VortexError::Negative { row });
@@ -86,11 +90,16 @@ fn check_list_rows(count: usize, offsets: &ArrayRef, sizes: &ArrayRef) -> Result
     requires offsets { is_plain_integers (kind_of offsets.now) ≡ true }
     requires sizes { is_plain_integers (kind_of sizes.now) ≡ true }
     requires same_len { tree_len sizes.now ≡ tree_len offsets.now }
-    ensures accepted { IfOk result (λ _. list_rows_fault count offsets.now sizes.now ≡ None) }
-    ensures refused { IfErr result (Names (list_rows_fault count offsets.now sizes.now)) }
+    ensures tests { Tests result (list_rows_fault count offsets.now sizes.now) }
     ensures offsets { IfOk result (λ _. IsCounts offsets.now) }
     ensures sizes { IfOk result (λ _. IsCounts sizes.now) }
 {
+    if let (Some((offset_type, offset_bytes)), Some((size_type, size_bytes))) = (
+        number_bytes(offsets),
+        number_bytes(sizes),
+    ) {
+        return check_number_rows(count, offset_type, offset_bytes, size_type, size_bytes);
+    }
     for row in 0..offsets.len() {
         let offset = offsets.int_at(row).unwrap();
         let size = sizes.int_at(row).unwrap();
@@ -106,10 +115,7 @@ pub(crate) fn check_list_view(
     sizes: &ArrayRef,
     validity: &Validity,
 ) -> Result<(), VortexError>
-    ensures accepted { IfOk result (λ _.
-        list_view_fault elements.now offsets.now sizes.now (valid_of validity.now) ≡ None) }
-    ensures refused { IfErr result (Names
-        (list_view_fault elements.now offsets.now sizes.now (valid_of validity.now))) }
+    ensures tests { Tests result (list_view_fault elements.now offsets.now sizes.now (valid_of validity.now)) }
     ensures formed { let v = valid_of validity.now in
         IfOk result (λ _. WellFormed (list_view elements.now offsets.now sizes.now v false)) }
 {
@@ -117,22 +123,9 @@ pub(crate) fn check_list_view(
     check_list_rows(elements.len(), offsets, sizes)
 }
 
-/// The type of the offsets of a rebuilt list view.
-pub(crate) fn rebuilt_type(ptype: PType) -> PType
-    ensures { result ≡ rebuilt_type ptype }
-{
-    match ptype {
-        PType::U8 | PType::U16 | PType::U32 => PType::U32,
-        PType::U64 => PType::U64,
-        PType::I8 | PType::I16 | PType::I32 => PType::I32,
-        PType::I64 => PType::I64,
-    }
-}
-
 /// Refuses a total that passes the greatest number of an offset type.
 pub(crate) fn check_total(ptype: PType, total: u128) -> Result<usize, VortexError>
-    ensures accepted { IfOk result (λ _. total_fault ptype total ≡ None) }
-    ensures refused { IfErr result (Names (total_fault ptype total)) }
+    ensures tests { Tests result (total_fault ptype total) }
     ensures same { IfOk result (λ count. count ≡ total) }
 {
     if total > usize::MAX as u128 || !ptype.holds(total as i128) {

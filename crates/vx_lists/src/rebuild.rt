@@ -1,82 +1,167 @@
-// What rebuilding a list view comes to, over its offsets, its sizes and its mask as numbers.
+// Rebuilding: the rows of a list view in another layout of the same lists.
 
-ghost use Rattle.std.specs.Prelude.{◌≡◌, ◌+◌, ◌-◌, ◌<◌, ◌≤◌, ◌^◌, ◌++◌, ℕ, length, map, slice_index, Some, IfOk, IsOkUnless};
-ghost use Rattle.std.specs.List.{range_with_len};
-ghost use Rattle.vx_base.specs.declared.errors.VortexError.TheVariants.{Memory};
-ghost use Rattle.vx_lists.specs.ListLayout.{IsPlan, position_rows, valid_total};
+ghost use Rattle.std.specs.Prelude.{◌≡◌, ◌≢◌, true, false, None, IfOk, IsTrue};
+ghost use Rattle.vx_base.specs.Refusals.{Gives, Refuses};
+ghost use Rattle.vx_tree.specs.Faults.{take_overflow};
+ghost use Rattle.vx_tree.specs.Formed.{IsConsecutive};
+ghost use Rattle.vx_tree.specs.Meaning.{tree_len};
+ghost use Rattle.vx_tree.specs.Operations.{IsSelected};
+ghost use Rattle.vx_lists.specs.declared.rebuild.ListViewRebuildMode.TheVariants.{MakeZeroCopyToList};
+ghost use Rattle.vx_lists.specs.ListViewFaults.{rebuilt_total_fault, rebuild_overflow, rebuild_fault};
+ghost use Rattle.vx_lists.specs.ListViews.{elements_of, offsets_of, sizes_of, flag_of, with_flag, valid_positions_of, IsRebuildPlan, IsRebuilt};
 
+use crate::count_arrays::count_bytes;
+use crate::list_checks::check_total;
+use crate::list_view::ListViewArray;
+use crate::rebuild_plan::{
+    RebuildPlan, element_runs, list_starts, positions_of_runs, rebuilt_offset_ptype, valid_sizes,
+    valid_total,
+};
 use std::alloc::Global;
-use vx_base::{Mask, VortexError};
+use vx_base::{Selection, VortexError};
+use vx_tree::{ArrayRef, Layout, TypedArray, Validity};
 
-/// The numbers of a rebuilt list view, and where its elements are now.
-#[derive(Drop)]
-pub(crate) struct RebuildPlan {
-    pub offsets: Vec<usize>,
-    pub sizes: Vec<usize>,
-    pub positions: Vec<Option<usize>>,
+/// How a list view is to be rebuilt.
+#[derive(Clone, Copy, Debug, PartialEq, Eq)]
+pub enum ListViewRebuildMode {
+    /// The lists lie end to end in their order, so that the offsets are those of a list array.
+    MakeZeroCopyToList,
 }
 
-/// How many elements the present rows have in all.
-pub(crate) fn valid_total(sizes: &[usize], mask: &Mask) -> u128
-    requires { length mask.now ≡ length sizes.now }
-    ensures { result ≡ valid_total sizes.now mask.now }
-{
-    let mut total = 0;
-    for (i, size) in sizes.iter().enumerate() {
-        if mask.value(i) {
-            total += *size as u128;
+impl ListViewArray {
+    // What is needed of the numbers, once their total is known to fit.
+    fn plan(&self, alloc: Global) -> Result<RebuildPlan, VortexError>
+        ensures ok { IfOk result (λ plan. IsRebuildPlan self.now plan.offset_type plan.offsets
+            plan.size_type plan.sizes plan.count) }
+        ensures refuses { Refuses result (rebuilt_total_fault self.now) }
+    {
+        let parts = self.parts();
+        let offset_type = parts.offsets.dtype().as_ptype();
+        let size_type = parts.sizes.dtype().as_ptype();
+        let mask = parts.validity.execute_mask(alloc, parts.offsets.len())?;
+        let sizes = count_bytes(alloc, parts.sizes)?;
+        let total = valid_total(size_type, sizes.as_slice(), &mask);
+        let count = check_total(rebuilt_offset_ptype(offset_type), total)?;
+        let sizes = valid_sizes(alloc, size_type, &sizes, &mask)?;
+        let offsets = count_bytes(alloc, parts.offsets)?;
+        Ok(RebuildPlan {
+            offset_type,
+            offsets,
+            size_type,
+            sizes,
+            count,
+        })
+    }
+
+    // The elements of the plan, by their positions; of numbers and bits ranges are copied.
+    fn take_elements(&self, alloc: Global, plan: &RebuildPlan) -> Result<ArrayRef, VortexError>
+        requires plan { IsRebuildPlan self.now plan.now.offset_type plan.now.offsets
+            plan.now.size_type plan.now.sizes plan.now.count }
+        requires fits { rebuilt_total_fault self.now ≡ None }
+        ensures selected { IfOk result
+            (IsSelected (elements_of self.now) (valid_positions_of self.now)) }
+        ensures refuses { Refuses result (rebuild_overflow self.now) }
+    {
+        let elements = self.parts().elements;
+        let runs = element_runs(
+            alloc,
+            plan.offset_type,
+            plan.offsets.as_slice(),
+            plan.size_type,
+            plan.sizes.as_slice(),
+        )?;
+        if matches!(
+            elements.layout(),
+            Layout::Bool { .. } | Layout::Primitive { .. }
+        ) {
+            return elements.select(alloc, &Selection::of_runs(&runs, plan.count));
+        }
+        let positions = positions_of_runs(alloc, &runs, plan.count)?;
+        elements.select(alloc, &Selection::at_positions(&positions))
+    }
+
+    // The rebuilt list view of a plan over these elements.
+    fn rebuilt(
+        &self,
+        alloc: Global,
+        plan: RebuildPlan,
+        elements: ArrayRef,
+    ) -> Result<ListViewArray, VortexError>
+        requires plan { IsRebuildPlan self.now plan.offset_type plan.offsets plan.size_type
+            plan.sizes plan.count }
+        requires fits { rebuilt_total_fault self.now ≡ None }
+        requires elements { IsSelected (elements_of self.now) (valid_positions_of self.now)
+            elements }
+        ensures { Gives result (IsRebuilt self.now) }
+    {
+        let validity = self.parts().validity.try_clone(alloc)?;
+        let offset_type = rebuilt_offset_ptype(plan.offset_type);
+        let starts = list_starts(alloc, offset_type, plan.size_type, plan.sizes.as_slice())?;
+        let offsets = ArrayRef::primitive(alloc, offset_type, starts, Validity::NonNullable)?;
+        let sizes = ArrayRef::primitive(
+            alloc,
+            plan.size_type,
+            plan.sizes.try_clone(alloc)?,
+            Validity::NonNullable,
+        )?;
+        let array = ArrayRef::list_view(alloc, elements, offsets, sizes, validity, true)?;
+        Ok(ListViewArray::from_array(array))
+    }
+
+    /// The same rows in the one layout that they fix: the valid lists lie end to end in their order
+    /// and no element is left over, a null row has the running offset and size 0, and the flag is
+    /// set. Offsets are `u32` from `u8`, `u16` and `u32`, `u64` from `u64`, `i32` from `i8`, `i16`
+    /// and `i32`, `i64` from `i64`; sizes keep their type. The elements are taken at once. Refuses
+    /// `Overflow` where the total of the valid sizes passes the greatest number of the new offset
+    /// type, or where taking that many elements is refused.
+    pub fn rebuild_by_take(&self, alloc: Global) -> Result<ListViewArray, VortexError>
+        ensures rebuilt { IfOk result (IsRebuilt self.now) }
+        ensures refuses { Refuses result (rebuild_overflow self.now) }
+    {
+        let plan = self.plan(alloc)?;
+        let elements = self.take_elements(alloc, &plan)?;
+        Ok(self.rebuilt(alloc, plan, elements)?)
+    }
+
+    // The same parts under this flag.
+    fn with_flag(&self, alloc: Global, flag: bool) -> Result<ListViewArray, VortexError>
+        requires { IsTrue flag → IsConsecutive (offsets_of self.now) (sizes_of self.now) }
+        ensures { Gives result (λ a. a ≡ with_flag flag self.now) }
+    {
+        let parts = self.parts();
+        let elements = parts.elements.try_clone(alloc)?;
+        let offsets = parts.offsets.try_clone(alloc)?;
+        let sizes = parts.sizes.try_clone(alloc)?;
+        let validity = parts.validity.try_clone(alloc)?;
+        let array = ArrayRef::list_view(alloc, elements, offsets, sizes, validity, flag)?;
+        Ok(ListViewArray::from_array(array))
+    }
+
+    /// The same rows, rebuilt as `mode` says. An array without rows comes back with the flag set
+    /// and all its elements. Under `MakeZeroCopyToList` a flagged one comes back as it is, and any
+    /// other as `rebuild_by_take` gives it, which refuses `Overflow`.
+    pub fn rebuild(
+        &self,
+        alloc: Global,
+        mode: ListViewRebuildMode,
+    ) -> Result<ListViewArray, VortexError>
+        ensures empty { tree_len self.now ≡ 0 → IfOk result (λ a. a ≡ with_flag true self.now) }
+        ensures flagged { mode ≡ MakeZeroCopyToList → flag_of self.now ≡ true →
+            IfOk result (λ a. a ≡ self.now) }
+        ensures rebuilt { mode ≡ MakeZeroCopyToList → tree_len self.now ≢ 0 →
+            flag_of self.now ≡ false → IfOk result (IsRebuilt self.now) }
+        ensures refuses { Refuses result (rebuild_fault mode self.now) }
+    {
+        match mode {
+            ListViewRebuildMode::MakeZeroCopyToList => {
+                if self.is_empty() {
+                    Ok(self.with_flag(alloc, true)?)
+                } else if self.is_zero_copy_to_list() {
+                    Ok(self.try_clone(alloc)?)
+                } else {
+                    self.rebuild_by_take(alloc)
+                }
+            }
         }
     }
-    total
-}
-
-// Appends the positions from `start` to `end`.
-fn push_positions(
-    positions: &mut Vec<Option<usize>>,
-    start: usize,
-    end: usize,
-) -> Result<(), VortexError>
-    requires { start ≤ end }
-    ensures ok { IfOk result (λ _. positions.new.items
-        ≡ positions.old.items ++ map Some (range_with_len start (end - start))) }
-    ensures err { IsOkUnless result Memory }
-{
-    for position in start..end {
-        positions.push(Some(position))?;
-    }
-    Ok(())
-}
-
-/// Lays the present lists end to end, with size 0 at null rows. `total` is the number of positions
-/// to make room for.
-pub(crate) fn plan_rebuild(
-    alloc: Global,
-    offsets: &[usize],
-    sizes: &[usize],
-    mask: &Mask,
-    total: usize,
-) -> Result<RebuildPlan, VortexError>
-    requires sizes_len { length sizes.now ≡ length offsets.now }
-    requires mask_len { length mask.now ≡ length offsets.now }
-    requires ends_fit { (i : ℕ) → i < length offsets.now →
-        slice_index offsets.now i + slice_index sizes.now i < 2 ^ 64 }
-    ensures ok { IfOk result (λ plan. IsPlan (position_rows offsets.now sizes.now mask.now)
-        plan.offsets.items plan.sizes.items plan.positions.items) }
-    ensures err { IsOkUnless result Memory }
-{
-    let mut new_offsets = Vec::with_capacity(alloc, offsets.len())?;
-    let mut new_sizes = Vec::with_capacity(alloc, offsets.len())?;
-    let mut positions = Vec::with_capacity(alloc, total)?;
-    for i in 0..offsets.len() {
-        let size = if mask.value(i) { sizes[i] } else { 0 };
-        let start = offsets[i];
-        new_offsets.push(positions.len())?;
-        new_sizes.push(size)?;
-        push_positions(&mut positions, start, start + size)?;
-    }
-    Ok(RebuildPlan {
-        offsets: new_offsets,
-        sizes: new_sizes,
-        positions,
-    })
 }

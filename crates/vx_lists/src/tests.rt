@@ -1,27 +1,18 @@
 use super::*;
 use std::alloc::Global;
 use std::test::Fail;
-use vx_base::{BitBuffer, Buffer, DType, NativePType, PType, VortexError};
-use vx_tree::{ArrayRef, Layout, Validity};
+use vx_base::{BitBuffer, Buffer, DType, NativePType, Nullability, PType, Scalar, VortexError};
+use vx_tree::{ArrayRef, TypedArray, Validity};
 
 fn ints<T: NativePType>(alloc: Global, items: &[T]) -> Result<ArrayRef, VortexError> {
     let bytes = Buffer::copy_from(alloc, items)?.into_byte_buffer(alloc)?;
-    let ptype = T::PTYPE;
-    let validity = Validity::NonNullable;
-    ArrayRef::from_parts(
-        alloc,
-        Layout::Primitive {
-            ptype,
-            bytes,
-            validity,
-        },
-    )
+    ArrayRef::primitive(alloc, T::PTYPE, bytes, Validity::NonNullable)
 }
 
 fn bools(alloc: Global, items: &[bool]) -> Result<ArrayRef, VortexError> {
     let bits = BitBuffer::from_bools(alloc, items)?;
     let validity = Validity::NonNullable;
-    ArrayRef::from_parts(alloc, Layout::Bool { bits, validity })
+    ArrayRef::bools(alloc, bits, validity)
 }
 
 fn view<T: NativePType>(
@@ -97,6 +88,61 @@ fn null_elements_go(rt: HostRuntime) -> Result<(), Fail> {
     let validity = Validity::Array(bools(alloc, &[true, false, true])?);
     let lists = view::<u32>(alloc, &[1, 2, 3, 4], &[0, 1, 2], &[1, 2, 2], validity)?;
     assert!(rt; rebuilds_to(alloc, &lists, &[(0, 1), (1, 0), (1, 2)], &[1, 3, 4])?);
+    Ok(())
+}
+
+#[test]
+fn last_nulls_start_at_the_end(rt: HostRuntime) -> Result<(), Fail> {
+    let alloc = rt.alloc();
+    let validity = Validity::Array(bools(alloc, &[true, true, false, false])?);
+    let lists = view::<i16>(alloc, &[1, 2, 3, 4], &[0, 2, 0, 0], &[2, 2, 0, 0], validity)?;
+    assert!(rt;
+        rebuilds_to(
+            alloc,
+            &lists,
+            &[(0, 2), (2, 2), (4, 0), (4, 0)],
+            &[1, 2, 3, 4]
+        )?
+    );
+    Ok(())
+}
+
+#[test]
+fn lists_in_another_order_are_laid_out(rt: HostRuntime) -> Result<(), Fail> {
+    let alloc = rt.alloc();
+    let lists = view::<u32>(
+        alloc,
+        &[5, 6, 7, 8],
+        &[2, 0],
+        &[2, 2],
+        Validity::NonNullable,
+    )?;
+    assert!(rt; rebuilds_to(alloc, &lists, &[(0, 2), (2, 2)], &[7, 8, 5, 6])?);
+    Ok(())
+}
+
+#[test]
+fn elements_of_another_layout_are_taken(rt: HostRuntime) -> Result<(), Fail> {
+    let alloc = rt.alloc();
+    let zero = Scalar::int(0, PType::I64, Nullability::NonNullable);
+    let elements = ArrayRef::constant(alloc, zero, 9)?;
+    let sizes = Scalar::int(2, PType::U8, Nullability::NonNullable);
+    let sizes = ArrayRef::constant(alloc, sizes, 2)?;
+    let offsets = ints::<u8>(alloc, &[7, 0])?;
+    let lists = ListViewArray::try_new(alloc, elements, offsets, sizes, Validity::NonNullable)?;
+    assert!(rt; rebuilds_to(alloc, &lists, &[(0, 2), (2, 2)], &[0, 0, 0, 0])?);
+    Ok(())
+}
+
+#[test]
+fn a_total_past_the_offset_type_is_refused(rt: HostRuntime) -> Result<(), Fail> {
+    let alloc = rt.alloc();
+    let zero = Scalar::int(0, PType::I32, Nullability::NonNullable);
+    let elements = ArrayRef::constant(alloc, zero, 4_294_967_296)?;
+    let offsets = ints::<i32>(alloc, &[0, 0])?;
+    let sizes = ints::<i32>(alloc, &[2_147_483_647, 1])?;
+    let lists = ListViewArray::try_new(alloc, elements, offsets, sizes, Validity::NonNullable)?;
+    assert!(rt; matches!(lists.rebuild_by_take(alloc), Err(VortexError::Overflow)));
     Ok(())
 }
 

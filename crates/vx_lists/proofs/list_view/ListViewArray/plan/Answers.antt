@@ -1,33 +1,52 @@
-use Rattle.std.proofs.Common.{◌≡◌, inr, sym, ◌∙◌, ap}
-use Rattle.std.proofs.lemmas.Result.{err_from_is_err_and, IfOk-weaker}
-use Rattle.vx_lists.specs.ListLayout.{position_rows, valid_total, IsPlan}
-use Rattle.vx_lists.specs.ListViews.{PlansRebuild}
-use Rattle.vx_lists.specs.ListViewFaults.{total_fault}
-use Rattle.vx_lists.proofs.ListPlans.{total_fault_is, plans_rebuild, OnOk-always}
+use Rattle.std.proofs.Common.{◌≡◌, ℕ, List, inr, sym, subst, ◌∙◌, ap}
+use Rattle.std.proofs.lemmas.Result.{err_from_is_err_and}
+use Rattle.vx_base.specs.Kinds.{integer_type}
+use Rattle.vx_tree.specs.Meaning.{kind_of, valid_mask}
+use Rattle.vx_tree.specs.Parts.{valid_of}
+use Rattle.vx_lists.specs.CountBytes.{counts_of, AreCountBytes}
+use Rattle.vx_lists.specs.ListLayout.{valid_total}
+use Rattle.vx_lists.specs.ListViewFaults.{total_fault, rebuilt_total_fault}
+use Rattle.vx_lists.specs.ListViews.{counts_in, rebuilt_offset_ptype}
+use Rattle.vx_lists.proofs.CountBytes.{held_are_counts}
+use Rattle.vx_lists.proofs.ListPlans.{plan_made, total_fault_is}
 use Rattle.vx_lists.proofs.list_view.ListViewArray.plan.Goals as goal
 
-pub returns-in_err-count-clause-refused : goal.returns-in_err-count-clause-refused
-returns-in_err-count-clause-refused c =
+pub valid_total-total-requires-clause-counts : goal.valid_total-total-requires-clause-counts
+valid_total-total-requires-clause-counts c =
+    let s = c.parts-parts.result.sizes.now in
+    let size_type = c.as_ptype-size_type.ensures ∙ ap integer_type c.dtype-2.ensures in
+    rw (size_type, c.as_slice.ensures.value) (held_are_counts (integer_type (kind_of s)) c.in_ok-sizes.sizes (counts_in s) c.in_ok-sizes.ensures.are)
+
+pub valid_sizes-requires-clause-counts : goal.valid_sizes-requires-clause-counts
+valid_sizes-requires-clause-counts c =
+    let s = c.parts-parts.result.sizes.now in
+    let size_type = c.as_ptype-size_type.ensures ∙ ap integer_type c.dtype-2.ensures in
+    rw size_type (held_are_counts (integer_type (kind_of s)) c.in_ok-sizes.sizes (counts_in s) c.in_ok-sizes.ensures.are)
+
+pub returns-in_err-count-clause-refuses : goal.returns-in_err-count-clause-refuses
+returns-in_err-count-clause-refuses c =
+    let parts = c.parts-parts.result in
     let p = err_from_is_err_and c.from_residual-in_err-count.result c.from_residual-in_err-count.ensures.1 in
-    let n = c.in_ok-numbers.numbers in
-    let total : c.valid_total-total.result ≡ valid_total n.sizes.items n.mask = c.valid_total-total.ensures ∙ ap (λ ss. valid_total ss n.mask) c.deref.ensures.value in
-    let fault = total_fault_is c.args.self.now n.offset_type n.offsets.items n.sizes.items n.mask c.in_ok-numbers.ensures.ok c.valid_total-total.result total in
-    rw (p.1, p.2) (inr (sym fault ∙ c.in_err-count.ensures.refused.1))
+    let total = c.valid_total-total.ensures ∙ ap (λ bs. valid_total (counts_of c.as_ptype-size_type.result bs) c.in_ok-mask.mask) c.as_slice.ensures.value in
+    let fault : total_fault c.rebuilt_offset_ptype.result c.valid_total-total.result ≡ rebuilt_total_fault c.args.self.now =
+    ap (λ t. total_fault t c.valid_total-total.result) c.rebuilt_offset_ptype.ensures
+    ∙ total_fault_is c.args.self.now parts.elements.now parts.offsets.now parts.sizes.now (valid_of parts.validity.now) parts.flag c.parts-parts.ensures.same c.parts-parts.ensures.formed c.as_ptype-offset_type.result c.as_ptype-size_type.result c.in_ok-sizes.sizes c.in_ok-mask.mask c.len.result c.valid_total-total.result
+    (c.as_ptype-offset_type.ensures ∙ ap integer_type c.dtype.ensures) (c.as_ptype-size_type.ensures ∙ ap integer_type c.dtype-2.ensures) c.in_ok-sizes.ensures c.in_ok-mask.ensures.mask c.len.ensures total in
+    rw (p.1, p.2) (inr (sym fault ∙ c.in_err-count.ensures.tests.1))
 
 pub returns-clause-ok : goal.returns-clause-ok
 returns-clause-ok c =
-    let n = c.in_ok-numbers.numbers in
-    let total : c.valid_total-total.result ≡ valid_total n.sizes.items n.mask = c.valid_total-total.ensures ∙ ap (λ ss. valid_total ss n.mask) c.deref.ensures.value in
-    let none = ap (total_fault n.offset_type) (sym total) ∙ c.in_ok-count.ensures.accepted in
-    IfOk-weaker c.plan_rebuild.result
-    (λ plan. IsPlan (position_rows c.deref-2.result.now c.deref-3.result.now n.mask) plan.offsets.items plan.sizes.items plan.positions.items)
-    (λ plan. PlansRebuild c.args.self.now plan.offsets.items plan.sizes.items plan.positions.items)
-    (λ plan is_plan. plans_rebuild c.args.self.now n.offset_type n.offsets.items n.sizes.items n.mask c.in_ok-numbers.ensures.ok c.deref-2.result.now c.deref-3.result.now plan.offsets.items plan.sizes.items plan.positions.items c.deref-2.ensures.value c.deref-3.ensures.value is_plan none)
-    c.plan_rebuild.ensures.ok
+    let parts = c.parts-parts.result in
+    let total = c.valid_total-total.ensures ∙ ap (λ bs. valid_total (counts_of c.as_ptype-size_type.result bs) c.in_ok-mask.mask) c.as_slice.ensures.value in
+    plan_made c.args.self.now parts.elements.now parts.offsets.now parts.sizes.now (valid_of parts.validity.now) parts.flag c.parts-parts.ensures.same c.parts-parts.ensures.formed c.as_ptype-offset_type.result c.as_ptype-size_type.result c.in_ok-offsets.offsets c.in_ok-sizes.sizes c.in_ok-sizes-2.sizes c.in_ok-mask.mask c.len.result c.in_ok-count.count
+    (c.as_ptype-offset_type.ensures ∙ ap integer_type c.dtype.ensures) (c.as_ptype-size_type.ensures ∙ ap integer_type c.dtype-2.ensures) c.in_ok-offsets.ensures c.in_ok-sizes.ensures c.in_ok-mask.ensures.mask c.len.ensures c.in_ok-sizes-2.ensures (c.in_ok-count.ensures.same ∙ total)
 
-pub returns-clause-accepted : goal.returns-clause-accepted
-returns-clause-accepted c =
-    let n = c.in_ok-numbers.numbers in
-    let total : c.valid_total-total.result ≡ valid_total n.sizes.items n.mask = c.valid_total-total.ensures ∙ ap (λ ss. valid_total ss n.mask) c.deref.ensures.value in
-    let fault = total_fault_is c.args.self.now n.offset_type n.offsets.items n.sizes.items n.mask c.in_ok-numbers.ensures.ok c.valid_total-total.result total in
-    OnOk-always c.plan_rebuild.result (sym fault ∙ c.in_ok-count.ensures.accepted)
+pub returns-clause-refuses : goal.returns-clause-refuses
+returns-clause-refuses c =
+    let parts = c.parts-parts.result in
+    let total = c.valid_total-total.ensures ∙ ap (λ bs. valid_total (counts_of c.as_ptype-size_type.result bs) c.in_ok-mask.mask) c.as_slice.ensures.value in
+    let fault : total_fault c.rebuilt_offset_ptype.result c.valid_total-total.result ≡ rebuilt_total_fault c.args.self.now =
+    ap (λ t. total_fault t c.valid_total-total.result) c.rebuilt_offset_ptype.ensures
+    ∙ total_fault_is c.args.self.now parts.elements.now parts.offsets.now parts.sizes.now (valid_of parts.validity.now) parts.flag c.parts-parts.ensures.same c.parts-parts.ensures.formed c.as_ptype-offset_type.result c.as_ptype-size_type.result c.in_ok-sizes.sizes c.in_ok-mask.mask c.len.result c.valid_total-total.result
+    (c.as_ptype-offset_type.ensures ∙ ap integer_type c.dtype.ensures) (c.as_ptype-size_type.ensures ∙ ap integer_type c.dtype-2.ensures) c.in_ok-sizes.ensures c.in_ok-mask.ensures.mask c.len.ensures total in
+    sym fault ∙ c.in_ok-count.ensures.tests

@@ -6,9 +6,9 @@ use Rattle.vx_lists.specs.ListViews.{offsets_of, sizes_of}
 use Rattle.vx_lists.proofs.ListPlans.{flag_formed}
 use Rattle.vx_lists.proofs.list_view.ListViewArray.with_flag.Goals as goal
 
-pub from_parts-requires : goal.from_parts-requires
-from_parts-requires c =
+pub list_view-requires : goal.list_view-requires
+list_view-requires c =
     let parts = c.parts-parts.result in
     let formed : WellFormed (list_view parts.elements.now parts.offsets.now parts.sizes.now (valid_of parts.validity.now) c.args.flag) =
     flag_formed parts.elements.now parts.offsets.now parts.sizes.now (valid_of parts.validity.now) parts.flag c.args.flag c.parts-parts.ensures.formed (λ set. subst (λ (t : Tree). IsConsecutive (offsets_of t) (sizes_of t)) c.parts-parts.ensures.same (c.requires set)) in
-    rw (c.in_ok-elements.ensures.ok, c.in_ok-offsets.ensures.ok, c.in_ok-sizes.ensures.ok, c.in_ok-validity.ensures.ok) formed
+    rw (c.in_ok-elements.ensures, c.in_ok-offsets.ensures, c.in_ok-sizes.ensures, c.in_ok-validity.ensures) formed
