@@ -4,4 +4,4 @@ use Rattle.vx_tree.proofs.tests.constant_taken_by_plain_indices.Goals as goal
 
 pub numbers-requires : goal.numbers-requires
 unfolding numbers
-numbers-requires c = (tt, refl)
+numbers-requires g c = (tt, refl)

@@ -4,8 +4,8 @@ use Rattle.vx_tree.proofs.tests.numbers_taken_from_no_rows.Goals as goal
 
 pub numbers-requires : goal.numbers-requires
 unfolding numbers
-numbers-requires c = (tt, refl)
+numbers-requires g c = (tt, refl)
 
 pub numbers-requires-2 : goal.numbers-requires-2
 unfolding numbers
-numbers-requires-2 c = (tt, refl)
+numbers-requires-2 g c = (tt, refl)
