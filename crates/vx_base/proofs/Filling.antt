@@ -43,17 +43,6 @@ written_byte old out start j byte f le within bits before = (
         let same : 8 * j + k % 8 ≡ k = omega arith in
         rw (place, get_or-set_same) (bits (k % 8) (omega arith) ∙ ap f same)
 
--- two runs that meet
-pub written_join : (old mid new : List ℕ) (start at end : ℕ) (f : ℕ → Bool) → start ≤ at → at ≤ end → Written old mid start at f → Written mid new at end f → Written old new start end f
-written_join old mid new start at end f le within left right = (
-  λ k h l. elim (cases_lt k at) [
-    | inl small ↦ right.1 k small ∙ left.0 k h small
-    | inr large ↦ right.0 k large l
-  ],
-  λ k h. right.1 k (omega arith) ∙ left.1 k h,
-  λ k h. right.2 k h ∙ left.2 k (omega arith),
-)
-
 -- a run at the end
 pub written_end : (old mid new : List ℕ) (len count : ℕ) (f : ℕ → Bool) (tail : List Bool) → ((k : ℕ) → k < len → bit_of mid k ≡ bit_of old k) → Written mid new len (len + count) f
     → length tail ≡ count → ((i : ℕ) (d : Bool) → i < count → get_or tail i d ≡ f (len + i)) → unpacked new 0 (len + count) ≡ unpacked old 0 len ++ tail

@@ -1,15 +1,9 @@
 -- The first of several faults, and the fault of the least row that has one.
-use Rattle.std.proofs.Common.{◌≡◌, ℕ, zero, suc, ◌+◌, ◌<◌, ◌≤◌, ◌∙◌, sym, ap, subst, refl, add-one, inl, inr, arith}
+use Rattle.std.proofs.Common.{◌≡◌, ℕ, zero, suc, ◌+◌, ◌<◌, ◌∙◌, sym, ap, subst, refl, add-one, inl, inr, arith}
 use Rattle.std.specs.Prelude.{Option, Some, None, IsSome}
 use Rattle.std.proofs.lemmas.Bool.{cases_lt}
 use Rattle.vx_base.specs.Refusals.{Refusal, refusal_of, Names, or_else, first_fault}
 use Rattle.vx_base.specs.declared.errors.VortexError.{VortexError}
-use Rattle.vx_base.specs.declared.errors.VortexError.TheVariants.{Memory}
-
--- an error that is not want of memory names a fault
-pub names_a_fault : (e : VortexError) → ¬ (e ≡ Memory) → IsSome (refusal_of e)
-names_a_fault Memory other = absurd (other refl)
-names_a_fault _ other = refl
 
 -- ---- the first of two faults
 

@@ -64,10 +64,6 @@ numbers_more t bs i z h e =
     let number : get_or (numbers t bs) i (pos 0) ≡ z = get_numbers t bs i (pos 0) h ∙ sym (rw size at e) in
     take_more (numbers t bs) i (pos 0) within ∙ ap (λ (y : ℤ). take i (numbers t bs) ++ y ∷ []) number
 
--- all of them are
-pub numbers_all : (t : PType) (bs : List ℕ) → take (length bs / byte_width t) (numbers t bs) ≡ numbers t bs
-numbers_all t bs = take_all (length bs / byte_width t) (numbers t bs) (omega (arith, length_numbers t bs))
-
 -- a number before the end does not see what is added
 number_at-append : (t : PType) (bs cs : List ℕ) (n i : ℕ) → length bs ≡ n * byte_width t → i < n → number_at t (bs ++ cs) i ≡ number_at t bs i
 number_at-append t bs cs n i e h =

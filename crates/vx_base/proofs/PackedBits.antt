@@ -1,14 +1,14 @@
 -- Packed bits: a write to one bit, and a part of the bits.
-use Rattle.std.proofs.Common.{ℕ, zero, suc, ◌+◌, ◌-◌, ◌*◌, ◌/◌, ◌%◌, ◌^◌, ◌<◌, ◌≤◌, ◌≡◌, ◌≢◌, Bool, true, false, eqb, List, [], ◌∷◌, ◌++◌, length, get_or, set, take, drop, replicate, refl, sym, ◌∙◌, ap, append_assoc, add-one, zero-add, inl, inr, arith}
+use Rattle.std.proofs.Common.{ℕ, ◌+◌, ◌-◌, ◌*◌, ◌/◌, ◌%◌, ◌^◌, ◌<◌, ◌≤◌, ◌≡◌, ◌≢◌, Bool, true, false, eqb, List, [], ◌∷◌, ◌++◌, length, get_or, set, drop, refl, sym, ◌∙◌, ap, zero-add, inl, inr, arith}
 use Rattle.std.specs.Int.{w8, bit_not}
-use Rattle.std.specs.Prelude.{bit_and, bit_or, slice_range, ◌&&◌}
-use Rattle.std.proofs.lemmas.List.{get_or-set_same, get_or-set_other, same_lists, get_or-take, get_or-drop, length-take-le, length-set, get_or_append_left, length-append, length-replicate, set_at, drop_more, replicate_more}
+use Rattle.std.specs.Prelude.{bit_and, bit_or, slice_range}
+use Rattle.std.proofs.lemmas.List.{get_or-set_same, get_or-set_other, same_lists, get_or-take, get_or-drop, length-set, get_or_append_left}
 use Rattle.std.proofs.lemmas.List.FromFn.{length-map-range_with_len, get_or-map-range_with_len, map-range_with_len_more}
 use Rattle.std.proofs.lemmas.Bool.{cases_eq}
 use Rattle.std.proofs.lemmas.Nat.{mod_below}
 use Rattle.std.proofs.lemmas.Nat.Bits.{bit_at_set_same, bit_at_set_other, bit_at_clear_same, bit_at_clear_other, shr_and_one}
 use Rattle.vx_base.proofs.ListParts.{map_range_same, part_of_map_range}
-use Rattle.vx_base.specs.Bits.{bit_of, unpacked, bool_at, both}
+use Rattle.vx_base.specs.Bits.{bit_of, unpacked, bool_at}
 
 -- two places in one byte differ in their bit
 other_bit : (j k : ℕ) → j ≢ k → j / 8 ≡ k / 8 → j % 8 ≢ k % 8

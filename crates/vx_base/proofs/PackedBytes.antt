@@ -1,19 +1,19 @@
 -- Eight bits at once, at any place.
-use Rattle.std.proofs.Common.{ℕ, zero, suc, ◌+◌, ◌-◌, ◌*◌, ◌/◌, ◌%◌, ◌^◌, ◌<◌, ◌≤◌, ◌≡◌, Bool, true, false, cond, eqb, List, [], ◌∷◌, ◌++◌, length, get_or, take, drop, min, refl, sym, ◌∙◌, ap, add-zero, zero-add, inl, inr, arith}
+use Rattle.std.proofs.Common.{ℕ, zero, suc, ◌+◌, ◌-◌, ◌*◌, ◌/◌, ◌%◌, ◌^◌, ◌<◌, ◌≤◌, ◌≡◌, Bool, true, false, cond, eqb, List, length, get_or, take, drop, min, refl, sym, ◌∙◌, ap, add-zero, zero-add, inl, inr, arith}
 use Rattle.std.specs.Int.{bit_at}
 use Rattle.std.specs.Prelude.{bit_and, bit_or, ◌&&◌, count_by, count_ones}
 use Rattle.std.proofs.lemmas.Bool.{cases_lt}
 use Rattle.std.proofs.lemmas.Nat.{shr-shr, shr_split, pow_pos, or_lt, shr_le, mod_below}
 use Rattle.std.proofs.lemmas.Nat.Bits.{bit_at_or, bit_at_and, bit_at-lt, bit_at-zero, bit_at_above, bit_at_cat_low, bit_at_cat_high, same_from_bits_below}
 use Rattle.std.proofs.lemmas.Simd.{bit_mask_l, mask_l-lt, ones-mask_l}
-use Rattle.std.proofs.lemmas.List.{map-id, length-take, length-map, get_or-map, get_or_push, same_lists}
+use Rattle.std.proofs.lemmas.List.{map-id, length-map, get_or-map, same_lists}
 use Rattle.std.proofs.lemmas.Slice.Zip.{length-zip, get_or-zip}
 use Rattle.std.specs.List.{zip}
 use Rattle.std.proofs.Math.Seq.{take-add}
-use Rattle.std.proofs.lemmas.List.Sums.{sum_by-append, count_by-le-length}
+use Rattle.std.proofs.lemmas.List.Sums.{sum_by-append}
 use lib.Lanes.{mask_l}
 use Rattle.vx_base.specs.Bits.{bit_of, both, byte_from, unpacked}
-use Rattle.vx_base.proofs.PackedBits.{bit_of-append, get_unpacked, length_unpacked, unpacked_part}
+use Rattle.vx_base.proofs.PackedBits.{get_unpacked, length_unpacked, unpacked_part}
 
 -- a bit after `>> s`, after `<< s` and in a byte
 bit_at-shr : (n s i : ℕ) → bit_at (n / 2 ^ s) i ≡ bit_at n (s + i)

@@ -1,6 +1,5 @@
 -- The kind of a record's data type, read at its fields.
-use Rattle.std.proofs.Common.{◌≡◌, ◌∙◌, ◌&&◌, ◌+◌, sym, ap, refl, List, [], ◌∷◌, ℕ, Bool, true, false, length, drop, slice_index_or, ◌<◌, ◌≤◌, drop-cons, add-one, suc}
-use Rattle.std.proofs.lemmas.List.{drop_all}
+use Rattle.std.proofs.Common.{◌≡◌, ◌∙◌, ◌&&◌, ◌+◌, sym, ap, refl, List, [], ◌∷◌, ℕ, Bool, true, false, length, drop, slice_index_or, ◌<◌, drop-cons, add-one, suc}
 use Rattle.std.specs.Bool.{beq}
 use Rattle.vx_base.specs.SameKind.{kind_eq, kinds_eq, names_eq}
 use Rattle.vx_base.specs.DTypes.{kinds_of}
@@ -49,12 +48,3 @@ kinds_eq-lengths (d ∷ ds) (e ∷ es) apart =
 -- the items from a place on are the one there and those after it
 pub from_place : {X : Type 0} (ds : List X) (i : ℕ) (d : X) → i < length ds → d ≡ slice_index_or ds i d → drop i ds ≡ d ∷ drop (i + 1) ds
 from_place ds i d inside at = drop-cons ds i d inside ∙ (λ k. sym at k ∷ drop (sym (add-one i) k) ds)
-
-pub kinds_eq-drop : (ds es : List DType) (i : ℕ) (d e : DType) → i < length ds → i < length es → d ≡ slice_index_or ds i d → e ≡ slice_index_or es i e
-    → kinds_eq (kinds_of (drop i ds)) (kinds_of (drop i es)) ≡ (kind_eq (dtype_meaning d) (dtype_meaning e) && kinds_eq (kinds_of (drop (i + 1) ds)) (kinds_of (drop (i + 1) es)))
-kinds_eq-drop ds es i d e in_ds in_es at_d at_e =
-    λ k. kinds_eq (kinds_of (from_place ds i d in_ds at_d k)) (kinds_of (from_place es i e in_es at_e k))
-
--- at the end nothing is left that could differ
-pub kinds_eq-end : (ds es : List DType) (i : ℕ) → length ds ≤ i → length es ≤ i → true ≡ kinds_eq (kinds_of (drop i ds)) (kinds_of (drop i es))
-kinds_eq-end ds es i past_ds past_es = sym (λ k. kinds_eq (kinds_of (drop_all i ds past_ds k)) (kinds_of (drop_all i es past_es k)))

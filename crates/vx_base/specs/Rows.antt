@@ -1,5 +1,5 @@
 -- The meaning of an array: its rows.
-use Rattle.std.specs.Prelude.{ℕ, Bool, true, false, ℤ, pos, negsuc, List, [], ◌∷◌, Option, Some, None}
+use Rattle.std.specs.Prelude.{ℕ, Bool, true, false, ℤ, pos, List, [], ◌∷◌, Option, Some, None}
 
 mutual
   -- null, a truth value, a whole number, bytes, a text (as its bytes), a list of rows, or a record

@@ -6,6 +6,7 @@ ghost use Rattle.std.specs.List.{All};
 ghost use Rattle.vx_base.specs.Integers.{byte_width, numbers, Holds};
 
 use crate::byte_buffer::ByteBuffer;
+use crate::call_native;
 use crate::errors::VortexError;
 use crate::native::NativePType;
 use crate::numbers::put_int;
@@ -18,16 +19,7 @@ pub fn read_counts(alloc: Global, ptype: PType, bytes: &[u8]) -> Result<Vec<usiz
     requires { All (λ z. pos 0 ≤ℤ z) (numbers ptype bytes.now) }
     ensures { Gives result (λ counts. map pos counts.items ≡ numbers ptype bytes.now) }
 {
-    match ptype {
-        PType::U8 => read_native::<u8>(alloc, bytes),
-        PType::U16 => read_native::<u16>(alloc, bytes),
-        PType::U32 => read_native::<u32>(alloc, bytes),
-        PType::U64 => read_native::<u64>(alloc, bytes),
-        PType::I8 => read_native::<i8>(alloc, bytes),
-        PType::I16 => read_native::<i16>(alloc, bytes),
-        PType::I32 => read_native::<i32>(alloc, bytes),
-        PType::I64 => read_native::<i64>(alloc, bytes),
-    }
+    call_native!(ptype, read_native(alloc, bytes))
 }
 
 fn read_native<T: NativePType>(alloc: Global, bytes: &[u8]) -> Result<Vec<usize>, VortexError>
@@ -50,16 +42,7 @@ pub fn write_counts(
     ensures ok { Gives result (λ b. numbers ptype b ≡ map pos counts.now) }
     ensures len { IfOk result (λ b. length b ≡ length counts.now * byte_width ptype) }
 {
-    match ptype {
-        PType::U8 => write_native::<u8>(alloc, counts),
-        PType::U16 => write_native::<u16>(alloc, counts),
-        PType::U32 => write_native::<u32>(alloc, counts),
-        PType::U64 => write_native::<u64>(alloc, counts),
-        PType::I8 => write_native::<i8>(alloc, counts),
-        PType::I16 => write_native::<i16>(alloc, counts),
-        PType::I32 => write_native::<i32>(alloc, counts),
-        PType::I64 => write_native::<i64>(alloc, counts),
-    }
+    call_native!(ptype, write_native(alloc, counts))
 }
 
 fn write_native<T: NativePType>(alloc: Global, counts: &[usize]) -> Result<ByteBuffer, VortexError>

@@ -228,6 +228,24 @@ impl NativePType for i64 {
     ghost same_law = { λ a b e. e };
 }
 
+/// Calls a function at the number type of Rust that a `PType` stands for: of `PType::U16`,
+/// `call_native!(ptype, read(bytes))` is `read::<u16>(bytes)`.
+#[macro_export]
+macro_rules! call_native {
+    ($ptype:expr, $function:ident($($argument:expr),*)) => {
+        match $ptype {
+            $crate::PType::U8 => $function::<u8>($($argument),*),
+            $crate::PType::U16 => $function::<u16>($($argument),*),
+            $crate::PType::U32 => $function::<u32>($($argument),*),
+            $crate::PType::U64 => $function::<u64>($($argument),*),
+            $crate::PType::I8 => $function::<i8>($($argument),*),
+            $crate::PType::I16 => $function::<i16>($($argument),*),
+            $crate::PType::I32 => $function::<i32>($($argument),*),
+            $crate::PType::I64 => $function::<i64>($($argument),*),
+        }
+    };
+}
+
 /// Writes a number and reads it again: the number is what it was. Asks for the room of just one
 /// number.
 pub fn put_then_get<T: NativePType>(number: T, out: &mut [u8]) -> T

@@ -1,4 +1,4 @@
-use Rattle.std.proofs.Common.{ℕ, ◌+◌, ◌-◌, ◌*◌, ◌<◌, ◌≡◌, ◌∙◌, eqb, ap, arith}
+use Rattle.std.proofs.Common.{ℕ, ◌+◌, ◌-◌, ◌*◌, ◌≡◌, ◌∙◌, eqb, ap, arith}
 use Rattle.std.specs.Int.{bit_at}
 use Rattle.vx_base.specs.Bits.{bit_of}
 use Rattle.vx_base.proofs.Filling.{written_none, written_byte}

@@ -1,4 +1,4 @@
-use Rattle.std.proofs.Common.{◌+◌, ◌-◌, ◌<◌, ◌≤◌, ◌≡◌, ◌++◌, false, length, ap, ◌∙◌, arith}
+use Rattle.std.proofs.Common.{◌-◌, ◌<◌, ◌++◌, false, length, ap, ◌∙◌, arith}
 use Rattle.vx_base.proofs.Runs.{in_run, part_by_places}
 use Rattle.vx_base.proofs.gather.append_run.Goals as goal
 

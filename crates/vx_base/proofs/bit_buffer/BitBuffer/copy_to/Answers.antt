@@ -1,4 +1,4 @@
-use Rattle.std.proofs.Common.{ℕ, List, Bool, false, ◌+◌, ◌-◌, ◌<◌, ◌≤◌, ◌≡◌, ◌∙◌, length, sym, ap, arith}
+use Rattle.std.proofs.Common.{ℕ, List, Bool, false, ◌+◌, ◌-◌, ◌<◌, ◌≡◌, ◌∙◌, length, sym, ap, arith}
 use Rattle.vx_base.specs.Bits.{bit_of, bool_at}
 use Rattle.vx_base.proofs.PackedBits.{get_unpacked, length_unpacked}
 use Rattle.vx_base.proofs.bit_buffer.BitBuffer.copy_to.Goals as goal

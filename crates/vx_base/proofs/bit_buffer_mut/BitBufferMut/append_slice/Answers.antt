@@ -1,4 +1,4 @@
-use Rattle.std.proofs.Common.{ℕ, Bool, false, ◌+◌, ◌-◌, ◌≡◌, ◌≤◌, ◌<◌, ◌/◌, ◌%◌, ◌∙◌, eqb, length, get_or, drop, ap, sym, arith}
+use Rattle.std.proofs.Common.{ℕ, Bool, false, ◌+◌, ◌-◌, ◌≡◌, ◌<◌, ◌/◌, ◌%◌, ◌∙◌, eqb, get_or, drop, ap, arith}
 use Rattle.std.specs.Int.{bit_at}
 use Rattle.std.specs.Prelude.{slice_range}
 use Rattle.std.specs.Vec.{with_items}
