@@ -5,7 +5,8 @@ use Rattle.std.specs.List.{range_with_len, flat_map}
 use Rattle.vx_base.specs.Rows.{Row, null, items, whole, count_in, list_in}
 use Rattle.vx_base.specs.declared.ptypes.PType.TheVariants.{I32, U32}
 use Rattle.vx_tree.specs.Tree.{Tree, list_view, non_nullable}
-use Rattle.vx_tree.specs.Meaning.{tree_len, row_at, rows, rows_range, number_nth}
+use Rattle.vx_base.specs.Selections.{number_of_position}
+use Rattle.vx_tree.specs.Meaning.{tree_len, row_at, rows, rows_range}
 use Rattle.vx_leaves.specs.Leaves.{IsPrimitive}
 use Rattle.vx_lists.specs.ListLayout.{items_of, size_of, starts_from}
 use Rattle.vx_lists.specs.ListViews.{counts_in, elements_of, offsets_of, sizes_of, flag_of, list_rows, IsRebuilt}
@@ -28,7 +29,7 @@ counts (n ∷ ns) = whole (pos n) ∷ counts ns
 -- the lists of these sizes from these offsets on, as rows
 abbrev lists_over : List ℤ → List ℤ → List ℤ → List (Option (List Row))
 lists_over es os ss =
-    map list_in (map (λ i. items (rows_range (λ k. whole (number_nth es k)) (count_in (whole (number_nth os i))) (count_in (whole (number_nth ss i))))) (range_with_len 0 (length os)))
+    map list_in (map (λ i. items (rows_range (λ k. whole (number_of_position es k)) (count_in (whole (number_of_position os i))) (count_in (whole (number_of_position ss i))))) (range_with_len 0 (length os)))
 
 -- what is known of the rebuilt lists
 pub record IsFirst (r : Tree) : Type 0 where

@@ -10,17 +10,18 @@ use Rattle.vx_base.specs.Refusals.{length_mismatch}
 use Rattle.vx_base.specs.Rows.{Row, null, whole}
 use Rattle.vx_base.specs.declared.ptypes.PType.{PType}
 use Rattle.vx_tree.specs.Tree.{Tree, bools, primitive, Valid, non_nullable, by_array}
-use Rattle.vx_tree.specs.Meaning.{rows, number_nth}
+use Rattle.vx_base.specs.Selections.{number_of_position}
+use Rattle.vx_tree.specs.Meaning.{rows}
 use Rattle.vx_leaves.specs.Leaves.{IsPrimitive, validity_fault}
 use Rattle.vx_uses.specs.Uses.{masked_rows}
 
 pub rows-numbers : (t : PType) (zs : List ℤ) (a : Tree) → IsPrimitive t zs non_nullable a → rows a ≡ map whole zs
 rows-numbers t zs a is =
     let ns = numbers t is.bytes in
-    let each : (k : ℕ) → k < length ns → get_or (map whole ns) k null ≡ whole (number_nth ns k) =
+    let each : (k : ℕ) → k < length ns → get_or (map whole ns) k null ≡ whole (number_of_position ns k) =
     λ k inside. get_or-map whole ns k (pos 0) null inside in
     ap rows is.tree
-    ∙ sym (fill_by_all (λ k. whole (number_nth ns k)) (map whole ns) (length ns) null (length-map ns whole) each)
+    ∙ sym (fill_by_all (λ k. whole (number_of_position ns k)) (map whole ns) (length ns) null (length-map ns whole) each)
     ∙ ap (map whole) is.same
 
 length-masked_rows : (mask : List Bool) (zs : List ℤ) → length mask ≡ length zs → length (masked_rows mask zs) ≡ length zs
@@ -30,7 +31,7 @@ length-masked_rows (b ∷ mask) [] same = absurd (omega arith)
 length-masked_rows (true ∷ mask) (z ∷ zs) same = ap suc (length-masked_rows mask zs (omega arith))
 length-masked_rows (false ∷ mask) (z ∷ zs) same = ap suc (length-masked_rows mask zs (omega arith))
 
-get_or-masked_rows : (mask : List Bool) (zs : List ℤ) (k : ℕ) → length mask ≡ length zs → k < length zs → get_or (masked_rows mask zs) k null ≡ cond (bool_at mask k) (whole (number_nth zs k)) null
+get_or-masked_rows : (mask : List Bool) (zs : List ℤ) (k : ℕ) → length mask ≡ length zs → k < length zs → get_or (masked_rows mask zs) k null ≡ cond (bool_at mask k) (whole (number_of_position zs k)) null
 get_or-masked_rows [] [] k same inside = absurd (omega arith)
 get_or-masked_rows [] (z ∷ zs) k same inside = absurd (omega arith)
 get_or-masked_rows (b ∷ mask) [] k same inside = absurd (omega arith)
@@ -55,5 +56,5 @@ rows-masked t zs n mask m a len m_is accepted is =
     let fits : length mask ≡ length ns = fitting_bits mask n m m_is accepted ∙ len ∙ ap length (sym is.same) in
     ap rows is.tree
     ∙ ap (λ x. rows (primitive t is.bytes (by_array x))) m_is
-    ∙ sym (fill_by_all (λ k. cond (bool_at mask k) (whole (number_nth ns k)) null) (masked_rows mask ns) (length ns) null (length-masked_rows mask ns fits) (λ k inside. get_or-masked_rows mask ns k fits inside))
+    ∙ sym (fill_by_all (λ k. cond (bool_at mask k) (whole (number_of_position ns k)) null) (masked_rows mask ns) (length ns) null (length-masked_rows mask ns fits) (λ k inside. get_or-masked_rows mask ns k fits inside))
     ∙ ap (masked_rows mask) is.same
