@@ -78,7 +78,9 @@ fn put_numbers_at<const WIDTH: usize>(bytes: &[u8], positions: &[usize], out: &m
     ensures { out.new ≡ flat_map (bytes_of_position WIDTH bytes.now) positions.now }
 {
     for (i, k) in positions.iter().enumerate() {
-        out[i * WIDTH..i * WIDTH + WIDTH].copy_from_slice(&bytes[*k * WIDTH..*k * WIDTH + WIDTH]);
+        let mut number = [0u8; WIDTH];
+        number.copy_from_slice(&bytes[*k * WIDTH..*k * WIDTH + WIDTH]);
+        out[i * WIDTH..i * WIDTH + WIDTH].copy_from_slice(&number);
     }
 }
 

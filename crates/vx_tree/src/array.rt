@@ -129,6 +129,7 @@ impl ArrayRef {
     /// An array of these parts. Asks that they are well formed: that the validity has as many
     /// rows, that a list view's offsets and sizes are counts, that its lists end within the
     /// elements, and that a set flag holds.
+    #[inline(always)]
     pub fn from_parts(alloc: Global, layout: Layout) -> Result<ArrayRef, VortexError>
         requires { WellFormed (tree_of layout) }
         ensures { Gives result (λ a. a ≡ tree_of layout) }
@@ -139,6 +140,7 @@ impl ArrayRef {
 
     // An array of other parts, of the same data type, which is shared. Asks that they are well
     // formed and of that data type.
+    #[inline(always)]
     pub(crate) fn with_parts(&self, alloc: Global, layout: Layout) -> Result<ArrayRef, VortexError>
         requires formed { WellFormed (tree_of layout) }
         requires kind { kind_of (tree_of layout) ≡ kind_of self.now }
@@ -149,6 +151,7 @@ impl ArrayRef {
     }
 
     // An array of these parts, of the data type that they have.
+    #[inline(always)]
     fn of_dtype(alloc: Global, dtype: DType, layout: Layout) -> Result<ArrayRef, VortexError>
         requires formed { WellFormed (tree_of layout) }
         requires kind { dtype_meaning dtype ≡ kind_of (tree_of layout) }
