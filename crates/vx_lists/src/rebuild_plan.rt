@@ -244,27 +244,6 @@ fn runs_from<O: NativePType>(
     by_type!(size_type, typed_runs::<O>(alloc, offsets, sizes))
 }
 
-// Room for the joined runs: one more than there are lists that do not start where the list before
-// them ends. No promise rests on it.
-#[inline(never)]
-fn room_for_runs<O: NativePType, S: NativePType>(offsets: &[u8], sizes: &[u8]) -> usize
-    requires offsets { AreCountBytes O.PTYPE offsets.now }
-    requires sizes { AreCountBytes S.PTYPE sizes.now }
-    requires same_len { length (numbers S.PTYPE sizes.now) ≡ length (numbers O.PTYPE offsets.now) }
-    requires ends_fit { (i : ℕ) → i < length (numbers O.PTYPE offsets.now) →
-        slice_index (counts_of O.PTYPE offsets.now) i
-        + slice_index (counts_of S.PTYPE sizes.now) i < 2 ^ 64 }
-{
-    let mut room = 2usize;
-    for row in 1..number_count(offsets, O::PTYPE) {
-        let end = count_of_bytes::<O>(offsets, row - 1) + count_of_bytes::<S>(sizes, row - 1);
-        if count_of_bytes::<O>(offsets, row) != end {
-            room = room.saturating_add(1);
-        }
-    }
-    room
-}
-
 #[inline(never)]
 fn typed_runs<O: NativePType, S: NativePType>(
     alloc: Global,
@@ -281,13 +260,14 @@ fn typed_runs<O: NativePType, S: NativePType>(
         ≡ joined_positions (counts_of O.PTYPE offsets.now) (counts_of S.PTYPE sizes.now)) }
 {
     let count = number_count(offsets, O::PTYPE);
-    let mut runs = Vec::with_capacity(alloc, room_for_runs::<O, S>(offsets, sizes))?;
+    let mut runs = Vec::new(alloc);
     let mut start = 0;
     let mut end = 0;
     for row in 0..count {
         let offset = count_of_bytes::<O>(offsets, row);
         let size = count_of_bytes::<S>(sizes, row);
-        if size == 0 || offset == end {
+        let meets = size == 0 || offset == end;
+        if meets {
             end += size;
         } else {
             runs.push((start, end))?;
