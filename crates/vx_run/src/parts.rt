@@ -21,6 +21,17 @@ pub(crate) fn show_parts(
             write!(text, "primitive {ptype} {len}")?;
         }
         Layout::Constant { .. } => write!(text, "constant {len}")?,
+        Layout::Dict {
+            codes,
+            values,
+            flag,
+        } => {
+            text.push_str("dict codes ")?;
+            show_array(alloc, codes, text)?;
+            let count = values.len();
+            let flag = *flag;
+            write!(text, " values {count} flag {flag}")?;
+        }
         Layout::ListView {
             elements,
             offsets,

@@ -1,10 +1,11 @@
 // The rows of an array as text.
 
-ghost use Rattle.std.specs.Prelude.{ℕ, ◌≡◌, ◌+◌, ◌-◌, ◌<◌, ◌≤◌, length, slice_index, IfOk};
+ghost use Rattle.std.specs.Prelude.{ℕ, true, ◌≡◌, ◌+◌, ◌-◌, ◌<◌, ◌≤◌, length, slice_index, IfOk};
 ghost use Rattle.vx_base.specs.Integers.{numbers};
+ghost use Rattle.vx_base.specs.Kinds.{is_integers};
 ghost use Rattle.vx_base.specs.Rows.{count_in};
 ghost use Rattle.vx_tree.specs.Formed.{IsCounts, ValidCovers};
-ghost use Rattle.vx_tree.specs.Meaning.{tree_len, row_at};
+ghost use Rattle.vx_tree.specs.Meaning.{tree_len, kind_of, row_at};
 ghost use Rattle.vx_tree.specs.Parts.{valid_of};
 ghost use Rattle.vx_run.specs.Shown.{AreCountsFrom};
 
@@ -21,10 +22,13 @@ pub(crate) fn show_array(
     array: &ArrayRef,
     text: &mut String,
 ) -> Result<(), VortexError> {
-    show_rows(alloc, array, 0, array.len(), text)
+    text.push('[')?;
+    show_rows(alloc, array, 0, array.len(), text)?;
+    text.push(']')?;
+    Ok(())
 }
 
-// Adds the rows from `start` up to `end`, in brackets.
+// Adds the rows from `start` up to `end`, a comma between them.
 #[cycle(show)]
 fn show_rows(
     alloc: Global,
@@ -36,7 +40,6 @@ fn show_rows(
     requires ordered { start ≤ end }
     requires in_bounds { end ≤ tree_len array.now }
 {
-    text.push('[')?;
     match array.layout() {
         Layout::Bool { bits, validity } => {
             let mask = mask_of(alloc, validity, start, end)?;
@@ -52,6 +55,9 @@ fn show_rows(
             show_numbers(alloc, *ptype, &bytes, &mask, text)?;
         }
         Layout::Constant { scalar, .. } => show_constant(alloc, scalar, end - start, text)?,
+        Layout::Dict { codes, values, .. } => {
+            show_dictionary(alloc, codes, values, start, end, text)?;
+        }
         Layout::ListView {
             elements,
             offsets,
@@ -65,7 +71,6 @@ fn show_rows(
             show_lists(alloc, elements, &offsets, &sizes, &mask, text)?;
         }
     }
-    text.push(']')?;
     Ok(())
 }
 
@@ -172,9 +177,38 @@ fn show_lists(
         if mask.value(row) {
             let (start, size) = (offsets[row], sizes[row]);
             prove!(start <= len && size <= len - start);
+            text.push('[')?;
             show_rows(alloc, elements, start, start + size, text)?;
+            text.push(']')?;
         } else {
             text.push_str("null")?;
+        }
+    }
+    Ok(())
+}
+
+// Adds the values that the codes from `start` up to `end` refer to, null where a code is null.
+#[cycle(show)]
+fn show_dictionary(
+    alloc: Global,
+    codes: &ArrayRef,
+    values: &ArrayRef,
+    start: usize,
+    end: usize,
+    text: &mut String,
+) -> Result<(), VortexError>
+    requires ints { is_integers (kind_of codes.now) ≡ true }
+    requires in_bounds { end ≤ tree_len codes.now }
+{
+    let len = values.len();
+    for row in start..end {
+        separate(row - start, text)?;
+        match codes.int_at(row) {
+            Some(code) if 0 <= code && code < len as i128 => {
+                let code = code as usize;
+                show_rows(alloc, values, code, code + 1, text)?;
+            }
+            _ => text.push_str("null")?,
         }
     }
     Ok(())

@@ -4,6 +4,7 @@ pub mod Sliced
 pub mod Selected
 pub mod Nulled
 pub mod Taken
+pub mod Dictionaries
 pub mod Fitting
 pub mod Worked
 pub mod WorkedViews

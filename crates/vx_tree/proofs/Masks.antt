@@ -1,8 +1,9 @@
 -- The masks of validities, and the bits of plain booleans.
-use Rattle.std.proofs.Common.{ℕ, ◌≡◌, Bool, true, false, List, length, map, replicate, refl, sym, ◌∙◌}
+use Rattle.std.proofs.Common.{ℕ, ◌+◌, ◌<◌, ◌≡◌, Bool, true, false, List, length, map, replicate, get_or, set, refl, sym, ◌∙◌, arith, length-set}
 use Rattle.std.specs.List.{range_with_len}
 use Rattle.std.proofs.lemmas.List.FromFn.{fill_by_all}
-use Rattle.std.proofs.lemmas.List.{get_or-replicate, length-replicate}
+use Rattle.std.proofs.lemmas.List.{get_or-replicate, length-replicate, get_or-set_same, get_or-set_other}
+use borrow.Author.Count.{below_more}
 use Rattle.vx_base.specs.Rows.{Row, truth_of}
 use Rattle.vx_base.specs.Kinds.{Kind, booleans, integers, texts, binaries, lists, fixed_lists, records, is_plain_booleans}
 use Rattle.vx_tree.specs.Tree.{Tree, bools, constant, Valid, non_nullable, all_valid, all_invalid, by_array}
@@ -34,6 +35,27 @@ bits_are_truths t bits (by_array m) e k = let h = rw e at k in cc
 pub truths_of_constant : (t : Tree) (k : Kind) (r : Row) (n : ℕ) → t ≡ constant k r n → replicate n (truth_of r) ≡ map (λ i. truth_of (row_at t i)) (range_with_len 0 (tree_len t))
 truths_of_constant t k r n e =
     rw e (fill_by_all (λ i. truth_of r) (replicate n (truth_of r)) n false (length-replicate n (truth_of r)) (λ i l. get_or-replicate n i (truth_of r) false l))
+
+-- ---- read row by row
+
+-- the truths of the first n rows are written
+pub record AreTruths (t : Tree) (n : ℕ) (bits : List Bool) : Type 0 where
+  pub long : length bits ≡ tree_len t
+  pub each : (i : ℕ) → i < n → get_or bits i false ≡ truth_of (row_at t i)
+
+-- one more
+pub AreTruths-more : (t : Tree) (n : ℕ) (bits : List Bool) (b : Bool) → n < length bits → AreTruths t n bits → b ≡ truth_of (row_at t n) → AreTruths t (n + 1) (set bits n b)
+AreTruths-more t n bits b inside h here =
+    record {
+      long = length-set bits n b ∙ h.long;
+      each = below_more (λ i. get_or (set bits n b) i false ≡ truth_of (row_at t i)) n (λ i l. get_or-set_other bits n i b false (omega arith) ∙ h.each i l) (get_or-set_same bits n b false inside ∙ here);
+    }
+
+-- all of them
+pub AreTruths-all : (t : Tree) (n : ℕ) (bits : List Bool) → n ≡ length bits → AreTruths t n bits → bits ≡ map (λ i. truth_of (row_at t i)) (range_with_len 0 (tree_len t))
+AreTruths-all t n bits e h = fill_by_all (λ i. truth_of (row_at t i)) bits (tree_len t) false h.long (λ i l. h.each i (omega (arith, h.long)))
+
+-- ---- kinds
 
 -- plain booleans are the one kind that passes the test
 pub plain_booleans : (k : Kind) → is_plain_booleans k ≡ true → k ≡ booleans false

@@ -5,17 +5,17 @@ use Rattle.std.proofs.lemmas.List.{length-map, get_or-map, length-replicate, get
 use Rattle.std.proofs.lemmas.List.FromFn.{length-map-range_with_len, get_or-map-range_with_len}
 use Rattle.std.specs.Prelude.{ℤ, pos, ◌||◌, ◌&&◌, if◌then◌else◌}
 use Rattle.vx_base.specs.declared.ptypes.PType.{PType}
+use Rattle.vx_base.specs.declared.ptypes.PType.TheVariants.{U8}
 use Rattle.vx_base.specs.Integers.{numbers}
 use Rattle.vx_base.specs.Rows.{Row, null, whole, truth_of}
 use Rattle.vx_base.specs.Bits.{bool_at, both}
 use Rattle.vx_base.specs.Kinds.{Kind, booleans, integers, texts, binaries, lists, fixed_lists, records, or_nullable}
 use Rattle.vx_tree.specs.Tree.{Tree, bools, primitive, constant, dictionary, fixed_list, list_view, structure, view_array, Valid, non_nullable, all_valid, all_invalid, by_array}
-use Rattle.vx_tree.specs.Layouts.{is_constant}
 use Rattle.vx_tree.specs.Meaning.{row_at, tree_len, kind_of, is_valid_at, nullable}
 use Rattle.vx_base.specs.Selections.{number_of_position}
 use Rattle.vx_tree.specs.Shapes.{State, bool_shape, primitive_shape, list_view_shape, never_null, none_null, every_null, told, state_of, is_nullable_state, taken_state}
 use Rattle.vx_tree.specs.Formed.{ValidFits, IsMask}
-use Rattle.vx_tree.specs.Operations.{IsNulled, IsValidNulled, IsNulls, IsValidNulls, IsZeroes}
+use Rattle.vx_tree.specs.Operations.{IsNulled, IsValidNulled, IsNulls, IsValidNulls, IsZeroes, IsZeroCodes}
 use Rattle.vx_tree.proofs.Selected.{nullable-state}
 
 pub nullable-taken_state : (s index : State) → is_nullable_state (taken_state s index) ≡ (is_nullable_state index || is_nullable_state s)
@@ -155,40 +155,7 @@ zeroes_made t p bs n a e =
       rows = λ i l. ap whole (ap (λ (zs : List ℤ). number_of_position zs i) e ∙ get_or-map pos (replicate n 0) i 0 (pos 0) (rw (length-replicate {A = ℕ} n 0) l) ∙ ap pos (get_or-replicate n i 0 0 l));
     })
 
--- ---- a constant, by nulls that are none
-
-never : (u : Valid) → nullable u ≡ false → u ≡ non_nullable
-never non_nullable e = refl
-never all_valid e = absurd (cc)
-never all_invalid e = absurd (cc)
-never (by_array t) e = absurd (cc)
-
-same_kind : (k : Kind) → or_nullable false k ≡ k
-same_kind (booleans n) = refl
-same_kind (integers t n) = refl
-same_kind (texts n) = refl
-same_kind (binaries n) = refl
-same_kind (lists k n) = refl
-same_kind (fixed_lists k size n) = refl
-same_kind (records names ks n) = refl
-
-pub constant_nulled : (t : Tree) (u : Valid) → is_constant t ≡ true → nullable u ≡ false → IsNulled t u t
-constant_nulled (constant k r n) u c e =
-    rw (never u e) (record { len = refl; kind = sym (same_kind k); shape = refl; rows = λ i l. refl })
-constant_nulled (bools bits v) u c e = absurd (cc)
-constant_nulled (primitive p bs v) u c e = absurd (cc)
-constant_nulled (dictionary x v f) u c e = absurd (cc)
-constant_nulled (fixed_list x k v n) u c e = absurd (cc)
-constant_nulled (list_view x o s v f) u c e = absurd (cc)
-constant_nulled (structure ns ts v n) u c e = absurd (cc)
-constant_nulled (view_array vs bs x v) u c e = absurd (cc)
-
-pub constant_nulls : (t s : Tree) (u : Valid) (k : Kind) (r : Row) (m n : ℕ) → t ≡ constant k r m → s ≡ constant k r n → nullable u ≡ false → ((i : ℕ) → i < n → is_valid_at u i ≡ false) → IsNulls t n u s
-constant_nulls t s u k r m n a b e none =
-    let plain = never u e in
-    rw (a, b) (record {
-      len = refl;
-      kind = rw plain (sym (same_kind k));
-      shape = rw plain refl;
-      rows = λ i l. let h : is_valid_at u i ≡ false = none i l in let h2 : true ≡ false = ap (λ x. is_valid_at x i) (sym plain) ∙ h in absurd (cc);
-    })
+pub zero_codes_made : (t : Tree) (bs : List ℕ) (u : Valid) (n : ℕ) → t ≡ primitive U8 bs u → numbers U8 bs ≡ map pos (replicate n 0) → IsZeroCodes n u t
+zero_codes_made t bs u n a e =
+    let z = zeroes_made (primitive U8 bs non_nullable) U8 bs n refl e in
+    rw a (record { len = z.len; kind = refl; state = refl; rows = λ i l. ap (λ r. if is_valid_at u i then r else null) (z.rows i l) })

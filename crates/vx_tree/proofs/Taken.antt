@@ -4,11 +4,11 @@ use Rattle.std.specs.Prelude.{is_some, IfSome, slice_index, slice_index_or, if�
 use Rattle.std.proofs.lemmas.List.{length-map, get_or-map, get_or_default}
 use Rattle.std.proofs.lemmas.List.FromFn.{get_or-map-range_with_len, length-map-range_with_len, fill_by_all}
 use Rattle.vx_base.specs.Rows.{null, position_in}
-use Rattle.vx_base.specs.Kinds.{or_nullable, is_integers, is_nullable_kind}
+use Rattle.vx_base.specs.Kinds.{or_nullable, is_integers}
 use Rattle.vx_tree.specs.Tree.{Tree, Valid}
 use Rattle.vx_tree.specs.Meaning.{row_at, rows, tree_len, kind_of, is_valid_at, nullable, picked}
-use Rattle.vx_tree.specs.Shapes.{Shape, bool_shape, primitive_shape, constant_shape, dictionary_shape, fixed_list_shape, list_view_shape, struct_shape, view_shape, state_of, shape_of, selected_shape, nulled_shape}
-use Rattle.vx_tree.specs.Faults.{take_fault, indices_fault, rows_fault, dictionary_fault}
+use Rattle.vx_tree.specs.Shapes.{state_of, shape_of, nulled_shape}
+use Rattle.vx_tree.specs.Faults.{take_fault, indices_fault, take_overflow}
 use Rattle.vx_tree.specs.Operations.{IsTakenAt, IsSelected, IsNulled, IsNulls, IsValidityOf, ArePositions, AreBelow, or_zero, positions, picks}
 
 -- ---- at positions
@@ -32,20 +32,6 @@ taken_of_nulls t r qs u none n =
       shape = n.shape;
       rows = λ i l. n.rows i l ∙ sym (ap (λ b. if b then row_at t (slice_index qs i) else null) (none i l));
     }
-
--- what is selected needs a dictionary where the array does
-pub dictionary_fault-selected : (t s : Tree) (qs : List ℕ) (nulls : Bool) → IsSelected t qs s → dictionary_fault (shape_of t) nulls ≡ None → dictionary_fault (shape_of s) nulls ≡ None
-dictionary_fault-selected t s qs nulls h e = ap (λ x. dictionary_fault x nulls) h.shape ∙ kept (shape_of t) ∙ e
-  where
-    kept : (x : Shape) → dictionary_fault (selected_shape x) nulls ≡ dictionary_fault x nulls
-    kept (bool_shape s) = refl
-    kept (primitive_shape s) = refl
-    kept (constant_shape s) = refl
-    kept (dictionary_shape s f) = refl
-    kept (fixed_list_shape s) = refl
-    kept (list_view_shape e s f) = refl
-    kept (struct_shape s) = refl
-    kept (view_shape bs s) = refl
 
 -- ---- by indices
 
@@ -107,6 +93,6 @@ rows_taken t r indices n qs v e h valid taken =
         ∙ ap (picked (λ j. slice_index_or (rows t) j null)) (sym (position_of_row indices i inside)) ∙ sym (get_or-map (picked (λ j. slice_index_or (rows t) j null)) ps i None null (rw many inside))
 
 -- with indices that are integers and faultless, only the rows taken have a fault
-pub take_fault-of : (t indices : Tree) (n : ℕ) (nulls : Bool) → is_integers (kind_of indices) ≡ true → indices_fault (tree_len t) indices ≡ None → n ≡ tree_len indices → nulls ≡ is_nullable_kind (kind_of indices)
-    → take_fault t indices ≡ rows_fault t n nulls
-take_fault-of t indices n nulls ints none e f = rw (ints, none, e, f) refl
+pub take_fault-of : (t indices : Tree) (n : ℕ) → is_integers (kind_of indices) ≡ true → indices_fault (tree_len t) indices ≡ None → n ≡ tree_len indices
+    → take_fault t indices ≡ take_overflow t n
+take_fault-of t indices n ints none e = rw (ints, none, e) refl

@@ -19,4 +19,5 @@ pub layout_falls : (l : Layout) → max (max (deep-Layout l) 0) 0 ≤ depth (tre
 layout_falls (layout.Bool bits v) = omega (arith, valid_falls v)
 layout_falls (layout.Primitive t bs v) = omega (arith, valid_falls v)
 layout_falls (layout.Constant s n) = omega arith
+layout_falls (layout.Dict c v f) = omega arith
 layout_falls (layout.ListView e o s v f) = omega (arith, valid_falls v)

@@ -1,11 +1,10 @@
 -- Which fault a call on an array answers with, where several stand.
 use Rattle.std.specs.Prelude.{◌*◌, ◌^◌, ℕ, Bool, pos, negsuc, Option, Some, None, nat_lt, ◌==◌, if◌then◌else◌}
-use Rattle.vx_base.specs.Refusals.{Refusal, mismatched_types, length_mismatch, out_of_bounds, negative, overflow, not_implemented, or_else, first_fault}
+use Rattle.vx_base.specs.Refusals.{Refusal, mismatched_types, length_mismatch, out_of_bounds, negative, overflow, or_else, first_fault}
 use Rattle.vx_base.specs.Rows.{Row, whole}
-use Rattle.vx_base.specs.Kinds.{is_integers, is_plain_booleans, is_nullable_kind}
+use Rattle.vx_base.specs.Kinds.{is_integers, is_plain_booleans}
 use Rattle.vx_tree.specs.Tree.{Tree, fixed_list, structure, Trees, no_trees, tree, Valid, by_array}
 use Rattle.vx_tree.specs.Meaning.{tree_len, kind_of, row_at}
-use Rattle.vx_tree.specs.Shapes.{Shape, constant_shape, shape_of}
 
 -- a row past the end
 abbrev pub position_fault : ℕ → ℕ → Option Refusal
@@ -57,16 +56,7 @@ abbrev mutual
   columns_overflow no_trees n = None
   columns_overflow (tree t ts) n = or_else (take_overflow t n) (columns_overflow ts n)
 
--- taking a constant by indices that may be null makes a dictionary, of which there is none yet
-abbrev pub dictionary_fault : Shape → Bool → Option Refusal
-dictionary_fault (constant_shape s) nulls = if nulls then Some not_implemented else None
-dictionary_fault _ nulls = None
-
--- taking n rows, by indices that may be null where nulls says so: too many elements, a dictionary
-abbrev pub rows_fault : Tree → ℕ → Bool → Option Refusal
-rows_fault t n nulls = or_else (take_overflow t n) (dictionary_fault (shape_of t) nulls)
-
--- taking: indices that are no integers, the first one that is no position, a fault of so many rows
+-- taking: indices that are no integers, the first one that is no position, too many elements
 abbrev pub take_fault : Tree → Tree → Option Refusal
 take_fault t indices =
-    if is_integers (kind_of indices) then or_else (indices_fault (tree_len t) indices) (rows_fault t (tree_len indices) (is_nullable_kind (kind_of indices))) else Some mismatched_types
+    if is_integers (kind_of indices) then or_else (indices_fault (tree_len t) indices) (take_overflow t (tree_len indices)) else Some mismatched_types

@@ -1,6 +1,6 @@
 -- The layout of an array.
 use Rattle.std.specs.Prelude.{Bool, true, false}
-use Rattle.vx_tree.specs.Tree.{Tree, bools, primitive, constant, list_view}
+use Rattle.vx_tree.specs.Tree.{Tree, bools, primitive, constant, dictionary, list_view}
 
 abbrev pub is_bools : Tree → Bool
 is_bools (bools bits v) = true
@@ -13,6 +13,10 @@ is_primitive _ = false
 abbrev pub is_constant : Tree → Bool
 is_constant (constant k r n) = true
 is_constant _ = false
+
+abbrev pub is_dictionary : Tree → Bool
+is_dictionary (dictionary c v f) = true
+is_dictionary _ = false
 
 abbrev pub is_list_view : Tree → Bool
 is_list_view (list_view e o s v f) = true

@@ -2,6 +2,7 @@
 use Rattle.std.specs.Prelude.{◌≡◌, ◌<◌, ◌+◌, ◌&&◌, ℕ, pos, Bool, false, List, length, map, Option, Some, None, is_some, IfSome, slice_index, slice_index_or, if◌then◌else◌}
 use Rattle.std.specs.List.{All}
 use Rattle.vx_base.specs.declared.ptypes.PType.{PType}
+use Rattle.vx_base.specs.declared.ptypes.PType.TheVariants.{U8}
 use Rattle.vx_base.specs.Rows.{Row, null, whole, position_in, is_present}
 use Rattle.vx_base.specs.Kinds.{or_nullable, booleans, integers, is_nullable_kind}
 use Rattle.vx_tree.specs.Tree.{Tree, bools, primitive, Valid, non_nullable, by_array}
@@ -77,6 +78,13 @@ pub record IsZeroes (p : PType) (n : ℕ) (t : Tree) : Type 0 where
   pub len : tree_len t ≡ n
   pub kind : kind_of t ≡ integers p false
   pub rows : (i : ℕ) → i < n → row_at t i ≡ whole (pos 0)
+
+-- n codes that are all 0, null where a validity is not true
+pub record IsZeroCodes (n : ℕ) (u : Valid) (t : Tree) : Type 0 where
+  pub len : tree_len t ≡ n
+  pub kind : kind_of t ≡ integers U8 (nullable u)
+  pub state : tree_state t ≡ state_of u
+  pub rows : (i : ℕ) → i < n → row_at t i ≡ (if is_valid_at u i then whole (pos 0) else null)
 
 -- ---- taking: the rows at positions, null where a validity is not true
 

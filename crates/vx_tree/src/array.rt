@@ -63,6 +63,13 @@ pub enum Layout {
         scalar: Scalar,
         len: usize,
     },
+    /// Row `i` is the value at the position `codes[i]`, null where the code is null. A set flag
+    /// says that every value is referenced.
+    Dict {
+        codes: ArrayRef,
+        values: ArrayRef,
+        flag: bool,
+    },
     /// Row `i` is the list of `sizes[i]` rows of the elements from `offsets[i]` on. A set flag
     /// says that each list ends where the next one begins, null rows counted.
     ListView {
@@ -127,8 +134,9 @@ impl ArrayRef {
     }
 
     /// An array of these parts. Asks that they are well formed: that the validity has as many
-    /// rows, that a list view's offsets and sizes are counts, that its lists end within the
-    /// elements, and that a set flag holds.
+    /// rows, that a dictionary's codes are integers and each valid one the position of a value,
+    /// that a list view's offsets and sizes are counts, that its lists end within the elements, and
+    /// that a set flag holds.
     #[inline(always)]
     pub fn from_parts(alloc: Global, layout: Layout) -> Result<ArrayRef, VortexError>
         requires { WellFormed (tree_of layout) }
@@ -196,6 +204,10 @@ impl Layout {
                 validity.known();
             }
             Layout::Constant { .. } => {}
+            Layout::Dict { codes, values, .. } => {
+                codes.known();
+                values.known();
+            }
             Layout::ListView {
                 elements,
                 offsets,
@@ -219,6 +231,7 @@ impl Layout {
             Layout::Bool { bits, .. } => bits.len(),
             Layout::Primitive { ptype, bytes, .. } => number_count(bytes.as_slice(), *ptype),
             Layout::Constant { len, .. } => *len,
+            Layout::Dict { codes, .. } => codes.len(),
             Layout::ListView { offsets, .. } => offsets.len(),
         }
     }
@@ -235,6 +248,10 @@ impl Layout {
                 ..
             } => Ok(DType::Primitive(*ptype, validity.nullability())),
             Layout::Constant { scalar, .. } => scalar.dtype().try_clone(alloc),
+            Layout::Dict { codes, values, .. } => {
+                let dtype = values.dtype().try_clone(alloc)?;
+                Ok(dtype.union_nullability(codes.dtype().nullability()))
+            }
             Layout::ListView {
                 elements,
                 validity,

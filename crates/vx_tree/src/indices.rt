@@ -209,7 +209,7 @@ fn position_of(number: i128, row: usize, len: usize) -> Result<usize, VortexErro
 }
 
 // A number that is not negative, as a position.
-fn to_position(number: i128) -> usize
+pub(crate) fn to_position(number: i128) -> usize
     requires low { pos 0 ≤ℤ number }
     requires high { number ≤ℤ pos (2 ^ 64 - 1) }
     ensures { pos result ≡ number }

@@ -2,5 +2,6 @@
 
 mod bool;
 pub(crate) mod constant;
+mod dict;
 mod list_view;
 mod primitive;

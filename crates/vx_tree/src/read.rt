@@ -1,6 +1,6 @@
 // Rows that are read one at a time, or as bits.
 
-ghost use Rattle.std.specs.Prelude.{◌≡◌, ◌<◌, ◌≤ℤ◌, ◌^◌, ◌-◌, pos, true, false, map, None, IfOk, IfSome, IsSome, is_some};
+ghost use Rattle.std.specs.Prelude.{◌≡◌, ◌<◌, ◌≤ℤ◌, ◌^◌, ◌-◌, pos, true, false, map, None, length, IfOk, IfSome, IsSome, is_some};
 ghost use Rattle.std.specs.List.{range_with_len};
 ghost use Rattle.vx_base.specs.Refusals.{Gives, Refuses};
 ghost use Rattle.vx_base.specs.Integers.{Holds};
@@ -27,16 +27,29 @@ impl ArrayRef {
         if i >= len {
             return Err(VortexError::OutOfBounds { index: i, len });
         }
+        Ok(self.is_valid_within(i))
+    }
+
+    // The same of a row below the length.
+    pub(crate) fn is_valid_within(&self, i: usize) -> bool
+        requires { i < tree_len self.now }
+        ensures { result ≡ is_present (row_at self.now i) }
+    {
         match self.layout() {
-            Layout::Bool { validity, .. } => Ok(validity.is_valid_at(i)),
-            Layout::Primitive { validity, .. } => Ok(validity.is_valid_at(i)),
-            Layout::Constant { scalar, .. } => Ok(scalar.is_valid()),
-            Layout::ListView { validity, .. } => Ok(validity.is_valid_at(i)),
+            Layout::Bool { validity, .. } => validity.is_valid_at(i),
+            Layout::Primitive { validity, .. } => validity.is_valid_at(i),
+            Layout::Constant { scalar, .. } => scalar.is_valid(),
+            Layout::Dict { codes, values, .. } => match codes.code_at(i, values.len()) {
+                Some(code) => values.is_valid_within(code),
+                None => false,
+            },
+            Layout::ListView { validity, .. } => validity.is_valid_at(i),
         }
     }
 
     /// The number of row `i`, where it is not null. Asks an integer data type and a row below the
     /// length.
+    #[cycle(read)]
     pub fn int_at(&self, i: usize) -> Option<i128>
         requires ints { is_integers (kind_of self.now) ≡ true }
         requires in_bounds { i < tree_len self.now }
@@ -59,11 +72,16 @@ impl ArrayRef {
                 }
             }
             Layout::Constant { scalar, .. } => scalar.as_int(),
+            Layout::Dict { codes, values, .. } => match codes.code_at(i, values.len()) {
+                Some(code) => values.int_at(code),
+                None => None,
+            },
             _ => unreachable!(),
         }
     }
 
     // Row `i` of an array of plain booleans.
+    #[cycle(read)]
     pub(crate) fn truth_at(&self, i: usize) -> bool
         requires kind { kind_of self.now ≡ booleans false }
         requires in_bounds { i < tree_len self.now }
@@ -72,6 +90,10 @@ impl ArrayRef {
         match self.layout() {
             Layout::Bool { bits, .. } => bits.value(i),
             Layout::Constant { scalar, .. } => scalar.as_bool(),
+            Layout::Dict { codes, values, .. } => match codes.code_at(i, values.len()) {
+                Some(code) => values.truth_at(code),
+                None => false,
+            },
             _ => unreachable!(),
         }
     }
@@ -84,11 +106,34 @@ impl ArrayRef {
         match self.layout() {
             Layout::Bool { bits, .. } => bits.try_clone(alloc),
             Layout::Constant { scalar, len } => BitBuffer::full(alloc, scalar.as_bool(), *len),
+            Layout::Dict { .. } => self.truths(alloc),
             _ => unreachable!(),
         }
     }
 
+    // The same in any layout, row by row.
+    fn truths(&self, alloc: Global) -> Result<BitBuffer, VortexError>
+        requires { kind_of self.now ≡ booleans false }
+        ensures { Gives result (λ b. b ≡ map (λ i. truth_of (row_at self.now i)) (range_with_len 0 (tree_len self.now))) }
+    {
+        let mut truths = vec![in alloc; false; self.len()]?;
+        self.fill_truths(&mut truths);
+        BitBuffer::from_bools(alloc, &truths)
+    }
+
+    // Writes them.
+    fn fill_truths(&self, out: &mut [bool])
+        requires kind { kind_of self.now ≡ booleans false }
+        requires room { length out.old ≡ tree_len self.now }
+        ensures { out.new ≡ map (λ i. truth_of (row_at self.now i)) (range_with_len 0 (tree_len self.now)) }
+    {
+        for row in 0..out.len() {
+            out[row] = self.truth_at(row);
+        }
+    }
+
     // Which rows are valid, as the layout keeps it.
+    #[cycle(validity)]
     pub(crate) fn validity(&self, alloc: Global) -> Result<Validity, VortexError>
         ensures { Gives result (λ v. IsValidityOf self.now (valid_of v)) }
     {
@@ -96,6 +141,7 @@ impl ArrayRef {
             Layout::Bool { validity, .. } => validity.try_clone(alloc),
             Layout::Primitive { validity, .. } => validity.try_clone(alloc),
             Layout::Constant { scalar, .. } => Ok(scalar_validity(scalar)),
+            Layout::Dict { .. } => self.dictionary_validity(alloc),
             Layout::ListView { validity, .. } => validity.try_clone(alloc),
         }
     }

@@ -12,7 +12,7 @@ use vx_base::{Selection, VortexError};
 
 impl ArrayRef {
     /// The rows that are picked, in their order, in the same layout and of the same data type and
-    /// state; a list view keeps its elements, not its flag. Asks that each position is below the
+    /// state; a list view keeps its elements, a dictionary its values, neither its flag. Asks that each position is below the
     /// length. Refuses `Overflow` where lists of a fixed size would need more elements than can be
     /// counted.
     pub fn select(&self, alloc: Global, selection: &Selection) -> Result<ArrayRef, VortexError>
@@ -34,6 +34,7 @@ impl ArrayRef {
             Layout::Bool { .. } => true,
             Layout::Primitive { .. } => true,
             Layout::Constant { .. } => true,
+            Layout::Dict { .. } => true,
             Layout::ListView { .. } => true,
         }
     }
@@ -53,6 +54,7 @@ impl ArrayRef {
             Layout::Bool { .. } => self.select_bools(alloc, selection),
             Layout::Primitive { .. } => self.select_primitive(alloc, selection),
             Layout::Constant { .. } => self.select_constant(alloc, selection),
+            Layout::Dict { .. } => self.select_dictionary(alloc, selection),
             Layout::ListView { .. } => self.select_list_view(alloc, selection),
         }
     }

@@ -14,7 +14,8 @@ use vx_base::VortexError;
 
 impl ArrayRef {
     /// The rows from `range.start` up to `range.end`, in the same layout; values, elements and
-    /// buffers are shared. A list view keeps its elements and its flag. Refuses `OutOfBounds` with
+    /// buffers are shared. A list view keeps its elements and its flag, a dictionary its values and
+    /// not its flag. Refuses `OutOfBounds` with
     /// the end where it passes the length, then with the start where it passes the end. Of the lists
     /// `[3, 4]`, `[1]`, `[2, 3]` the range `1..3` has `[1]`, `[2, 3]`.
     pub fn slice(&self, alloc: Global, range: Range<usize>) -> Result<ArrayRef, VortexError>
@@ -56,6 +57,7 @@ impl ArrayRef {
             Layout::Bool { .. } => self.slice_bools(alloc, start, end),
             Layout::Primitive { .. } => self.slice_primitive(alloc, start, end),
             Layout::Constant { .. } => self.slice_constant(alloc, start, end),
+            Layout::Dict { .. } => self.slice_dictionary(alloc, start, end),
             Layout::ListView { .. } => self.slice_list_view(alloc, start, end),
         }
     }

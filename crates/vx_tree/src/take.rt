@@ -1,27 +1,27 @@
 // Rows of an array at indices.
 
-ghost use Rattle.std.specs.Prelude.{◌≡◌, ◌<◌, ℕ, Some, None, false, length, if◌then◌else◌, IfOk};
-ghost use Rattle.vx_base.specs.Refusals.{Refuses, not_implemented};
+ghost use Rattle.std.specs.Prelude.{◌≡◌, ◌<◌, ℕ, false, length, IfOk};
+ghost use Rattle.vx_base.specs.Refusals.{Refuses};
 ghost use Rattle.vx_base.specs.Kinds.{is_nullable_kind, or_nullable};
-ghost use Rattle.vx_tree.specs.Meaning.{tree_len, kind_of, rows, is_valid_at, nullable};
+ghost use Rattle.vx_tree.specs.Meaning.{tree_len, kind_of, rows, is_valid_at};
 ghost use Rattle.vx_tree.specs.Shapes.{tree_state, shape_of, taken_shape};
 ghost use Rattle.vx_tree.specs.Formed.{ValidFits};
 ghost use Rattle.vx_tree.specs.Parts.{valid_of};
-ghost use Rattle.vx_tree.specs.Faults.{take_fault, rows_fault, dictionary_fault};
+ghost use Rattle.vx_tree.specs.Faults.{take_fault, take_overflow};
 ghost use Rattle.vx_tree.specs.Operations.{AreBelow, IsTakenAt, picks, positions};
 
-use crate::array::{ArrayRef, Layout, Validity};
+use crate::array::{ArrayRef, Validity};
 use std::alloc::Global;
 use vx_base::{Selection, VortexError};
 
 impl ArrayRef {
-    /// The rows at these indices, in their order; a null index gives null. The layout is kept, and
-    /// a list view keeps its elements, not its flag. The data type is nullable where either side's
-    /// is. Refuses `MismatchedTypes` where the indices are no integers, then at the first faulty
-    /// valid index `Negative` or `OutOfBounds`, then `Overflow` where lists of a fixed size would
-    /// need more elements than can be counted, then `NotImplemented` where a constant is taken by
-    /// indices of a nullable data type. Of the lists `[3, 4]`, `[1]`, `[2, 3]` the indices 2, null,
-    /// 0 take `[2, 3]`, null, `[3, 4]`.
+    /// The rows at these indices, in their order; a null index gives null. The layout is kept, but
+    /// a constant becomes a dictionary of its one value where the data type of the indices is
+    /// nullable; a list view keeps its elements, a dictionary its values, neither its flag. The data
+    /// type is nullable where either side's is. Refuses `MismatchedTypes` where the indices are no
+    /// integers, then at the first faulty valid index `Negative` or `OutOfBounds`, then `Overflow`
+    /// where lists of a fixed size would need more elements than can be counted. Of the lists
+    /// `[3, 4]`, `[1]`, `[2, 3]` the indices 2, null, 0 take `[2, 3]`, null, `[3, 4]`.
     pub fn take(&self, alloc: Global, indices: &ArrayRef) -> Result<ArrayRef, VortexError>
         ensures rows { IfOk result (λ a. rows a ≡ picks (rows self.now) (positions (rows indices.now))) }
         ensures kind { IfOk result (λ a. kind_of a ≡ or_nullable (is_nullable_kind (kind_of indices.now)) (kind_of self.now)) }
@@ -48,25 +48,15 @@ impl ArrayRef {
         requires below { 0 < tree_len self.now → AreBelow (tree_len self.now) positions.now }
         requires none { tree_len self.now ≡ 0 → (i : ℕ) → i < length positions.now → is_valid_at (valid_of nulls.now) i ≡ false }
         ensures taken { IfOk result (IsTakenAt self.now positions.now (valid_of nulls.now)) }
-        ensures refuses { Refuses result (rows_fault self.now (length positions.now) (nullable (valid_of nulls.now))) }
+        ensures refuses { Refuses result (take_overflow self.now (length positions.now)) }
     {
         if !self.can_select(positions.len()) {
             return Err(VortexError::Overflow);
-        }
-        if self.needs_dictionary(nulls) {
-            return Err(VortexError::NotImplemented);
         }
         if self.is_empty() {
             return Ok(self.nulls(alloc, positions.len(), nulls)?);
         }
         let selected = self.select_within(alloc, &Selection::at_positions(positions))?;
         Ok(selected.nulled(alloc, nulls)?)
-    }
-
-    // Whether nulls of this validity make a dictionary of it.
-    fn needs_dictionary(&self, nulls: &Validity) -> bool
-        ensures { dictionary_fault (shape_of self.now) (nullable (valid_of nulls.now)) ≡ (if result then Some not_implemented else None) }
-    {
-        matches!(self.layout(), Layout::Constant { .. }) && nulls.is_nullable()
     }
 }

@@ -273,13 +273,50 @@ fn constant_taken_by_plain_indices(rt: HostRuntime) -> Result<(), VortexError> {
 
 #[test]
 fn constant_taken_by_nullable_indices(rt: HostRuntime) -> Result<(), VortexError> {
-    let scalar = Scalar::bool(true, Nullability::NonNullable);
+    let scalar = Scalar::int(7, PType::I32, Nullability::NonNullable);
     let array = ArrayRef::constant(rt.alloc(), scalar, 3)?;
-    let found = match array.take(rt.alloc(), &indices(rt.alloc())?) {
-        Err(VortexError::NotImplemented) => true,
-        _ => false,
-    };
-    assert!(rt; found);
+    let taken = array.take(rt.alloc(), &indices(rt.alloc())?)?;
+    assert!(rt; taken.len() == 3 && matches!(taken.layout(), Layout::Dict { .. }));
+    assert!(rt; taken.dtype().is_nullable() && !taken.is_valid(rt.alloc(), 1)?);
+    assert!(rt; number(&rt, &taken, 0) == Some(7) && number(&rt, &taken, 1) == None);
+    assert!(rt; number(&rt, &taken, 2) == Some(7));
+    Ok(())
+}
+
+// The codes 0, null, 2, null, 1 into the values null, 6, 9.
+fn dictionary(alloc: Global) -> Result<ArrayRef, VortexError> {
+    let validity = Validity::Array(booleans(alloc, &[true, false, true, false, true])?);
+    let codes = numbers(alloc, PType::U8, &[0, 0, 2, 0, 1], validity)?;
+    let validity = Validity::Array(booleans(alloc, &[false, true, true])?);
+    let values = numbers(alloc, PType::U8, &[0, 6, 9], validity)?;
+    ArrayRef::dictionary(alloc, codes, values, false)
+}
+
+#[test]
+fn rows_of_a_dictionary(rt: HostRuntime) -> Result<(), VortexError> {
+    let array = dictionary(rt.alloc())?;
+    rows_fit_their_dtype(&array);
+    assert!(rt; array.len() == 5 && array.dtype().is_nullable());
+    assert!(rt; number(&rt, &array, 0) == None && number(&rt, &array, 1) == None);
+    assert!(rt; number(&rt, &array, 2) == Some(9) && number(&rt, &array, 3) == None);
+    assert!(rt; number(&rt, &array, 4) == Some(6) && !array.is_valid(rt.alloc(), 0)?);
+    assert!(rt; array.is_valid(rt.alloc(), 4)? && !array.is_valid(rt.alloc(), 3)?);
+    Ok(())
+}
+
+#[test]
+fn slice_of_a_dictionary(rt: HostRuntime) -> Result<(), VortexError> {
+    let part = dictionary(rt.alloc())?.slice(rt.alloc(), 2..5)?;
+    assert!(rt; part.len() == 3 && number(&rt, &part, 0) == Some(9));
+    assert!(rt; number(&rt, &part, 1) == None && number(&rt, &part, 2) == Some(6));
+    Ok(())
+}
+
+#[test]
+fn take_of_a_dictionary(rt: HostRuntime) -> Result<(), VortexError> {
+    let taken = dictionary(rt.alloc())?.take(rt.alloc(), &indices(rt.alloc())?)?;
+    assert!(rt; taken.len() == 3 && number(&rt, &taken, 0) == Some(9));
+    assert!(rt; number(&rt, &taken, 1) == None && number(&rt, &taken, 2) == None);
     Ok(())
 }
 

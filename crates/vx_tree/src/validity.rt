@@ -109,6 +109,7 @@ impl Validity {
     }
 
     // Whether row `i` is valid.
+    #[cycle(read)]
     pub(crate) fn is_valid_at(&self, i: usize) -> bool
         requires { ValidReads (valid_of self.now) i }
         ensures { result ≡ is_valid_at (valid_of self.now) i }

@@ -57,22 +57,23 @@ impl ArrayRef {
         ArrayRef::constant(alloc, scalar.try_clone(alloc)?, selection.len())
     }
 
-    // Asks that null may not stand among the nulls, so that there is none.
-    #[tactic(auto, using(crate::proofs::Nulled::constant_nulled))]
+    // A constant where null may not stand under the validity, else a dictionary of the one row.
+    #[tactic(auto, using(crate::proofs::Dictionaries::constants))]
     pub(crate) fn nulled_constant(
         &self,
         alloc: Global,
         nulls: &Validity,
     ) -> Result<ArrayRef, VortexError>
         requires layout { is_constant self.now ≡ true }
-        requires plain { nullable (valid_of nulls.now) ≡ false }
+        requires fits { ValidFits (valid_of nulls.now) (tree_len self.now) }
         ensures { Gives result (IsNulled self.now (valid_of nulls.now)) }
     {
-        self.try_clone(alloc)
+        let Layout::Constant { scalar, len } = self.layout() else {
+            unreachable!();
+        };
+        constant_or_null(alloc, scalar, *len, nulls)
     }
 
-    // Asks the same, so that there is no row.
-    #[tactic(auto, using(crate::proofs::Nulled::constant_nulls))]
     pub(crate) fn null_constant(
         &self,
         alloc: Global,
@@ -80,15 +81,36 @@ impl ArrayRef {
         nulls: &Validity,
     ) -> Result<ArrayRef, VortexError>
         requires layout { is_constant self.now ≡ true }
-        requires plain { nullable (valid_of nulls.now) ≡ false }
+        requires fits { ValidFits (valid_of nulls.now) len }
         requires none { (i : ℕ) → i < len → is_valid_at (valid_of nulls.now) i ≡ false }
         ensures { Gives result (IsNulls self.now len (valid_of nulls.now)) }
     {
         let Layout::Constant { scalar, .. } = self.layout() else {
             unreachable!();
         };
-        ArrayRef::constant(alloc, scalar.try_clone(alloc)?, len)
+        constant_or_null(alloc, scalar, len, nulls)
     }
+}
+
+// The row `len` times, null where this validity is not true: a constant where null may not stand
+// under it, else a dictionary of the one row.
+#[tactic(auto, using(crate::proofs::Dictionaries::constants))]
+fn constant_or_null(
+    alloc: Global,
+    scalar: &Scalar,
+    len: usize,
+    nulls: &Validity,
+) -> Result<ArrayRef, VortexError>
+    requires { ValidFits (valid_of nulls.now) len }
+    ensures { Gives result (IsNulled (constant scalar.now.kind scalar.now.row len) (valid_of nulls.now)) }
+{
+    let row = scalar.try_clone(alloc)?;
+    if !nulls.is_nullable() {
+        return ArrayRef::constant(alloc, row, len);
+    }
+    let codes = ArrayRef::zero_codes(alloc, len, nulls)?;
+    let values = ArrayRef::constant(alloc, row, 1)?;
+    ArrayRef::dictionary(alloc, codes, values, false)
 }
 
 // The validity of rows that are all this one.

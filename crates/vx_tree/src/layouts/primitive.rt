@@ -8,7 +8,7 @@ ghost use Rattle.vx_tree.specs.Layouts.{is_primitive};
 ghost use Rattle.vx_tree.specs.Meaning.{tree_len, is_valid_at};
 ghost use Rattle.vx_tree.specs.Formed.{ValidFits, WellFormed};
 ghost use Rattle.vx_tree.specs.Parts.{valid_of};
-ghost use Rattle.vx_tree.specs.Operations.{IsSlice, IsSelected, IsNulled, IsNulls, IsZeroes, AreBelow};
+ghost use Rattle.vx_tree.specs.Operations.{IsSlice, IsSelected, IsNulled, IsNulls, IsZeroes, IsZeroCodes, AreBelow};
 
 use crate::array::{ArrayRef, Layout, Validity};
 use std::alloc::Global;
@@ -147,6 +147,19 @@ impl ArrayRef {
     {
         let bytes = zero_numbers(alloc, ptype, len)?;
         ArrayRef::primitive(alloc, ptype, bytes, Validity::NonNullable)
+    }
+
+    // Codes that are all 0, null where this validity is not true.
+    pub(crate) fn zero_codes(
+        alloc: Global,
+        len: usize,
+        nulls: &Validity,
+    ) -> Result<ArrayRef, VortexError>
+        requires { ValidFits (valid_of nulls.now) len }
+        ensures { Gives result (IsZeroCodes len (valid_of nulls.now)) }
+    {
+        let bytes = zero_numbers(alloc, PType::U8, len)?;
+        ArrayRef::primitive(alloc, PType::U8, bytes, nulls.try_clone(alloc)?)
     }
 }
 

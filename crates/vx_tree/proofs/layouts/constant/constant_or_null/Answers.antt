@@ -1,0 +1,15 @@
+use Rattle.std.proofs.Common.{rules, ap}
+use Rattle.vx_tree.specs.Meaning.{tree_len}
+use Rattle.vx_tree.specs.Parts.{valid_of}
+use Rattle.vx_base.proofs.Refused.{Gives-weaker}
+use Rattle.vx_tree.proofs.Dictionaries.{constant_with_nulls, zero_codes}
+use Rattle.vx_tree.proofs.layouts.constant.constant_or_null.Goals as goal
+
+pub returns : goal.returns
+returns c =
+    Gives-weaker c.dictionary.result _ _
+    (λ a e. constant_with_nulls a c.in_ok-codes.codes c.in_ok-values.values c.args.scalar.now.kind c.args.scalar.now.row c.args.len (valid_of c.args.nulls.now) (search rules) (rw c.in_ok-row.ensures at c.in_ok-values.ensures) e c.in_ok-codes.ensures)
+    c.dictionary.ensures
+
+pub dictionary-requires : goal.dictionary-requires
+dictionary-requires c = zero_codes c.in_ok-codes.codes c.in_ok-values.values c.args.len (valid_of c.args.nulls.now) c.in_ok-codes.ensures (ap tree_len c.in_ok-values.ensures)

@@ -1,0 +1,157 @@
+// Values that codes refer to.
+
+ghost use Rattle.std.specs.Prelude.{◌≡◌, ◌<◌, ◌≤◌, ◌-◌, ℕ, true, false, IfSome, IsSome, is_some};
+ghost use Rattle.vx_base.specs.Refusals.{Gives};
+ghost use Rattle.vx_base.specs.Kinds.{is_integers, is_plain_integers};
+ghost use Rattle.vx_base.specs.Rows.{is_present, position_in};
+ghost use Rattle.vx_tree.specs.Tree.{dictionary};
+ghost use Rattle.vx_tree.specs.Layouts.{is_dictionary};
+ghost use Rattle.vx_tree.specs.Meaning.{tree_len, kind_of, row_at, is_valid_at};
+ghost use Rattle.vx_tree.specs.Formed.{ValidFits, IsCode, IsDictionary};
+ghost use Rattle.vx_tree.specs.Parts.{valid_of};
+ghost use Rattle.vx_tree.specs.Operations.{IsSlice, IsSelected, IsNulled, IsNulls, IsValidityOf, AreBelow};
+
+use crate::array::{ArrayRef, Layout, Validity};
+use crate::indices::to_position;
+use std::alloc::Global;
+use vx_base::{Selection, VortexError};
+
+impl ArrayRef {
+    /// The values at the positions that the codes name, null where a code is null. Asks that the
+    /// codes are integers, each valid one the position of a value, and that a set flag holds: every
+    /// value is referenced. The codes 0, null, 2 into the values 5, 6, 9 are the rows 5, null, 9.
+    pub fn dictionary(
+        alloc: Global,
+        codes: ArrayRef,
+        values: ArrayRef,
+        flag: bool,
+    ) -> Result<ArrayRef, VortexError>
+        requires { IsDictionary codes values flag }
+        ensures { Gives result (λ a. a ≡ dictionary codes values flag) }
+    {
+        ArrayRef::from_parts(
+            alloc,
+            Layout::Dict {
+                codes,
+                values,
+                flag,
+            },
+        )
+    }
+
+    #[cycle(slice)]
+    #[tactic(auto, using(crate::proofs::Dictionaries::sliced))]
+    pub(crate) fn slice_dictionary(
+        &self,
+        alloc: Global,
+        start: usize,
+        end: usize,
+    ) -> Result<ArrayRef, VortexError>
+        requires layout { is_dictionary self.now ≡ true }
+        requires start_le_end { start ≤ end }
+        requires in_bounds { end ≤ tree_len self.now }
+        ensures { Gives result (IsSlice self.now start (end - start)) }
+    {
+        let Layout::Dict { codes, values, .. } = self.layout() else {
+            unreachable!();
+        };
+        let codes = codes.slice_within(alloc, start, end)?;
+        let values = values.try_clone(alloc)?;
+        ArrayRef::dictionary(alloc, codes, values, false)
+    }
+
+    #[cycle(select)]
+    #[tactic(auto, using(crate::proofs::Dictionaries::selected))]
+    pub(crate) fn select_dictionary(
+        &self,
+        alloc: Global,
+        selection: &Selection,
+    ) -> Result<ArrayRef, VortexError>
+        requires layout { is_dictionary self.now ≡ true }
+        requires within { AreBelow (tree_len self.now) selection.now }
+        ensures { Gives result (IsSelected self.now selection.now) }
+    {
+        let Layout::Dict { codes, values, .. } = self.layout() else {
+            unreachable!();
+        };
+        let codes = codes.select_within(alloc, selection)?;
+        let values = values.try_clone(alloc)?;
+        ArrayRef::dictionary(alloc, codes, values, false)
+    }
+
+    #[cycle(nulls)]
+    #[tactic(auto, using(crate::proofs::Dictionaries::nulled))]
+    pub(crate) fn nulled_dictionary(
+        &self,
+        alloc: Global,
+        nulls: &Validity,
+    ) -> Result<ArrayRef, VortexError>
+        requires layout { is_dictionary self.now ≡ true }
+        requires fits { ValidFits (valid_of nulls.now) (tree_len self.now) }
+        ensures { Gives result (IsNulled self.now (valid_of nulls.now)) }
+    {
+        let Layout::Dict { codes, values, .. } = self.layout() else {
+            unreachable!();
+        };
+        let codes = codes.nulled(alloc, nulls)?;
+        let values = values.try_clone(alloc)?;
+        ArrayRef::dictionary(alloc, codes, values, false)
+    }
+
+    #[cycle(null_rows)]
+    #[tactic(auto, using(crate::proofs::Dictionaries::null_rows))]
+    pub(crate) fn null_codes(
+        &self,
+        alloc: Global,
+        len: usize,
+        nulls: &Validity,
+    ) -> Result<ArrayRef, VortexError>
+        requires layout { is_dictionary self.now ≡ true }
+        requires fits { ValidFits (valid_of nulls.now) len }
+        requires none { (i : ℕ) → i < len → is_valid_at (valid_of nulls.now) i ≡ false }
+        ensures { Gives result (IsNulls self.now len (valid_of nulls.now)) }
+    {
+        let Layout::Dict { codes, values, .. } = self.layout() else {
+            unreachable!();
+        };
+        let codes = codes.nulls(alloc, len, nulls)?;
+        let values = values.try_clone(alloc)?;
+        ArrayRef::dictionary(alloc, codes, values, false)
+    }
+
+    // The position below `len` that the code of row `i` names: none where it is null.
+    #[cycle(read)]
+    pub(crate) fn code_at(&self, i: usize, len: usize) -> Option<usize>
+        requires ints { is_integers (kind_of self.now) ≡ true }
+        requires in_bounds { i < tree_len self.now }
+        requires code { IsCode len (row_at self.now i) }
+        ensures value { result ≡ position_in (row_at self.now i) }
+        ensures within { IfSome result (λ k. k < len) }
+        ensures present { is_some result ≡ is_present (row_at self.now i) }
+        ensures plain { is_plain_integers (kind_of self.now) ≡ true → IsSome result }
+    {
+        match self.int_at(i) {
+            Some(number) => Some(to_position(number)),
+            None => None,
+        }
+    }
+
+    // The validity of the values, taken by the codes.
+    #[cycle(validity)]
+    pub(crate) fn dictionary_validity(&self, alloc: Global) -> Result<Validity, VortexError>
+        requires { is_dictionary self.now ≡ true }
+        ensures { Gives result (λ v. IsValidityOf self.now (valid_of v)) }
+    {
+        let Layout::Dict { codes, values, .. } = self.layout() else {
+            unreachable!();
+        };
+        let nulls = codes.validity(alloc)?;
+        let validity = values.validity(alloc)?;
+        if values.is_empty() {
+            return validity.nulls(alloc, codes.len(), &nulls);
+        }
+        let positions = codes.positions(alloc, values.len())?;
+        let validity = validity.select_within(alloc, &Selection::at_positions(&positions))?;
+        validity.nulled(alloc, &nulls, codes.len())
+    }
+}
