@@ -14,13 +14,15 @@ class Fault(Exception):
 
 
 class Array(NamedTuple):
-    layout: str  # bool, primitive, constant or listview
+    layout: str  # bool, primitive, constant, dict or listview
     kind: str  # bool, list or an integer type
     nullable: bool
     rows: List[Any]  # None where a row is null
     elements: Optional["Array"] = None
     offsets: Optional["Array"] = None
     sizes: Optional["Array"] = None
+    codes: Optional["Array"] = None
+    count: int = 0  # of a dictionary's values
     flag: bool = False
     is_exact: bool = True  # whether a rule fixes each offset and size
 
@@ -119,6 +121,8 @@ def slice_array(array: Array, start: int, end: int) -> Array:
     if array.layout == "listview":
         offsets = slice_array(array.offsets, start, end)
         return array._replace(offsets=offsets, sizes=slice_array(array.sizes, start, end))
+    if array.layout == "dict":
+        return array._replace(codes=slice_array(array.codes, start, end))
     return array
 
 
@@ -127,7 +131,6 @@ def take(array: Array, indices: Array) -> Array:
     for index in indices.rows:
         want(index is None or index >= 0, "Negative")
         want(index is None or index < len(array.rows), "OutOfBounds")
-    want(array.layout != "constant" or not indices.nullable, "NotImplemented")
     rows = [None if index is None else array.rows[index] for index in indices.rows]
     taken = array._replace(rows=rows, nullable=array.nullable or indices.nullable)
     if array.layout == "listview":
@@ -138,6 +141,11 @@ def take(array: Array, indices: Array) -> Array:
                 offsets=take(array.offsets, there), sizes=take(array.sizes, there)
             )
         return taken._replace(flag=False, is_exact=is_exact)
+    if array.layout == "dict":
+        return taken._replace(codes=take(array.codes, indices))
+    if array.layout == "constant" and indices.nullable:
+        zeroes = [None if index is None else 0 for index in indices.rows]
+        return taken._replace(layout="dict", codes=Array("primitive", "u8", True, zeroes), count=1)
     return taken
 
 
@@ -156,6 +164,8 @@ def parts_text(array: Array) -> str:
         flag = "true" if array.flag else "false"
         count = len(array.elements.rows)
         return f"listview offsets {counts[0]} sizes {counts[1]} elements {count} flag {flag}"
+    if array.layout == "dict":
+        return f"dict codes {row_text(array.codes.rows)} values {array.count} flag false"
     kind = f" {array.kind}" if array.layout == "primitive" else ""
     return f"{array.layout}{kind} {len(array.rows)}"
 
