@@ -1,15 +1,16 @@
 -- The lists [3, 4], [1], [2, 3] over the elements 1 to 4, rebuilt.
-use Rattle.std.proofs.Common.{◌≡◌, ℕ, ◌+◌, ◌<◌, false, List, [], ◌∷◌, length, map, get_or, Option, Some, refl, sym, ◌∙◌, ap, arith}
+use Rattle.std.proofs.Common.{◌≡◌, ℕ, ◌+◌, ◌<◌, Bool, true, false, List, [], ◌∷◌, length, map, get_or, Option, Some, refl, sym, ◌∙◌, ap, arith}
 use Rattle.std.specs.Prelude.{◌≢◌, ℤ, pos, slice_range}
 use Rattle.std.specs.List.{range_with_len, flat_map}
 use Rattle.vx_base.specs.Rows.{Row, null, items, whole, count_in, list_in}
 use Rattle.vx_base.specs.declared.ptypes.PType.TheVariants.{I32, U32}
-use Rattle.vx_tree.specs.Tree.{Tree, list_view, non_nullable}
+use Rattle.vx_base.specs.Kinds.{Kind, integers, lists, is_integers}
+use Rattle.vx_tree.specs.Tree.{Tree, bools, primitive, constant, dictionary, fixed_list, list_view, structure, view_array, non_nullable}
 use Rattle.vx_base.specs.Selections.{number_of_position}
-use Rattle.vx_tree.specs.Meaning.{tree_len, row_at, rows, rows_range}
+use Rattle.vx_tree.specs.Meaning.{tree_len, kind_of, row_at, rows, rows_range}
 use Rattle.vx_leaves.specs.Leaves.{IsPrimitive}
 use Rattle.vx_lists.specs.ListLayout.{items_of, size_of, starts_from}
-use Rattle.vx_lists.specs.ListViews.{counts_in, elements_of, offsets_of, sizes_of, flag_of, list_rows, IsRebuilt}
+use Rattle.vx_lists.specs.ListViews.{is_list_view, counts_in, elements_of, offsets_of, sizes_of, flag_of, list_rows, IsRebuilt}
 use Rattle.vx_uses.proofs.EndToEnd.{rebuilt_offsets, rebuilt_elements, tree_len-offsets_of}
 use Rattle.vx_uses.proofs.RowLists.{length-rows, get_or-rows, length-counts_in, get_or-counts_in}
 
@@ -30,6 +31,22 @@ counts (n ∷ ns) = whole (pos n) ∷ counts ns
 abbrev lists_over : List ℤ → List ℤ → List ℤ → List (Option (List Row))
 lists_over es os ss =
     map list_in (map (λ i. items (rows_range (λ k. whole (number_of_position es k)) (count_in (whole (number_of_position os i))) (count_in (whole (number_of_position ss i))))) (range_with_len 0 (length os)))
+
+-- the kind of the items of lists
+abbrev item_kind : Kind → Kind
+item_kind (lists k n) = k
+item_kind k = k
+
+-- the elements of a list view of lists have the kind of their items
+elements_kind : (r : Tree) (k : Kind) (n : Bool) → is_list_view r ≡ true → kind_of r ≡ lists k n → kind_of (elements_of r) ≡ k
+elements_kind (list_view e o s v f) k n is p = ap item_kind p
+elements_kind (bools bits v) k n is p = cc
+elements_kind (primitive t bs v) k n is p = cc
+elements_kind (constant j r m) k n is p = cc
+elements_kind (dictionary c v f) k n is p = cc
+elements_kind (fixed_list e j v m) k n is p = cc
+elements_kind (structure ns ts v m) k n is p = cc
+elements_kind (view_array vs bs j v) k n is p = cc
 
 -- what is known of the rebuilt lists
 pub record IsFirst (r : Tree) : Type 0 where
@@ -61,6 +78,12 @@ module _ (e o s t r : Tree) (e_is : IsPrimitive I32 elements non_nullable e) (o_
         size = sym (get_or-counts_in (sizes_of r) 2 (omega arith)) ∙ ap (λ ns. get_or ns 2 0) lens;
         elements = rebuilt_elements t r is ∙ ap (flat_map items_of) lists_are;
       }
+
+  pub first_integers : (tree_len t ≢ 0 → flag_of t ≡ false → IsRebuilt t r) → is_integers (kind_of (elements_of r)) ≡ true
+  first_integers rebuild =
+      let is : IsRebuilt t r = rebuild (λ none. omega (arith, three_lists)) (ap flag_of t_is) in
+      let kind : kind_of r ≡ lists (integers I32 false) false = is.kind ∙ ap kind_of t_is ∙ ap (λ x. lists (kind_of x) false) e_is.tree in
+      ap is_integers (elements_kind r (integers I32 false) false is.is_view kind)
 
 -- the third of them
 pub record IsThird (a : Tree) : Type 0 where

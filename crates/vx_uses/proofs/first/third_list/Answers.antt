@@ -1,7 +1,8 @@
 use Rattle.std.proofs.Common.{◌≡◌, ◌<◌, Some, refl, ◌∙◌, ap, arith}
 use Rattle.std.specs.Prelude.{pos}
 use Rattle.vx_base.specs.Rows.{number_in}
-use Rattle.vx_uses.proofs.FirstLists.{IsFirst, IsThird, first_rebuilt, third_read}
+use Rattle.vx_base.specs.Kinds.{is_integers}
+use Rattle.vx_uses.proofs.FirstLists.{IsFirst, IsThird, first_rebuilt, first_integers, third_read}
 use Rattle.vx_uses.proofs.first.third_list.Goals as goal
 
 pub list_elements_at-requires : goal.list_elements_at-requires
@@ -15,6 +16,11 @@ offset_at-requires c =
     let is : IsFirst c.in_ok-rebuilt.rebuilt =
     first_rebuilt c.in_ok-elements.elements c.in_ok-offsets.offsets c.in_ok-sizes.sizes c.in_ok-lists.lists c.in_ok-rebuilt.rebuilt c.in_ok-elements.ensures.numbers c.in_ok-offsets.ensures.numbers c.in_ok-sizes.ensures.numbers c.in_ok-lists.ensures.parts (c.in_ok-rebuilt.ensures.rebuilt refl) in
     omega (arith, is.len)
+
+pub int_at-requires-clause-ints : goal.int_at-requires-clause-ints
+int_at-requires-clause-ints c =
+    ap is_integers c.in_ok-third.ensures.kind
+    ∙ first_integers c.in_ok-elements.elements c.in_ok-offsets.offsets c.in_ok-sizes.sizes c.in_ok-lists.lists c.in_ok-rebuilt.rebuilt c.in_ok-elements.ensures.numbers c.in_ok-offsets.ensures.numbers c.in_ok-sizes.ensures.numbers c.in_ok-lists.ensures.parts (c.in_ok-rebuilt.ensures.rebuilt refl)
 
 pub int_at-requires-clause-in_bounds : goal.int_at-requires-clause-in_bounds
 int_at-requires-clause-in_bounds c =
