@@ -217,7 +217,9 @@ fn fields_by_name_and_place(rt: HostRuntime) -> Result<(), VortexError> {
     assert!(rt; fields.find("c").is_none() && fields.names().len() == 3);
     let rest = fields.without_field(rt.alloc(), 0)?;
     assert!(rt; rest.names().get(0).as_str() == "b" && rest.find("a") == Some(1));
-    assert!(rt; rest.fields().len() == 2 && rest.fields()[1] == DType::Binary(plain));
+    let dtypes = rest.fields();
+    assert!(rt; dtypes.len() == 2);
+    assert!(rt; dtypes[1] == DType::Binary(plain));
     Ok(())
 }
 
@@ -432,6 +434,7 @@ fn appended_runs_of_bits(rt: HostRuntime) -> Result<(), VortexError> {
 fn appended_bytes_of_bits(rt: HostRuntime) -> Result<(), VortexError> {
     let bytes = ByteBuffer::copy_from(rt.alloc(), &[0xac, 0x69, 0x35])?;
     let source = BitBuffer::new_with_offset(rt.alloc(), bytes, 22, 2)?;
+    assert!(rt; source.len() == 22);
     let mut bits = BitBufferMut::new_unset(rt.alloc(), 5)?;
     bits.append_slice(&source, 1, 21)?;
     let (_, len, bytes) = bits.freeze()?.into_inner();
