@@ -6,6 +6,7 @@ pub mod Nulled
 pub mod Taken
 pub mod Dictionaries
 pub mod Fitting
+pub mod Counted
 pub mod Worked
 pub mod WorkedViews
 pub mod Composed

@@ -1,5 +1,5 @@
 -- Which fault a call on an array answers with, where several stand.
-use Rattle.std.specs.Prelude.{◌*◌, ◌^◌, ℕ, Bool, pos, negsuc, Option, Some, None, nat_lt, ◌==◌, if◌then◌else◌}
+use Rattle.std.specs.Prelude.{◌*◌, ◌^◌, ℕ, pos, negsuc, Option, Some, None, nat_lt, ◌==◌, if◌then◌else◌}
 use Rattle.vx_base.specs.Refusals.{Refusal, mismatched_types, length_mismatch, out_of_bounds, negative, overflow, or_else, first_fault}
 use Rattle.vx_base.specs.Rows.{Row, whole}
 use Rattle.vx_base.specs.Kinds.{is_integers, is_plain_booleans}

@@ -1,6 +1,6 @@
 // Laws of arrays, each proved as the contract of a function that does nothing.
 
-ghost use Rattle.std.specs.Prelude.{◌≡◌, ◌<◌, ◌-◌, ◌^◌, ℕ, Some, None};
+ghost use Rattle.std.specs.Prelude.{◌≡◌, ◌<◌, ◌≤◌, ◌-◌, ◌^◌, ℕ, Some, None};
 ghost use Rattle.vx_base.specs.Kinds.{Fits};
 ghost use Rattle.vx_base.specs.Refusals.{out_of_bounds, negative, overflow, mismatched_types};
 ghost use Rattle.vx_tree.specs.Fitting.{AllFormed, RowsFit};
@@ -24,6 +24,13 @@ pub fn rows_fit_their_dtype(array: &ArrayRef)
 pub fn rows_fit_their_kind()
     ensures { RowsFit }
 {}
+
+/// No more rows than an array has need more elements than can be counted.
+pub fn fewer_rows_are_countable(array: &ArrayRef)
+    ensures { (n : ℕ) → n ≤ tree_len array.now → take_overflow array.now n ≡ None }
+{
+    array.known();
+}
 
 /// Rows of a part that lie within it are a part of the array.
 pub fn slices_of_slices_are_slices()

@@ -17,7 +17,8 @@ mod validity;
 
 pub use crate::array::{ArrayRef, Layout, Validity};
 pub use crate::laws::{
-    faults_of_worked_arrays, rows_fit_their_dtype, rows_fit_their_kind, rows_of_worked_arrays,
-    selections_of_selections_are_selections, slices_of_slices_are_slices, worked_arrays_are_formed,
+    faults_of_worked_arrays, fewer_rows_are_countable, rows_fit_their_dtype, rows_fit_their_kind,
+    rows_of_worked_arrays, selections_of_selections_are_selections, slices_of_slices_are_slices,
+    worked_arrays_are_formed,
 };
 pub use crate::typed_array::TypedArray;

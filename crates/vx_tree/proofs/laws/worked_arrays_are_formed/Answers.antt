@@ -1,4 +1,4 @@
-use Rattle.std.proofs.Common.{[], ◌∷◌, refl, rules}
+use Rattle.std.proofs.Common.{[], ◌∷◌, lit<, refl, rules}
 use Rattle.vx_base.specs.Integers.{numbers}
 use Rattle.vx_tree.proofs.Worked.{overlapping_formed, are_codes, are_below, are_bytes}
 use Rattle.vx_tree.proofs.WorkedViews.{texts_formed, bytes_formed}
@@ -20,7 +20,7 @@ returns-clause-constant c = (search rules, (search rules, tt))
 
 pub returns-clause-empty_lists : goal.returns-clause-empty_lists
 unfolding numbers are_below
-returns-clause-empty_lists c = ((tt, refl), ((tt, refl), are_bytes [] refl, tt), tt)
+returns-clause-empty_lists c = ((tt, refl), ((tt, refl), are_bytes [] refl, tt), tt, lit< tt)
 
 pub returns-clause-texts : goal.returns-clause-texts
 returns-clause-texts c = texts_formed
@@ -38,7 +38,7 @@ returns-clause-dictionary c = (
 
 pub returns-clause-fixed_lists : goal.returns-clause-fixed_lists
 unfolding numbers are_below
-returns-clause-fixed_lists c = ((record { len = refl; kind = refl }, refl), ((tt, refl), are_bytes (1 ∷ 2 ∷ 3 ∷ 4 ∷ []) refl, tt), (tt, tt))
+returns-clause-fixed_lists c = ((record { len = refl; kind = refl }, refl), ((tt, refl), are_bytes (1 ∷ 2 ∷ 3 ∷ 4 ∷ []) refl, tt), (tt, tt), lit< tt)
 
 pub returns-clause-list_view : goal.returns-clause-list_view
 unfolding numbers are_below
