@@ -12,6 +12,7 @@ pub mod Filling
 pub mod Refused
 pub mod FirstFaults
 pub mod Runs
+pub mod TrueRuns
 pub mod StructKinds
 pub mod ValueFits
 pub mod Fields

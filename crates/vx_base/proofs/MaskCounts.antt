@@ -11,10 +11,10 @@ count-all_true n = sum_by-replicate (λ (b : Bool). cond b 1 0) n true ∙ omega
 pub count-all_false : (n : ℕ) → count_by (λ b. b) (replicate n false) ≡ 0
 count-all_false n = sum_by-replicate (λ (b : Bool). cond b 1 0) n false ∙ omega arith
 
-count-true : (bs : List Bool) → count_by (λ b. b) (true ∷ bs) ≡ 1 + count_by (λ b. b) bs
+pub count-true : (bs : List Bool) → count_by (λ b. b) (true ∷ bs) ≡ 1 + count_by (λ b. b) bs
 count-true bs = sum_by-cons (λ (b : Bool). cond b 1 0) true bs
 
-count-false : (bs : List Bool) → count_by (λ b. b) (false ∷ bs) ≡ count_by (λ b. b) bs
+pub count-false : (bs : List Bool) → count_by (λ b. b) (false ∷ bs) ≡ count_by (λ b. b) bs
 count-false bs = sum_by-cons (λ (b : Bool). cond b 1 0) false bs ∙ zero-add (count_by (λ b. b) bs)
 
 -- booleans that are all counted are all true

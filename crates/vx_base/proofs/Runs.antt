@@ -75,7 +75,7 @@ runs_more f xs i d l =
 
 -- ---- the elements of lists of one size
 
-range_append : (a n m : ℕ) → range_with_len a n ++ range_with_len (a + n) m ≡ range_with_len a (n + m)
+pub range_append : (a n m : ℕ) → range_with_len a n ++ range_with_len (a + n) m ≡ range_with_len a (n + m)
 range_append a zero m =
     let start : a + 0 ≡ a = omega arith in
     let count : 0 + m ≡ m = omega arith in

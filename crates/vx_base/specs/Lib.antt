@@ -1,6 +1,7 @@
 pub mod Integers
 pub mod Bytes
 pub mod Bits
+pub mod Trues
 pub mod Selections
 pub mod Picked
 pub mod Masks

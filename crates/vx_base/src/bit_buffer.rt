@@ -7,6 +7,7 @@ ghost use Rattle.std.specs.Bool.{beq};
 ghost use Rattle.std.specs.Cmp.{bool_eq_equiv, partial_equiv_from_equiv};
 ghost use Rattle.std.specs.Cmp.Lexicographic.{pointwise, lists_equiv};
 ghost use Rattle.vx_base.specs.Bits.{bit_of, unpacked, bool_at, both, byte_from, byte_of, byte_like, Written};
+ghost use Rattle.vx_base.specs.Trues.{AreAll};
 
 use crate::bit_buffer_mut::{fill_bits, put_bit};
 use crate::byte_buffer::ByteBuffer;
@@ -396,6 +397,15 @@ impl BitBuffer {
     {
         let BitBuffer { bytes, offset, len } = self;
         (offset, len, bytes)
+    }
+
+    // Whether the eight booleans from `place` on are all this one.
+    #[inline]
+    pub(crate) fn are_eight(&self, place: usize, value: bool) -> bool
+        requires { place + 8 ≤ length self.now }
+        ensures { IsTrue result → AreAll self.now place (place + 8) value }
+    {
+        byte_from(self.bytes.as_slice(), self.offset + place) == byte_like(value)
     }
 
     // Copies the booleans from place `start` on to the bits of `out` from `at` up to, but not at,

@@ -26,6 +26,7 @@ mod selection;
 mod struct_fields;
 #[cfg(test)]
 mod tests;
+mod true_runs;
 
 pub use crate::bit_buffer::BitBuffer;
 pub use crate::bit_buffer_mut::BitBufferMut;

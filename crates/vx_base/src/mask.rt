@@ -2,7 +2,10 @@
 
 ghost use Rattle.std.specs.Prelude.{◌≡◌, ◌<◌, ◌↔◌, Bool, true, false, length, replicate, count_by, IsTrue};
 ghost use Rattle.vx_base.specs.Refusals.{Gives};
+ghost use Rattle.std.specs.List.{flat_map};
 ghost use Rattle.vx_base.specs.Bits.{bool_at};
+ghost use Rattle.vx_base.specs.Selections.{run_positions};
+ghost use Rattle.vx_base.specs.Trues.{trues};
 
 use crate::bit_buffer::BitBuffer;
 use crate::errors::VortexError;
@@ -102,6 +105,18 @@ impl Mask {
             MaskState::AllTrue(len) => *len,
             MaskState::AllFalse(_) => 0,
             MaskState::Mixed { true_count, .. } => *true_count,
+        }
+    }
+
+    /// The rows that are true, in order, as runs, each from its start up to its end. Where all rows
+    /// are alike, none of them is looked at. Fails only for want of memory.
+    pub fn true_runs(&self, alloc: Global) -> Result<Vec<(usize, usize)>, VortexError>
+        ensures { Gives result (λ runs. flat_map run_positions runs.items ≡ trues self.now) }
+    {
+        match &self.state {
+            MaskState::AllTrue(len) => Ok(vec![in alloc; (0, *len)]?),
+            MaskState::AllFalse(_) => Ok(Vec::new(alloc)),
+            MaskState::Mixed { bits, .. } => bits.true_runs(alloc),
         }
     }
 

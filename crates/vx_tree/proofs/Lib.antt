@@ -10,3 +10,4 @@ pub mod Counted
 pub mod Worked
 pub mod WorkedViews
 pub mod Composed
+pub mod Filtered

@@ -10,6 +10,10 @@ use Rattle.vx_tree.specs.Meaning.{tree_len, kind_of, row_at}
 abbrev pub position_fault : ℕ → ℕ → Option Refusal
 position_fault len i = if nat_lt i len then None else Some (out_of_bounds i)
 
+-- a length that is not the one that is wanted
+abbrev pub length_fault : ℕ → ℕ → Option Refusal
+length_fault wanted found = if found == wanted then None else Some length_mismatch
+
 -- the range of a slice: first its end, then its start
 abbrev pub slice_fault : ℕ → ℕ → ℕ → Option Refusal
 slice_fault len start end =

@@ -1,9 +1,9 @@
 -- What slicing, selecting and taking give, row by row.
-use Rattle.std.specs.Prelude.{◌≡◌, ◌<◌, ◌+◌, ◌&&◌, ℕ, pos, Bool, false, List, length, map, Option, Some, None, is_some, IfSome, slice_index, slice_index_or, if◌then◌else◌}
+use Rattle.std.specs.Prelude.{◌≡◌, ◌<◌, ◌+◌, ◌&&◌, ℕ, pos, Bool, true, false, List, [], ◌∷◌, length, map, Option, Some, None, is_some, IfSome, slice_index, slice_index_or, if◌then◌else◌}
 use Rattle.std.specs.List.{All}
 use Rattle.vx_base.specs.declared.ptypes.PType.{PType}
 use Rattle.vx_base.specs.declared.ptypes.PType.TheVariants.{U8}
-use Rattle.vx_base.specs.Rows.{Row, null, whole, position_in, is_present}
+use Rattle.vx_base.specs.Rows.{Row, null, whole, position_in, is_present, truth_of}
 use Rattle.vx_base.specs.Kinds.{or_nullable, booleans, integers, is_nullable_kind}
 use Rattle.vx_tree.specs.Tree.{Tree, bools, primitive, Valid, non_nullable, by_array}
 use Rattle.vx_tree.specs.Meaning.{tree_len, kind_of, row_at, is_valid_at, nullable, picked}
@@ -132,3 +132,20 @@ masked_numbers t bytes mask = primitive t bytes (by_array (bools mask non_nullab
 -- the rows of a list at these positions: null where there is none
 abbrev pub picks : List Row → List (Option ℕ) → List Row
 picks rs ps = map (picked (λ k. slice_index_or rs k null)) ps
+
+-- the rows at which a mask is true
+abbrev pub filtered : List Bool → List Row → List Row
+filtered [] rs = []
+filtered (b ∷ mask) [] = []
+filtered (true ∷ mask) (r ∷ rs) = r ∷ filtered mask rs
+filtered (false ∷ mask) (r ∷ rs) = filtered mask rs
+
+-- the same rows, null where a mask is false
+abbrev pub masked : List Bool → List Row → List Row
+masked [] rs = []
+masked (b ∷ mask) [] = []
+masked (b ∷ mask) (r ∷ rs) = (if b then r else null) ∷ masked mask rs
+
+-- the booleans that rows are
+abbrev pub truths : List Row → List Bool
+truths rs = map truth_of rs

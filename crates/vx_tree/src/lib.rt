@@ -2,9 +2,11 @@
 #![tactic(auto)]
 
 mod array;
+mod filter;
 mod indices;
 mod laws;
 mod layouts;
+mod mask;
 mod nulls;
 mod read;
 mod select;

@@ -132,9 +132,11 @@ impl ArrayRef {
         }
     }
 
-    // Which rows are valid, as the layout keeps it.
+    /// Which rows are valid, in the state in which the layout keeps it: a constant's by its row and
+    /// its data type, a dictionary's that of its values taken by its codes. Fails only for want of
+    /// memory.
     #[cycle(validity)]
-    pub(crate) fn validity(&self, alloc: Global) -> Result<Validity, VortexError>
+    pub fn validity(&self, alloc: Global) -> Result<Validity, VortexError>
         ensures { Gives result (λ v. IsValidityOf self.now (valid_of v)) }
     {
         match self.layout() {

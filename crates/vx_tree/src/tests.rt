@@ -14,6 +14,8 @@ use std::alloc::Global;
 use std::process::Abort;
 use vx_base::{BitBuffer, ByteBuffer, Nullability, PType, Scalar, Selection, VortexError};
 
+mod masks;
+
 // ---- arrays
 
 // Booleans, none of them null.

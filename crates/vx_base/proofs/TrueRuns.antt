@@ -1,0 +1,108 @@
+-- The runs in which a mask is true.
+use Rattle.std.proofs.Common.{ℕ, zero, suc, ◌+◌, ◌-◌, ◌*◌, ◌<◌, ◌≤◌, ◌≡◌, ◌≢◌, Bool, true, false, cond, eqb, List, [], ◌∷◌, ◌++◌, length, get_or, replicate, refl, sym, ◌∙◌, ap, subst, append-nil, map, inl, inr, arith}
+use Rattle.std.specs.Prelude.{count_by}
+use Rattle.std.specs.List.{filter, flat_map, range_with_len}
+use Rattle.std.specs.Int.{bit_at}
+use Rattle.std.proofs.lemmas.Bool.{cases_lt}
+use Rattle.std.proofs.lemmas.List.{length-replicate, get_or-replicate}
+use Rattle.std.proofs.lemmas.List.Elements.{filter-append}
+use Rattle.std.proofs.lemmas.Grind.{flat_map-append}
+use Rattle.vx_base.specs.Bits.{bit_of, byte_from, byte_like, bool_at, unpacked}
+use Rattle.vx_base.specs.Selections.{run_positions}
+use Rattle.vx_base.specs.Trues.{trues, AreAll, IsReached, IsRunEnd}
+use Rattle.vx_base.proofs.PackedBits.{get_unpacked}
+use Rattle.vx_base.proofs.PackedBytes.{bit_of-byte_from}
+use Rattle.vx_base.proofs.Filling.{like_bit}
+use Rattle.vx_base.proofs.Runs.{range_append}
+use Rattle.vx_base.proofs.MaskCounts.{count-true, count-false}
+use Rattle.std.proofs.lemmas.List.FromFn.{fill_by_all}
+
+-- ---- eight booleans of a byte
+
+pub eight_alike : (bs : List ℕ) (from len place : ℕ) (value : Bool) → place + 8 ≤ len → byte_from bs (from + place) ≡ byte_like value → AreAll (unpacked bs from len) place (place + 8) value
+eight_alike bs from len place value within e = λ k low high.
+    let step : k - place < 8 = omega arith in
+    let place_k : from + place + (k - place) ≡ from + k = omega arith in
+    get_unpacked bs from len k false (omega arith) ∙ ap (bit_of bs) (sym place_k) ∙ sym (bit_of-byte_from bs (from + place) (k - place) step)
+    ∙ ap (λ b. eqb (bit_at b (k - place)) 1) e ∙ like_bit value (k - place) step
+
+-- ---- runs that are passed
+
+pub AreAll-joined : (bits : List Bool) (start middle end : ℕ) (value : Bool) → AreAll bits start middle value → AreAll bits middle end value → AreAll bits start end value
+AreAll-joined bits start middle end value before after = λ k low high. elim (cases_lt k middle) [
+  | inl early ↦ before k low early
+  | inr late ↦ after k (omega arith) high
+]
+
+-- one boolean more
+pub AreAll-more : (bits : List Bool) (start place : ℕ) (value : Bool) → AreAll bits start place value → bool_at bits place ≡ value → AreAll bits start (place + 1) value
+AreAll-more bits start place value before here = λ k low high. elim (cases_lt k place) [
+  | inl early ↦ before k low early
+  | inr late ↦ let same : k ≡ place = omega arith in ap (bool_at bits) same ∙ here
+]
+
+-- ---- the positions that are kept of a range
+
+kept_none : (f : ℕ → Bool) (start n : ℕ) → ((k : ℕ) → start ≤ k → k < start + n → f k ≡ false) → filter f (range_with_len start n) ≡ []
+kept_none f start zero none = refl
+kept_none f start (suc n) none =
+    rw (none start (omega arith) (omega arith)) (kept_none f (start + 1) n (λ k low high. none k (omega arith) (omega arith)))
+
+kept_all : (f : ℕ → Bool) (start n : ℕ) → ((k : ℕ) → start ≤ k → k < start + n → f k ≡ true) → filter f (range_with_len start n) ≡ range_with_len start n
+kept_all f start zero all = refl
+kept_all f start (suc n) all =
+    rw (all start (omega arith) (omega arith)) (ap (λ ks. start ∷ ks) (kept_all f (start + 1) n (λ k low high. all k (omega arith) (omega arith))))
+
+-- a range in two parts
+range_split : (a b c : ℕ) → a ≤ b → b ≤ c → range_with_len a (c - a) ≡ range_with_len a (b - a) ++ range_with_len b (c - b)
+range_split a b c low high =
+    let place : a + (b - a) ≡ b = omega arith in
+    let count : (b - a) + (c - b) ≡ c - a = omega arith in
+    sym (ap (λ p. range_with_len a (b - a) ++ range_with_len p (c - b)) (sym place) ∙ range_append a (b - a) (c - b) ∙ ap (range_with_len a) count)
+
+-- up to a place, the runs hold the positions that are true
+abbrev pub HoldTrues : List Bool → ℕ → List (ℕ × ℕ) → Type 0
+HoldTrues bits place runs = flat_map run_positions runs ≡ filter (bool_at bits) (range_with_len 0 (place - 0))
+
+-- none is true up to a place
+pub HoldTrues-passed : (bits : List Bool) (place next : ℕ) (runs : List (ℕ × ℕ)) → place ≤ next → HoldTrues bits place runs → AreAll bits place next false → HoldTrues bits next runs
+HoldTrues-passed bits place next runs le held none =
+    held ∙ sym (ap (filter (bool_at bits)) (range_split 0 place next (omega arith) le) ∙ filter-append (bool_at bits) (range_with_len 0 (place - 0)) (range_with_len place (next - place))
+    ∙ ap (λ ks. filter (bool_at bits) (range_with_len 0 (place - 0)) ++ ks) (kept_none (bool_at bits) place (next - place) (λ k low high. none k low (omega arith)))
+    ∙ append-nil (filter (bool_at bits) (range_with_len 0 (place - 0))))
+
+-- one run more
+pub HoldTrues-run : (bits : List Bool) (start end : ℕ) (runs : List (ℕ × ℕ)) → start ≤ end → HoldTrues bits start runs → AreAll bits start end true → HoldTrues bits end (runs ++ (start, end) ∷ [])
+HoldTrues-run bits start end runs le held all =
+    let f = bool_at bits in
+    flat_map-append run_positions runs ((start, end) ∷ []) ∙ ap (λ ks. flat_map run_positions runs ++ ks) (append-nil (range_with_len start (end - start)))
+    ∙ ap (λ ks. ks ++ range_with_len start (end - start)) held
+    ∙ sym (ap (filter f) (range_split 0 start end (omega arith) le) ∙ filter-append f (range_with_len 0 (start - 0)) (range_with_len start (end - start))
+    ∙ ap (λ ks. filter f (range_with_len 0 (start - 0)) ++ ks) (kept_all f start (end - start) (λ k low high. all k low (omega arith))))
+
+pub HoldTrues-none : (bits : List Bool) (end : ℕ) → AreAll bits 0 end false → HoldTrues bits end []
+HoldTrues-none bits end none = sym (kept_none (bool_at bits) 0 (end - 0) (λ k low high. none k low (omega arith)))
+
+-- ---- masks of one boolean
+
+pub trues_of_all : (n : ℕ) → flat_map run_positions ((0, n) ∷ []) ≡ trues (replicate n true)
+trues_of_all n =
+    let long : length (replicate n true) ≡ n = length-replicate n true in
+    append-nil (range_with_len 0 (n - 0)) ∙ sym (kept_all (bool_at (replicate n true)) 0 (n - 0) (λ k low high. get_or-replicate n k true false (omega arith)))
+    ∙ ap (λ m. filter (bool_at (replicate n true)) (range_with_len 0 m)) (let same : n - 0 ≡ n = omega arith in same ∙ sym long)
+
+pub trues_of_none : (n : ℕ) → [] ≡ trues (replicate n false)
+trues_of_none n = sym (kept_none (bool_at (replicate n false)) 0 (length (replicate n false)) (λ k low high. get_or-replicate n k false false (omega (arith, length-replicate n false))))
+
+-- ---- how many there are
+
+count_kept : (f : ℕ → Bool) (ks : List ℕ) → length (filter f ks) ≡ count_by (λ b. b) (map f ks)
+count_kept f [] = refl
+count_kept f (k ∷ ks) = elim (f k) as (λ b. length (cond b (k ∷ filter f ks) (filter f ks)) ≡ count_by (λ b. b) (b ∷ map f ks)) [
+  | true ↦ omega (arith, count_kept f ks, count-true (map f ks))
+  | false ↦ omega (arith, count_kept f ks, count-false (map f ks))
+]
+
+pub length_trues : (mask : List Bool) → length (trues mask) ≡ count_by (λ b. b) mask
+length_trues mask =
+    count_kept (bool_at mask) (range_with_len 0 (length mask)) ∙ ap (count_by (λ b. b)) (sym (fill_by_all (bool_at mask) mask (length mask) false refl (λ i l. refl)))

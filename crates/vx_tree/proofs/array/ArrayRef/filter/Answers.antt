@@ -1,0 +1,32 @@
+use Rattle.std.proofs.Common.{◌≡◌, length, sym, ◌∙◌, ap, subst, arith}
+use Rattle.std.proofs.lemmas.List.Sums.{count_by-le-length}
+use Rattle.vx_base.specs.Trues.{trues}
+use Rattle.vx_base.proofs.TrueRuns.{length_trues}
+use Rattle.vx_tree.specs.Meaning.{tree_len}
+use Rattle.vx_tree.specs.Operations.{IsSelected, AreBelow}
+use Rattle.vx_tree.proofs.Filtered.{rows_filtered, trues_below}
+use Rattle.vx_tree.proofs.array.ArrayRef.filter.Goals as goal
+
+pub of_runs-selection-requires : goal.of_runs-selection-requires
+of_runs-selection-requires c = rw c.deref.ensures.value (c.true_count.ensures ∙ sym (length_trues c.args.mask.now) ∙ sym (ap length c.in_ok-runs.ensures))
+
+pub select_within-requires-clause-within : goal.select_within-requires-clause-within
+select_within-requires-clause-within c =
+    let mask = c.args.mask.now in
+    let picks : c.of_runs-selection.result ≡ trues mask = rw c.deref.ensures.value at c.of_runs-selection.ensures ∙ c.in_ok-runs.ensures in
+    let long : length mask ≡ tree_len c.args.self.now = omega arith in
+    subst (AreBelow (tree_len c.args.self.now)) (sym picks) (trues_below mask (tree_len c.args.self.now) long)
+
+pub select_within-requires-clause-countable : goal.select_within-requires-clause-countable
+select_within-requires-clause-countable c =
+    let mask = c.args.mask.now in
+    let picks : c.of_runs-selection.result ≡ trues mask = rw c.deref.ensures.value at c.of_runs-selection.ensures ∙ c.in_ok-runs.ensures in
+    c.fewer_rows_are_countable.ensures (length c.of_runs-selection.result) (omega (arith, ap length picks, length_trues mask, count_by-le-length (λ b. b) mask))
+
+pub returns-clause-rows : goal.returns-clause-rows
+returns-clause-rows c =
+    let t = c.args.self.now in
+    let mask = c.args.mask.now in
+    let r = c.in_ok-select_within.field-0 in
+    let picks : c.of_runs-selection.result ≡ trues mask = rw c.deref.ensures.value at c.of_runs-selection.ensures ∙ c.in_ok-runs.ensures in
+    rows_filtered t r mask (omega arith) (subst (λ ps. IsSelected t ps r) picks c.in_ok-select_within.ensures)

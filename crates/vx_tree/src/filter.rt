@@ -1,0 +1,38 @@
+// Rows of an array under a mask.
+
+ghost use Rattle.std.specs.Prelude.{◌≡◌, length, IfOk};
+ghost use Rattle.vx_base.specs.Refusals.{Refuses};
+ghost use Rattle.vx_base.specs.Trues.{trues};
+ghost use Rattle.vx_tree.specs.Meaning.{tree_len, kind_of, rows};
+ghost use Rattle.vx_tree.specs.Shapes.{shape_of, selected_shape};
+ghost use Rattle.vx_tree.specs.Faults.{length_fault};
+ghost use Rattle.vx_tree.specs.Operations.{IsSelected, filtered};
+
+use crate::array::ArrayRef;
+use crate::laws::fewer_rows_are_countable;
+use std::alloc::Global;
+use vx_base::{Mask, Selection, VortexError};
+
+impl ArrayRef {
+    /// The rows at which the mask is true, in their order, in the same layout and of the same data
+    /// type and state; a list view keeps its elements, a dictionary its values, neither its flag.
+    /// Refuses `LengthMismatch` where the mask has not one boolean a row. Of the lists `[3, 4]`,
+    /// `[1]`, `[2, 3]` the mask true, false, true leaves `[3, 4]`, `[2, 3]`.
+    pub fn filter(&self, alloc: Global, mask: &Mask) -> Result<ArrayRef, VortexError>
+        ensures rows { IfOk result (λ a. rows a ≡ filtered mask.now (rows self.now)) }
+        ensures kind { IfOk result (λ a. kind_of a ≡ kind_of self.now) }
+        ensures shape { IfOk result (λ a. shape_of a ≡ selected_shape (shape_of self.now)) }
+        ensures by_row { IfOk result (IsSelected self.now (trues mask.now)) }
+        ensures refuses { Refuses result (length_fault (tree_len self.now) (length mask.now)) }
+    {
+        let expected = self.len();
+        let found = mask.len();
+        if found != expected {
+            return Err(VortexError::LengthMismatch { expected, found });
+        }
+        fewer_rows_are_countable(self);
+        let runs = mask.true_runs(alloc)?;
+        let selection = Selection::of_runs(&runs, mask.true_count());
+        Ok(self.select_within(alloc, &selection)?)
+    }
+}
