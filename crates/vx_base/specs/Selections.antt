@@ -14,6 +14,10 @@ number_of_position numbers k = slice_index_or numbers k (pos 0)
 abbrev pub bit_of_position : List Bool → ℕ → Bool
 bit_of_position bits k = slice_index_or bits k false
 
+-- the item at a position, d where there is none
+abbrev pub item_of_position : {X : Type 0} → X → List X → ℕ → X
+item_of_position d items k = slice_index_or items k d
+
 -- the bytes of the number at a position
 abbrev pub bytes_of_position : ℕ → List ℕ → ℕ → List ℕ
 bytes_of_position width bytes k = slice_range bytes (k * width) (k * width + width)

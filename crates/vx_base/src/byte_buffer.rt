@@ -129,3 +129,14 @@ pub fn slice_numbers(
     let width = ptype.byte_width();
     bytes.slice(alloc, range.start * width..range.end * width)
 }
+
+/// The same buffers, each shared. Fails only for want of memory.
+pub fn share_buffers(alloc: Global, buffers: &[ByteBuffer]) -> Result<Vec<ByteBuffer>, VortexError>
+    ensures { Gives result (λ shared. shared.items ≡ buffers.now) }
+{
+    let mut shared = Vec::with_capacity(alloc, buffers.len())?;
+    for buffer in buffers {
+        shared.push(buffer.try_clone(alloc)?)?;
+    }
+    Ok(shared)
+}

@@ -1,14 +1,15 @@
-// Numbers and booleans of the rows that are picked.
+// Numbers, booleans and items of the rows that are picked.
 
 ghost use Rattle.std.specs.Prelude.{◌≡◌, ◌<◌, ◌≤◌, ◌*◌, ◌/◌, ◌+◌, ◌++◌, length, map, IfOk};
 ghost use Rattle.vx_base.specs.Refusals.{Gives};
 ghost use Rattle.std.specs.List.{All, flat_map};
 ghost use Rattle.vx_base.specs.Bits.{unpacked};
 ghost use Rattle.vx_base.specs.Integers.{byte_width, numbers};
-ghost use Rattle.vx_base.specs.Selections.{run_positions, number_of_position, bit_of_position, bytes_of_position};
+ghost use Rattle.vx_base.specs.Selections.{run_positions, number_of_position, bit_of_position, item_of_position, bytes_of_position};
 
 use crate::bit_buffer::{BitBuffer, byte_of};
 use crate::bit_buffer_mut::{BitBufferMut, put_bit};
+use crate::buffer::Buffer;
 use crate::byte_buffer::ByteBuffer;
 use crate::errors::VortexError;
 use crate::ptypes::PType;
@@ -202,6 +203,82 @@ fn append_run(
 {
     if start < end {
         picked.append_slice(bits, start, end)?;
+    }
+    Ok(())
+}
+
+/// The items that are picked, in their order. Asks that each position has an item. Fails only for
+/// want of memory.
+pub fn gather_items<T: Copy>(
+    alloc: Global,
+    items: &[T],
+    selection: &Selection,
+) -> Result<Buffer<T>, VortexError>
+    requires { All (λ k. k < length items.now) selection.now }
+    ensures { Gives result (λ b. (d : T) → b ≡ map (item_of_position d items.now) selection.now) }
+{
+    let picked = match selection.picks() {
+        Picks::Positions(positions) => items_at(alloc, items, positions)?,
+        Picks::Runs(runs) => items_of_runs(alloc, items, runs, selection.len())?,
+    };
+    Buffer::from_vec(alloc, picked)
+}
+
+// One item at a time.
+fn items_at<T: Copy>(alloc: Global, items: &[T], positions: &[usize]) -> Result<Vec<T>, VortexError>
+    requires { All (λ k. k < length items.now) positions.now }
+    ensures { Gives result (λ picked. (d : T) → picked.items ≡ map (item_of_position d items.now) positions.now) }
+{
+    let Some(first) = positions.first() else {
+        return Ok(Vec::new(alloc));
+    };
+    let mut picked = vec![in alloc; items[*first]; positions.len()]?;
+    put_items_at(items, positions, &mut picked);
+    Ok(picked)
+}
+
+// Writes the items at these positions.
+#[inline(never)]
+fn put_items_at<T: Copy>(items: &[T], positions: &[usize], out: &mut [T])
+    requires within { All (λ k. k < length items.now) positions.now }
+    requires room { length out.old ≡ length positions.now }
+    ensures { (d : T) → out.new ≡ map (item_of_position d items.now) positions.now }
+{
+    for (i, k) in positions.iter().enumerate() {
+        out[i] = items[*k];
+    }
+}
+
+// One run at a time.
+fn items_of_runs<T: Copy>(
+    alloc: Global,
+    items: &[T],
+    runs: &[(usize, usize)],
+    capacity: usize,
+) -> Result<Vec<T>, VortexError>
+    requires { All (λ k. k < length items.now) (flat_map run_positions runs.now) }
+    ensures { Gives result (λ picked. (d : T) → picked.items ≡ map (item_of_position d items.now) (flat_map run_positions runs.now)) }
+{
+    let mut picked = Vec::with_capacity(alloc, capacity)?;
+    for run in runs {
+        let (start, end) = *run;
+        append_items(&mut picked, items, start, end)?;
+    }
+    Ok(picked)
+}
+
+// Appends the items from `start` up to `end`, none where there is none between.
+fn append_items<T: Copy>(
+    picked: &mut Vec<T>,
+    items: &[T],
+    start: usize,
+    end: usize,
+) -> Result<(), VortexError>
+    requires { All (λ k. k < length items.now) (run_positions (start, end)) }
+    ensures { Gives result (λ _. (d : T) → picked.new.items ≡ picked.old.items ++ map (item_of_position d items.now) (run_positions (start, end))) }
+{
+    if start < end {
+        picked.extend_from_slice(&items[start..end])?;
     }
     Ok(())
 }

@@ -3,8 +3,8 @@
 use crate::{
     BitBuffer, BitBufferMut, Buffer, BufferMut, ByteBuffer, DType, FieldNames, Mask, NativePType,
     Nullability, PType, Selection, StructFields, VortexError, first_fault_is_least, gather_bits,
-    gather_numbers, get_then_put, int_at, int_of, number_count, put_int, put_then_get, read_counts,
-    slice_numbers, write_counts,
+    gather_items, gather_numbers, get_then_put, int_at, int_of, number_count, put_int,
+    put_then_get, read_counts, share_buffers, slice_numbers, write_counts,
 };
 use std::rc::Rc;
 
@@ -334,6 +334,38 @@ fn picked_numbers(rt: HostRuntime) -> Result<(), VortexError> {
         &Selection::at_positions(&[1, 0]),
     )?;
     assert!(rt; picked.as_slice() == [0, 2, 1, 0].as_slice());
+    Ok(())
+}
+
+#[test]
+fn picked_items(rt: HostRuntime) -> Result<(), VortexError> {
+    let items = [(1u8, true), (2, false), (3, true)];
+    let picked = gather_items(rt.alloc(), &items, &Selection::at_positions(&[2, 0, 2]))?;
+    assert!(rt; picked.len() == 3 && picked.value(0).0 == 3 && picked.value(1).0 == 1);
+    assert!(rt; picked.value(2).0 == 3 && picked.value(2).1);
+    Ok(())
+}
+
+#[test]
+fn picked_runs_of_items(rt: HostRuntime) -> Result<(), VortexError> {
+    let picked = gather_items(
+        rt.alloc(),
+        &[5u128, 6, 7],
+        &Selection::of_runs(&[(1, 3), (2, 2), (0, 1)], 3),
+    )?;
+    assert!(rt; picked.as_slice() == [6, 7, 5].as_slice());
+    Ok(())
+}
+
+#[test]
+fn shared_buffers(rt: HostRuntime) -> Result<(), VortexError> {
+    let buffers = [
+        ByteBuffer::copy_from(rt.alloc(), b"ab")?,
+        ByteBuffer::empty(rt.alloc())?,
+    ];
+    let shared = share_buffers(rt.alloc(), &buffers)?;
+    assert!(rt; shared.len() == 2 && shared[1].is_empty());
+    assert!(rt; shared[0].as_slice() == [97, 98].as_slice());
     Ok(())
 }
 

@@ -8,6 +8,7 @@ use crate::view_parts::{Inlined, Ref};
 use std::fmt;
 use std::hash::{Hash, Hasher};
 use std::marker::Model;
+use vx_base::ByteBuffer;
 
 /// The greatest length of a value that stands in its view, 12.
 pub const MAX_INLINED_SIZE: usize = 12;
@@ -168,6 +169,18 @@ impl BinaryView {
         }
         let parts = self.as_view();
         &buffers[parts.buffer_index as usize][parts.as_range()]
+    }
+
+    /// The same, where the buffers are shared ones.
+    pub fn value_in<'a>(&'a self, buffers: &'a [ByteBuffer]) -> &'a [u8]
+        requires { Resolves buffers.now self.now }
+        ensures { result.now ≡ view_value buffers.now self.now }
+    {
+        if self.is_inlined() {
+            return self.bytes(&[]);
+        }
+        let parts = self.as_view();
+        &buffers[parts.buffer_index as usize].as_slice()[parts.as_range()]
     }
 
     /// The value's first four bytes, or fewer and then zeroes.

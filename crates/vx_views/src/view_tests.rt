@@ -3,6 +3,7 @@ ghost use Rattle.std.specs.Prelude.{◌≡◌};
 use crate::{BinaryView, Inlined, MAX_BUFFER_LEN, MAX_INLINED_SIZE, Ref};
 use std::hash::{DefaultHasher, Hash, Hasher};
 use std::test::Fail;
+use vx_base::{ByteBuffer, VortexError};
 
 // `06000000 696e6c69 6e650000 00000000`, the view of `inline`.
 const INLINE: u128 = 0x00000000_0000656e_696c6e69_00000006;
@@ -126,6 +127,18 @@ fn bytes_of_a_view_of_a_buffer(rt: HostRuntime) {
     let view = BinaryView::from(THIRTEEN);
     let buffers = [b"".as_slice(), b"ccccccccccccc".as_slice()];
     assert_eq!(rt; view.bytes(&buffers), b"ccccccccccccc".as_slice());
+}
+
+#[test]
+#[tactic(auto, unfolding(crate::specs::Views::number_le))]
+fn value_in_a_shared_buffer(rt: HostRuntime) -> Result<(), VortexError> {
+    let view = BinaryView::from(THIRTEEN);
+    let buffers = [
+        ByteBuffer::empty(rt.alloc())?,
+        ByteBuffer::copy_from(rt.alloc(), b"ccccccccccccc")?,
+    ];
+    assert_eq!(rt; view.value_in(&buffers), b"ccccccccccccc".as_slice());
+    Ok(())
 }
 
 #[test]
