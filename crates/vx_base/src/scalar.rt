@@ -60,6 +60,14 @@ impl Scalar {
         }
     }
 
+    /// The same of a value whose row is known to fit, which is not tested again. Asks that it fits.
+    pub fn new(dtype: DType, value: Option<ScalarValue>) -> Scalar
+        requires { Fits (dtype_meaning dtype) (row_under (dtype_meaning dtype) value) }
+        ensures { result ≡ typed_row (dtype_meaning dtype) (row_under (dtype_meaning dtype) value) }
+    {
+        Scalar { dtype, value }
+    }
+
     /// The row of a data type where none is given: null where it may stand, and else false, 0, an
     /// empty text, byte list or list, a list of defaults of the fixed size, or a record of
     /// defaults. Refuses with `MismatchedTypes` a data type with a record that has another number

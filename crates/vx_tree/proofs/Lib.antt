@@ -7,6 +7,7 @@ pub mod Taken
 pub mod Dictionaries
 pub mod Fitting
 pub mod Counted
+pub mod Values
 pub mod Worked
 pub mod WorkedViews
 pub mod Composed

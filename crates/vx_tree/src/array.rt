@@ -1,6 +1,6 @@
 // An array, and the layouts that it may have.
 
-ghost use Rattle.std.specs.Prelude.{◌≡◌, ◌==◌};
+ghost use Rattle.std.specs.Prelude.{◌≡◌, ◌==◌, ◌<◌, ◌^◌};
 ghost use Rattle.vx_base.specs.DTypes.{dtype_meaning};
 ghost use Rattle.vx_base.specs.Refusals.{Gives};
 ghost use Rattle.vx_tree.specs.Meaning.{tree_len, kind_of};
@@ -176,6 +176,13 @@ impl ArrayRef {
         ensures { AllFormed self.now }
     {
         let _ = &self.node;
+    }
+
+    // That its length is one that a machine word holds. It does nothing.
+    pub(crate) fn known_len(&self)
+        ensures { tree_len self.now < 2 ^ 64 }
+    {
+        let _len = self.len();
     }
 
     /// The same array, its parts shared.

@@ -2,6 +2,7 @@
 #![tactic(auto)]
 
 mod array;
+mod execute_scalar;
 mod filter;
 mod indices;
 mod laws;

@@ -15,6 +15,7 @@ use std::process::Abort;
 use vx_base::{BitBuffer, ByteBuffer, Nullability, PType, Scalar, Selection, VortexError};
 
 mod masks;
+mod scalars;
 
 // ---- arrays
 

@@ -2,16 +2,17 @@
 
 ghost use Rattle.std.specs.Prelude.{◌≡◌, ◌<◌, ◌≤◌, ◌-◌, ℕ, true, false, length};
 ghost use Rattle.vx_base.specs.Refusals.{Gives};
+ghost use Rattle.vx_base.specs.ValueRows.{row_under};
 ghost use Rattle.vx_tree.specs.Tree.{bools};
 ghost use Rattle.vx_tree.specs.Layouts.{is_bools};
-ghost use Rattle.vx_tree.specs.Meaning.{tree_len, is_valid_at};
+ghost use Rattle.vx_tree.specs.Meaning.{tree_len, kind_of, row_at, is_valid_at};
 ghost use Rattle.vx_tree.specs.Formed.{ValidFits};
 ghost use Rattle.vx_tree.specs.Parts.{valid_of};
 ghost use Rattle.vx_tree.specs.Operations.{IsSlice, IsSelected, IsNulled, IsNulls, AreBelow};
 
 use crate::array::{ArrayRef, Layout, Validity};
 use std::alloc::Global;
-use vx_base::{BitBuffer, Selection, VortexError, gather_bits};
+use vx_base::{BitBuffer, ScalarValue, Selection, VortexError, gather_bits};
 
 impl ArrayRef {
     /// Truth values, null where the validity is false. Asks that the validity is that of as many
@@ -98,5 +99,22 @@ impl ArrayRef {
         };
         let validity = validity.nulls(alloc, len, nulls)?;
         ArrayRef::bools(alloc, BitBuffer::new_unset(alloc, len)?, validity)
+    }
+
+    // The value of row `i`, `None` where it is null.
+    #[tactic(auto, using(crate::specs::Formed::valid_reads))]
+    pub(crate) fn truth_value(&self, i: usize) -> Option<ScalarValue>
+        requires layout { is_bools self.now ≡ true }
+        requires in_bounds { i < tree_len self.now }
+        ensures { row_under (kind_of self.now) result ≡ row_at self.now i }
+    {
+        let Layout::Bool { bits, validity } = self.layout() else {
+            unreachable!();
+        };
+        if validity.is_valid_at(i) {
+            Some(ScalarValue::Bool(bits.value(i)))
+        } else {
+            None
+        }
     }
 }

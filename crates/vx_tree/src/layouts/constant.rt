@@ -4,9 +4,10 @@ ghost use Rattle.std.specs.Prelude.{◌≡◌, ◌<◌, ◌≤◌, ◌-◌, ℕ,
 ghost use Rattle.vx_base.specs.Kinds.{is_nullable_kind};
 ghost use Rattle.vx_base.specs.Rows.{is_present};
 ghost use Rattle.vx_base.specs.Refusals.{Gives};
+ghost use Rattle.vx_base.specs.ValueRows.{row_under};
 ghost use Rattle.vx_tree.specs.Tree.{constant};
 ghost use Rattle.vx_tree.specs.Layouts.{is_constant};
-ghost use Rattle.vx_tree.specs.Meaning.{tree_len, is_valid_at, nullable};
+ghost use Rattle.vx_tree.specs.Meaning.{tree_len, kind_of, row_at, is_valid_at, nullable};
 ghost use Rattle.vx_tree.specs.Shapes.{state_of, row_state};
 ghost use Rattle.vx_tree.specs.Formed.{ValidFits};
 ghost use Rattle.vx_tree.specs.Parts.{valid_of};
@@ -14,7 +15,7 @@ ghost use Rattle.vx_tree.specs.Operations.{IsSlice, IsSelected, IsNulled, IsNull
 
 use crate::array::{ArrayRef, Layout, Validity};
 use std::alloc::Global;
-use vx_base::{Scalar, Selection, VortexError};
+use vx_base::{Scalar, ScalarValue, Selection, VortexError};
 
 impl ArrayRef {
     /// The row `len` times.
@@ -89,6 +90,20 @@ impl ArrayRef {
             unreachable!();
         };
         constant_or_null(alloc, scalar, len, nulls)
+    }
+
+    // The value of each row, `None` where they are null, its parts shared.
+    pub(crate) fn constant_value(&self, alloc: Global) -> Result<Option<ScalarValue>, VortexError>
+        requires { is_constant self.now ≡ true }
+        ensures { Gives result (λ v. row_under (kind_of self.now) v ≡ row_at self.now 0) }
+    {
+        let Layout::Constant { scalar, .. } = self.layout() else {
+            unreachable!();
+        };
+        match scalar.value() {
+            Some(value) => Ok(Some(value.try_clone(alloc)?)),
+            None => Ok(None),
+        }
     }
 }
 

@@ -2,6 +2,7 @@
 
 ghost use Rattle.std.specs.Prelude.{◌≡◌, ◌<◌, ◌≤◌, ◌-◌, ℕ, true, false, IfSome, IsSome, is_some};
 ghost use Rattle.vx_base.specs.Refusals.{Gives};
+ghost use Rattle.vx_base.specs.ValueRows.{row_under};
 ghost use Rattle.vx_base.specs.Kinds.{is_integers, is_plain_integers};
 ghost use Rattle.vx_base.specs.Rows.{is_present, position_in};
 ghost use Rattle.vx_tree.specs.Tree.{dictionary};
@@ -14,7 +15,7 @@ ghost use Rattle.vx_tree.specs.Operations.{IsSlice, IsSelected, IsNulled, IsNull
 use crate::array::{ArrayRef, Layout, Validity};
 use crate::indices::to_position;
 use std::alloc::Global;
-use vx_base::{Selection, VortexError};
+use vx_base::{ScalarValue, Selection, VortexError};
 
 impl ArrayRef {
     /// The values at the positions that the codes name, null where a code is null. Asks that the
@@ -133,6 +134,27 @@ impl ArrayRef {
         match self.int_at(i) {
             Some(number) => Some(to_position(number)),
             None => None,
+        }
+    }
+
+    // The value that the code of row `i` names, `None` where it or the code is null.
+    #[cycle(value)]
+    #[tactic(auto, using(crate::proofs::Values::named_nullable))]
+    pub(crate) fn dictionary_value(
+        &self,
+        alloc: Global,
+        i: usize,
+    ) -> Result<Option<ScalarValue>, VortexError>
+        requires layout { is_dictionary self.now ≡ true }
+        requires in_bounds { i < tree_len self.now }
+        ensures { Gives result (λ v. row_under (kind_of self.now) v ≡ row_at self.now i) }
+    {
+        let Layout::Dict { codes, values, .. } = self.layout() else {
+            unreachable!();
+        };
+        match codes.code_at(i, values.len()) {
+            Some(code) => values.value_at(alloc, code),
+            None => Ok(None),
         }
     }
 

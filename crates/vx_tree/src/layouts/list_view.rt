@@ -2,16 +2,19 @@
 
 ghost use Rattle.std.specs.Prelude.{◌≡◌, ◌<◌, ◌≤◌, ◌-◌, ℕ, true, false};
 ghost use Rattle.vx_base.specs.Refusals.{Gives};
+ghost use Rattle.vx_base.specs.Rows.{count_in};
+ghost use Rattle.vx_base.specs.ValueRows.{row_under};
 ghost use Rattle.vx_tree.specs.Tree.{list_view};
 ghost use Rattle.vx_tree.specs.Layouts.{is_list_view};
-ghost use Rattle.vx_tree.specs.Meaning.{tree_len, is_valid_at};
-ghost use Rattle.vx_tree.specs.Formed.{ValidFits, WellFormed};
+ghost use Rattle.vx_tree.specs.Meaning.{tree_len, kind_of, row_at, is_valid_at};
+ghost use Rattle.vx_tree.specs.Formed.{ValidFits, IsCounts, WellFormed};
 ghost use Rattle.vx_tree.specs.Parts.{valid_of};
 ghost use Rattle.vx_tree.specs.Operations.{IsSlice, IsSelected, IsNulled, IsNulls, AreBelow};
 
 use crate::array::{ArrayRef, Layout, Validity};
+use crate::indices::to_position;
 use std::alloc::Global;
-use vx_base::{Selection, VortexError};
+use vx_base::{ScalarValue, ScalarValues, Selection, VortexError};
 
 impl ArrayRef {
     /// Lists, null where the validity is false. Asks that offsets and sizes are counts, as many of
@@ -164,5 +167,47 @@ impl ArrayRef {
         let sizes = ArrayRef::zeroes(alloc, sizes.dtype().as_ptype(), len)?;
         let validity = validity.nulls(alloc, len, nulls)?;
         ArrayRef::list_view(alloc, elements, offsets, sizes, validity, false)
+    }
+
+    // The list that row `i` is, `None` where it is null.
+    #[cycle(value)]
+    #[tactic(auto, using(crate::specs::Formed::valid_reads))]
+    pub(crate) fn list_value(
+        &self,
+        alloc: Global,
+        i: usize,
+    ) -> Result<Option<ScalarValue>, VortexError>
+        requires layout { is_list_view self.now ≡ true }
+        requires in_bounds { i < tree_len self.now }
+        ensures { Gives result (λ v. row_under (kind_of self.now) v ≡ row_at self.now i) }
+    {
+        let Layout::ListView {
+            elements,
+            offsets,
+            sizes,
+            validity,
+            ..
+        } = self.layout()
+        else {
+            unreachable!();
+        };
+        if !validity.is_valid_at(i) {
+            return Ok(None);
+        }
+        let values = elements.values_within(alloc, offsets.count_at(i), sizes.count_at(i))?;
+        let values = ScalarValues::from_vec(alloc, values)?;
+        Ok(Some(ScalarValue::List(values)))
+    }
+
+    // The count that row `i` is.
+    pub(crate) fn count_at(&self, i: usize) -> usize
+        requires counts { IsCounts self.now }
+        requires in_bounds { i < tree_len self.now }
+        ensures { result ≡ count_in (row_at self.now i) }
+    {
+        match self.int_at(i) {
+            Some(number) => to_position(number),
+            None => unreachable!(),
+        }
     }
 }

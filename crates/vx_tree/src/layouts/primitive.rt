@@ -3,9 +3,10 @@
 ghost use Rattle.std.specs.Prelude.{◌≡◌, ◌<◌, ◌≤◌, ◌-◌, ◌*◌, ℕ, pos, true, false, length, map, replicate, IfOk};
 ghost use Rattle.vx_base.specs.Integers.{byte_width, numbers};
 ghost use Rattle.vx_base.specs.Refusals.{Gives};
+ghost use Rattle.vx_base.specs.ValueRows.{row_under};
 ghost use Rattle.vx_tree.specs.Tree.{primitive};
 ghost use Rattle.vx_tree.specs.Layouts.{is_primitive};
-ghost use Rattle.vx_tree.specs.Meaning.{tree_len, is_valid_at};
+ghost use Rattle.vx_tree.specs.Meaning.{tree_len, kind_of, row_at, is_valid_at};
 ghost use Rattle.vx_tree.specs.Formed.{ValidFits, WellFormed};
 ghost use Rattle.vx_tree.specs.Parts.{valid_of};
 ghost use Rattle.vx_tree.specs.Operations.{IsSlice, IsSelected, IsNulled, IsNulls, IsZeroes, IsZeroCodes, AreBelow};
@@ -13,7 +14,8 @@ ghost use Rattle.vx_tree.specs.Operations.{IsSlice, IsSelected, IsNulled, IsNull
 use crate::array::{ArrayRef, Layout, Validity};
 use std::alloc::Global;
 use vx_base::{
-    ByteBuffer, PType, Selection, VortexError, gather_numbers, slice_numbers, write_counts,
+    ByteBuffer, PType, ScalarValue, Selection, VortexError, gather_numbers, int_at, slice_numbers,
+    write_counts,
 };
 
 impl ArrayRef {
@@ -139,6 +141,28 @@ impl ArrayRef {
         };
         let validity = validity.nulls(alloc, len, nulls)?;
         ArrayRef::primitive(alloc, *ptype, zero_numbers(alloc, *ptype, len)?, validity)
+    }
+
+    // The value of row `i`, `None` where it is null.
+    #[tactic(auto, using(crate::specs::Formed::valid_reads))]
+    pub(crate) fn number_value(&self, i: usize) -> Option<ScalarValue>
+        requires layout { is_primitive self.now ≡ true }
+        requires in_bounds { i < tree_len self.now }
+        ensures { row_under (kind_of self.now) result ≡ row_at self.now i }
+    {
+        let Layout::Primitive {
+            ptype,
+            bytes,
+            validity,
+        } = self.layout()
+        else {
+            unreachable!();
+        };
+        if validity.is_valid_at(i) {
+            Some(ScalarValue::Int(int_at(bytes.as_slice(), *ptype, i)))
+        } else {
+            None
+        }
     }
 
     // Counts that are all 0.
