@@ -6,10 +6,10 @@ use Rattle.vx_base.specs.declared.mask.MaskState.TheVariants.{AllTrue, AllFalse,
 abbrev pub booleans_of : MaskState → List Bool
 booleans_of (AllTrue len) = replicate len true
 booleans_of (AllFalse len) = replicate len false
-booleans_of (Mixed bits count) = bits
+booleans_of (Mixed bits count) = bits.bits
 
 -- where the booleans are kept one by one, their trues are counted, and both values stand
 abbrev pub IsCounted : MaskState → Type 0
 IsCounted (AllTrue len) = Unit {0}
 IsCounted (AllFalse len) = Unit {0}
-IsCounted (Mixed bits count) = (count ≡ count_by (λ b. b) bits) × (0 < count) × (count < length bits)
+IsCounted (Mixed bits count) = (count ≡ count_by (λ b. b) bits.bits) × (0 < count) × (count < length bits.bits)

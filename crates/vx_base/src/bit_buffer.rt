@@ -1,12 +1,13 @@
 // A shared run of booleans, packed eight to a byte.
 #![tactic(auto, using(crate::proofs::PackedBits::length_unpacked, crate::proofs::PackedBits::unpacked_none, crate::proofs::PackedBits::get_unpacked))]
 
-ghost use Rattle.std.specs.Prelude.{ℕ, ◌&&◌, ◌≡◌, ◌≤◌, ◌<◌, ◌+◌, ◌*◌, ◌/◌, ◌^◌, ◌↔◌, Bool, [], length, take, slice_range, count_by, slice_index, IsTrue, ◌%◌, true, false, replicate, ◌-◌};
+ghost use Rattle.std.specs.Prelude.{ℕ, ◌&&◌, ◌≡◌, ◌≤◌, ◌<◌, ◌+◌, ◌*◌, ◌/◌, ◌^◌, ◌↔◌, Bool, [], length, take, slice_range, count_by, slice_index, IsTrue, ◌%◌, true, false, replicate, ◌-◌, IfOk};
 ghost use Rattle.vx_base.specs.Refusals.{Gives};
 ghost use Rattle.std.specs.Bool.{beq};
-ghost use Rattle.std.specs.Cmp.{bool_eq_equiv, partial_equiv_from_equiv};
+ghost use Rattle.std.specs.Cmp.{bool_eq_equiv, on_equiv, partial_equiv_from_equiv};
 ghost use Rattle.std.specs.Cmp.Lexicographic.{pointwise, lists_equiv};
-ghost use Rattle.vx_base.specs.Bits.{bit_of, unpacked, bool_at, both, byte_from, byte_of, byte_like, Written};
+ghost use Rattle.std.specs.Ordering.{on};
+ghost use Rattle.vx_base.specs.Bits.{packed, bits_of, bit_of, unpacked, bool_at, both, byte_from, byte_of, byte_like, Written};
 ghost use Rattle.vx_base.specs.Trues.{AreAll};
 
 use crate::bit_buffer_mut::{fill_bits, put_bit};
@@ -26,12 +27,12 @@ pub struct BitBuffer {
 }
 
 impl Model for BitBuffer {
-    ghost use Rattle.std.specs.Prelude.{Bool, List, ◌<◌, ◌≤◌, ◌+◌, ◌*◌, ◌^◌, length};
-    ghost use Rattle.vx_base.specs.Bits.{unpacked};
+    ghost use Rattle.std.specs.Prelude.{◌<◌, ◌≤◌, ◌+◌, ◌*◌, ◌^◌, length};
+    ghost use Rattle.vx_base.specs.Bits.{PackedBits, packed, unpacked};
 
-    ghost Value = { List Bool };
+    ghost Value = { PackedBits };
 
-    ghost view = { λ b. unpacked b.bytes b.offset b.len };
+    ghost view = { λ b. packed (unpacked b.bytes b.offset b.len) b.offset };
 
     ghost invariant = { λ b. (b.offset < 8) × (b.offset + b.len ≤ 8 * length b.bytes) × (b.offset + b.len < 2 ^ 64) };
 }
@@ -242,7 +243,7 @@ impl BitBuffer {
         requires offset { offset < 8 }
         requires in_bounds { offset + len ≤ 8 * length bytes }
         requires fits { offset + len < 2 ^ 64 }
-        ensures { result ≡ unpacked bytes offset len }
+        ensures { result ≡ packed (unpacked bytes offset len) offset }
     {
         BitBuffer { bytes, offset, len }
     }
@@ -258,7 +259,8 @@ impl BitBuffer {
     ) -> Result<BitBuffer, VortexError>
         requires in_bounds { offset + len ≤ 8 * length bytes }
         requires fits { offset % 8 + len < 2 ^ 64 }
-        ensures { Gives result (λ b. b ≡ unpacked bytes offset len) }
+        ensures bits { Gives result (λ b. b.bits ≡ unpacked bytes offset len) }
+        ensures offset { IfOk result (λ b. b.offset ≡ offset % 8) }
     {
         let bytes = bytes.slice(alloc, offset / 8..bytes.len())?;
         Ok(BitBuffer::from_parts(bytes, offset % 8, len))
@@ -266,7 +268,8 @@ impl BitBuffer {
 
     /// A buffer of these booleans. Fails only for want of memory.
     pub fn from_bools(alloc: Global, bools: &[bool]) -> Result<BitBuffer, VortexError>
-        ensures { Gives result (λ b. b ≡ bools.now) }
+        ensures bits { Gives result (λ b. b.bits ≡ bools.now) }
+        ensures offset { IfOk result (λ b. b.offset ≡ 0) }
     {
         let mut bytes = vec![in alloc; 0u8; bools.len().div_ceil(8)]?;
         pack(bools, &mut bytes);
@@ -275,7 +278,8 @@ impl BitBuffer {
 
     /// `len` times this boolean. Fails only for want of memory.
     pub fn full(alloc: Global, value: bool, len: usize) -> Result<BitBuffer, VortexError>
-        ensures { Gives result (λ b. b ≡ replicate len value) }
+        ensures bits { Gives result (λ b. b.bits ≡ replicate len value) }
+        ensures offset { IfOk result (λ b. b.offset ≡ 0) }
     {
         let mut bytes = vec![in alloc; 0u8; len.div_ceil(8)]?;
         fill_bits(&mut bytes, 0, len, value);
@@ -284,35 +288,38 @@ impl BitBuffer {
 
     /// `len` times true. Fails only for want of memory.
     pub fn new_set(alloc: Global, len: usize) -> Result<BitBuffer, VortexError>
-        ensures { Gives result (λ b. b ≡ replicate len true) }
+        ensures bits { Gives result (λ b. b.bits ≡ replicate len true) }
+        ensures offset { IfOk result (λ b. b.offset ≡ 0) }
     {
         BitBuffer::full(alloc, true, len)
     }
 
     /// `len` times false. Fails only for want of memory.
     pub fn new_unset(alloc: Global, len: usize) -> Result<BitBuffer, VortexError>
-        ensures { Gives result (λ b. b ≡ replicate len false) }
+        ensures bits { Gives result (λ b. b.bits ≡ replicate len false) }
+        ensures offset { IfOk result (λ b. b.offset ≡ 0) }
     {
         BitBuffer::full(alloc, false, len)
     }
 
     /// How many booleans there are.
     pub fn len(&self) -> usize
-        ensures { result ≡ length self.now }
+        ensures { result ≡ length self.now.bits }
     {
         self.len
     }
 
     /// Whether there are no booleans.
     pub fn is_empty(&self) -> bool
-        ensures { IsTrue result ↔ (self.now ≡ []) }
+        ensures { IsTrue result ↔ (self.now.bits ≡ []) }
     {
         self.len() == 0
     }
 
     /// The bit of the first byte at which the booleans begin, from 0 to 7.
     pub fn offset(&self) -> usize
-        ensures { result < 8 }
+        ensures value { result ≡ self.now.offset }
+        ensures below { result < 8 }
     {
         self.offset
     }
@@ -320,8 +327,8 @@ impl BitBuffer {
     /// The boolean at place `i`, counted from 0. Asks that there is one.
     #[inline]
     pub fn value(&self, i: usize) -> bool
-        requires { i < length self.now }
-        ensures { result ≡ bool_at self.now i }
+        requires { i < length self.now.bits }
+        ensures { result ≡ bool_at self.now.bits i }
     {
         let place = self.offset + i;
         (self.bytes.as_slice()[place / 8] >> (place % 8)) & 1 == 1
@@ -331,8 +338,9 @@ impl BitBuffer {
     /// at or before the last boolean. Fails only for want of memory.
     pub fn slice(&self, alloc: Global, range: Range<usize>) -> Result<BitBuffer, VortexError>
         requires start_le_end { range.start ≤ range.end }
-        requires in_bounds { range.end ≤ length self.now }
-        ensures { Gives result (λ b. b ≡ slice_range self.now range.start range.end) }
+        requires in_bounds { range.end ≤ length self.now.bits }
+        ensures bits { Gives result (λ b. b.bits ≡ slice_range self.now.bits range.start range.end) }
+        ensures offset { IfOk result (λ b. b.offset ≡ (self.now.offset + range.start) % 8) }
     {
         let start = self.offset + range.start;
         let bytes = self.bytes.slice(alloc, start / 8..self.bytes.len())?;
@@ -356,7 +364,7 @@ impl BitBuffer {
 
     /// How many of the booleans are true.
     pub fn true_count(&self) -> usize
-        ensures { result ≡ count_by (λ b. b) self.now }
+        ensures { result ≡ count_by (λ b. b) self.now.bits }
     {
         let source = self.bytes.as_slice();
         let words = if self.offset == 0 { self.len / 64 } else { 0 };
@@ -376,8 +384,9 @@ impl BitBuffer {
     /// A buffer that is true at the places where both are. Asks that both are as long. Fails only
     /// for want of memory.
     pub fn and(&self, alloc: Global, other: &BitBuffer) -> Result<BitBuffer, VortexError>
-        requires { length self.now ≡ length other.now }
-        ensures { Gives result (λ b. b ≡ both self.now other.now) }
+        requires { length self.now.bits ≡ length other.now.bits }
+        ensures bits { Gives result (λ b. b.bits ≡ both self.now.bits other.now.bits) }
+        ensures offset { IfOk result (λ b. b.offset ≡ 0) }
     {
         let mine = self.bytes.as_slice();
         let theirs = other.bytes.as_slice();
@@ -389,11 +398,12 @@ impl BitBuffer {
     /// The bit of the first byte at which the booleans begin, how many they are, and the bytes,
     /// which hold them all: what `new_with_offset` takes.
     pub fn into_inner(self) -> (usize, usize, ByteBuffer)
-        ensures offset { result.0 < 8 }
-        ensures len { result.1 ≡ length self }
+        ensures offset { result.0 ≡ self.offset }
+        ensures below { result.0 < 8 }
+        ensures len { result.1 ≡ length self.bits }
         ensures in_bounds { result.0 + result.1 ≤ 8 * length result.2 }
         ensures fits { result.0 + result.1 < 2 ^ 64 }
-        ensures bits { self ≡ unpacked result.2 result.0 result.1 }
+        ensures bits { self.bits ≡ unpacked result.2 result.0 result.1 }
     {
         let BitBuffer { bytes, offset, len } = self;
         (offset, len, bytes)
@@ -402,8 +412,8 @@ impl BitBuffer {
     // Whether the eight booleans from `place` on are all this one.
     #[inline]
     pub(crate) fn are_eight(&self, place: usize, value: bool) -> bool
-        requires { place + 8 ≤ length self.now }
-        ensures { IsTrue result → AreAll self.now place (place + 8) value }
+        requires { place + 8 ≤ length self.now.bits }
+        ensures { IsTrue result → AreAll self.now.bits place (place + 8) value }
     {
         byte_from(self.bytes.as_slice(), self.offset + place) == byte_like(value)
     }
@@ -412,18 +422,18 @@ impl BitBuffer {
     // `end`.
     pub(crate) fn copy_to(&self, start: usize, out: &mut [u8], at: usize, end: usize)
         requires ordered { at ≤ end }
-        requires source { start + (end - at) ≤ length self.now }
+        requires source { start + (end - at) ≤ length self.now.bits }
         requires room { end ≤ 8 * length out.old }
         ensures len { length out.new ≡ length out.old }
-        ensures written { Written out.old out.new at end (λ k. bool_at self.now (start + (k - at))) }
+        ensures written { Written out.old out.new at end (λ k. bool_at self.now.bits (start + (k - at))) }
     {
         copy_bits(self.bytes.as_slice(), self.offset + start, out, at, end);
     }
 
     // Whether the two, which are as long, have the same booleans in their whole bytes.
     fn same_bytes(&self, other: &BitBuffer) -> bool
-        requires { length self.now ≡ length other.now }
-        ensures { IsTrue result ↔ (take (8 * (length self.now / 8)) self.now ≡ take (8 * (length self.now / 8)) other.now) }
+        requires { length self.now.bits ≡ length other.now.bits }
+        ensures { IsTrue result ↔ (take (8 * (length self.now.bits / 8)) self.now.bits ≡ take (8 * (length self.now.bits / 8)) other.now.bits) }
     {
         let mine = self.bytes.as_slice();
         let theirs = other.bytes.as_slice();
@@ -440,7 +450,7 @@ impl BitBuffer {
 
     // Whether the two have the same booleans.
     fn same(&self, other: &BitBuffer) -> bool
-        ensures { IsTrue result ↔ (self.now ≡ other.now) }
+        ensures { IsTrue result ↔ (self.now.bits ≡ other.now.bits) }
     {
         if self.len() != other.len() || !self.same_bytes(other) {
             return false;
@@ -455,9 +465,9 @@ impl BitBuffer {
 }
 
 impl PartialEq for BitBuffer {
-    ghost eq = { pointwise beq };
+    ghost eq = { on bits_of (pointwise beq) };
 
-    ghost laws = { partial_equiv_from_equiv (lists_equiv bool_eq_equiv) };
+    ghost laws = { partial_equiv_from_equiv (on_equiv bits_of (lists_equiv bool_eq_equiv)) };
 
     fn eq(&self, other: &BitBuffer) -> bool {
         self.same(other)
@@ -465,5 +475,5 @@ impl PartialEq for BitBuffer {
 }
 
 impl Eq for BitBuffer {
-    ghost laws = { lists_equiv bool_eq_equiv };
+    ghost laws = { on_equiv bits_of (lists_equiv bool_eq_equiv) };
 }

@@ -1,7 +1,7 @@
 // A run of booleans that grows.
 #![tactic(auto, using(crate::proofs::PackedBits::length_unpacked, crate::proofs::PackedBits::unpacked_none, crate::proofs::PackedBits::get_unpacked))]
 
-ghost use Rattle.std.specs.Prelude.{◌≡◌, ◌≢◌, ◌≤◌, ◌<◌, ◌+◌, ◌-◌, ◌/◌, ◌*◌, ◌^◌, ℕ, Bool, true, false, [], ◌∷◌, ◌++◌, length, take, drop, replicate, slice_set, slice_range, OnOk, OnErr, IsOkUnless};
+ghost use Rattle.std.specs.Prelude.{◌≡◌, ◌≢◌, ◌≤◌, ◌<◌, ◌+◌, ◌-◌, ◌/◌, ◌*◌, ◌^◌, ℕ, Bool, true, false, [], ◌∷◌, ◌++◌, length, take, drop, replicate, slice_set, slice_range, OnOk, OnErr, IfOk, IsOkUnless};
 ghost use Rattle.vx_base.specs.Refusals.{Gives};
 ghost use Rattle.vx_base.specs.Bits.{bit_of, Filled};
 ghost use Rattle.vx_base.specs.declared.errors.VortexError.TheVariants.{Memory};
@@ -174,8 +174,8 @@ impl BitBufferMut {
         end: usize,
     ) -> Result<(), VortexError>
         requires start_le_end { start ≤ end }
-        requires in_bounds { end ≤ length bits.now }
-        ensures ok { Gives result (λ _. self.new ≡ self.old ++ slice_range bits.now start end) }
+        requires in_bounds { end ≤ length bits.now.bits }
+        ensures ok { Gives result (λ _. self.new ≡ self.old ++ slice_range bits.now.bits start end) }
         ensures err { OnErr result (self.new ≡ self.old) }
     {
         let count = end - start;
@@ -219,7 +219,8 @@ impl BitBufferMut {
 
     /// The booleans, to be shared, with no copy of them. Fails only for want of memory.
     pub fn freeze(self) -> Result<BitBuffer, VortexError>
-        ensures { Gives result (λ b. b ≡ self) }
+        ensures bits { Gives result (λ b. b.bits ≡ self) }
+        ensures offset { IfOk result (λ b. b.offset ≡ 0) }
     {
         let BitBufferMut { bytes, len } = self;
         let alloc = *bytes.allocator();

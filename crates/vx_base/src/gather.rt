@@ -127,8 +127,9 @@ pub fn gather_bits(
     bits: &BitBuffer,
     selection: &Selection,
 ) -> Result<BitBuffer, VortexError>
-    requires { All (λ k. k < length bits.now) selection.now }
-    ensures { Gives result (λ b. b ≡ map (bit_of_position bits.now) selection.now) }
+    requires { All (λ k. k < length bits.now.bits) selection.now }
+    ensures bits { Gives result (λ b. b.bits ≡ map (bit_of_position bits.now.bits) selection.now) }
+    ensures offset { IfOk result (λ b. b.offset ≡ 0) }
 {
     match selection.picks() {
         Picks::Positions(positions) => bits_at(alloc, bits, positions),
@@ -138,8 +139,9 @@ pub fn gather_bits(
 
 // One boolean at a time.
 fn bits_at(alloc: Global, bits: &BitBuffer, positions: &[usize]) -> Result<BitBuffer, VortexError>
-    requires { All (λ k. k < length bits.now) positions.now }
-    ensures { Gives result (λ b. b ≡ map (bit_of_position bits.now) positions.now) }
+    requires { All (λ k. k < length bits.now.bits) positions.now }
+    ensures bits { Gives result (λ b. b.bits ≡ map (bit_of_position bits.now.bits) positions.now) }
+    ensures offset { IfOk result (λ b. b.offset ≡ 0) }
 {
     let mut bytes = vec![in alloc; 0u8; positions.len().div_ceil(8)]?;
     put_bits_at(bits, positions, &mut bytes);
@@ -149,10 +151,10 @@ fn bits_at(alloc: Global, bits: &BitBuffer, positions: &[usize]) -> Result<BitBu
 // Writes the booleans at these positions, eight to a byte.
 #[inline(never)]
 fn put_bits_at(bits: &BitBuffer, positions: &[usize], out: &mut [u8])
-    requires within { All (λ k. k < length bits.now) positions.now }
+    requires within { All (λ k. k < length bits.now.bits) positions.now }
     requires room { length positions.now ≤ 8 * length out.old }
     ensures len { length out.new ≡ length out.old }
-    ensures bits { unpacked out.new 0 (length positions.now) ≡ map (bit_of_position bits.now) positions.now }
+    ensures bits { unpacked out.new 0 (length positions.now) ≡ map (bit_of_position bits.now.bits) positions.now }
 {
     let whole = positions.len() / 8;
     for j in 0..whole {
@@ -180,8 +182,9 @@ fn bits_of_runs(
     runs: &[(usize, usize)],
     capacity: usize,
 ) -> Result<BitBuffer, VortexError>
-    requires { All (λ k. k < length bits.now) (flat_map run_positions runs.now) }
-    ensures { Gives result (λ b. b ≡ map (bit_of_position bits.now) (flat_map run_positions runs.now)) }
+    requires { All (λ k. k < length bits.now.bits) (flat_map run_positions runs.now) }
+    ensures bits { Gives result (λ b. b.bits ≡ map (bit_of_position bits.now.bits) (flat_map run_positions runs.now)) }
+    ensures offset { IfOk result (λ b. b.offset ≡ 0) }
 {
     let mut picked = BitBufferMut::with_capacity(alloc, capacity)?;
     for run in runs {
@@ -198,8 +201,8 @@ fn append_run(
     start: usize,
     end: usize,
 ) -> Result<(), VortexError>
-    requires { All (λ k. k < length bits.now) (run_positions (start, end)) }
-    ensures { Gives result (λ _. picked.new ≡ picked.old ++ map (bit_of_position bits.now) (run_positions (start, end))) }
+    requires { All (λ k. k < length bits.now.bits) (run_positions (start, end)) }
+    ensures { Gives result (λ _. picked.new ≡ picked.old ++ map (bit_of_position bits.now.bits) (run_positions (start, end))) }
 {
     if start < end {
         picked.append_slice(bits, start, end)?;

@@ -59,7 +59,7 @@ impl Mask {
 
     /// The booleans of a bit buffer, with no copy of them. It never fails.
     pub fn from_buffer(_alloc: Global, bits: BitBuffer) -> Result<Mask, VortexError>
-        ensures { Gives result (λ m. m ≡ bits) }
+        ensures { Gives result (λ m. m ≡ bits.bits) }
     {
         let len = bits.len();
         let true_count = bits.true_count();

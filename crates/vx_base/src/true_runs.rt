@@ -13,7 +13,7 @@ use std::alloc::Global;
 impl BitBuffer {
     // The runs of places that are true, in order, each as long as it can be.
     pub(crate) fn true_runs(&self, alloc: Global) -> Result<Vec<(usize, usize)>, VortexError>
-        ensures { Gives result (λ runs. flat_map run_positions runs.items ≡ trues self.now) }
+        ensures { Gives result (λ runs. flat_map run_positions runs.items ≡ trues self.now.bits) }
     {
         let mut runs = Vec::new(alloc);
         let mut start = self.run_end(0, false);
@@ -27,8 +27,8 @@ impl BitBuffer {
 
     // Where the booleans from `start` on cease to be this one.
     fn run_end(&self, start: usize, value: bool) -> usize
-        requires { start ≤ length self.now }
-        ensures { IsRunEnd self.now start result value }
+        requires { start ≤ length self.now.bits }
+        ensures { IsRunEnd self.now.bits start result value }
     {
         let at = self.pass_bytes(start, value);
         for place in at..self.len() {
@@ -42,8 +42,8 @@ impl BitBuffer {
     // A place that the booleans from `start` on reach, eight at a time, while they are all this
     // one.
     fn pass_bytes(&self, start: usize, value: bool) -> usize
-        requires { start ≤ length self.now }
-        ensures { IsReached self.now start result value }
+        requires { start ≤ length self.now.bits }
+        ensures { IsReached self.now.bits start result value }
     {
         let whole = (self.len() - start) / 8;
         for j in 0..whole {

@@ -40,8 +40,8 @@ impl BoolArray {
         bits: BitBuffer,
         validity: Validity,
     ) -> Result<BoolArray, VortexError>
-        ensures parts { IfOk result (λ a. a ≡ bools bits (valid_of validity)) }
-        ensures refuses { Refuses result (validity_fault (valid_of validity) (length bits)) }
+        ensures parts { IfOk result (λ a. a ≡ bools bits.bits (valid_of validity)) }
+        ensures refuses { Refuses result (validity_fault (valid_of validity) (length bits.bits)) }
     {
         validity.check(bits.len())?;
         let array = ArrayRef::bools(alloc, bits, validity)?;

@@ -76,7 +76,7 @@ fn show_rows(
 
 // Adds truth values, null where the mask is false.
 fn show_bits(bits: &BitBuffer, mask: &Mask, text: &mut String) -> Result<(), VortexError>
-    requires { length mask.now ≡ length bits.now }
+    requires { length mask.now ≡ length bits.now.bits }
 {
     for row in 0..bits.len() {
         separate(row, text)?;

@@ -101,7 +101,7 @@ impl ArrayRef {
     // The rows of an array of plain booleans, as bits.
     pub(crate) fn plain_bits(&self, alloc: Global) -> Result<BitBuffer, VortexError>
         requires { kind_of self.now ≡ booleans false }
-        ensures { Gives result (λ b. b ≡ map (λ i. truth_of (row_at self.now i)) (range_with_len 0 (tree_len self.now))) }
+        ensures { Gives result (λ b. b.bits ≡ map (λ i. truth_of (row_at self.now i)) (range_with_len 0 (tree_len self.now))) }
     {
         match self.layout() {
             Layout::Bool { bits, .. } => bits.try_clone(alloc),
@@ -114,7 +114,7 @@ impl ArrayRef {
     // The same in any layout, row by row.
     fn truths(&self, alloc: Global) -> Result<BitBuffer, VortexError>
         requires { kind_of self.now ≡ booleans false }
-        ensures { Gives result (λ b. b ≡ map (λ i. truth_of (row_at self.now i)) (range_with_len 0 (tree_len self.now))) }
+        ensures { Gives result (λ b. b.bits ≡ map (λ i. truth_of (row_at self.now i)) (range_with_len 0 (tree_len self.now))) }
     {
         let mut truths = vec![in alloc; false; self.len()]?;
         self.fill_truths(&mut truths);

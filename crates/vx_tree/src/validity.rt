@@ -216,7 +216,7 @@ impl Validity {
 
 // Valid where the bit is set.
 fn told_by(alloc: Global, bits: BitBuffer) -> Result<Validity, VortexError>
-    ensures { Gives result (λ v. valid_of v ≡ by_array (bools bits non_nullable)) }
+    ensures { Gives result (λ v. valid_of v ≡ by_array (bools bits.bits non_nullable)) }
 {
     let array = ArrayRef::bools(alloc, bits, Validity::NonNullable)?;
     Ok(Validity::Array(array))

@@ -38,10 +38,10 @@ pub fn nullable_column<T: NativePType + Drop>(
     numbers: Buffer<T>,
     valid: BitBuffer,
 ) -> Result<ArrayRef, VortexError>
-    ensures rows { IfOk result (λ a. rows a ≡ masked_rows valid (map T.value numbers)) }
+    ensures rows { IfOk result (λ a. rows a ≡ masked_rows valid.bits (map T.value numbers)) }
     ensures kind { IfOk result (λ a. kind_of a ≡ integers T.PTYPE true) }
     ensures refuses { Refuses result
-        (if length valid == length numbers then None else Some length_mismatch) }
+        (if length valid.bits == length numbers then None else Some length_mismatch) }
 {
     let valid = BoolArray::try_new(alloc, valid, Validity::NonNullable)?;
     let validity = Validity::Array(valid.into_array());

@@ -22,8 +22,8 @@ impl ArrayRef {
         bits: BitBuffer,
         validity: Validity,
     ) -> Result<ArrayRef, VortexError>
-        requires { ValidFits (valid_of validity) (length bits) }
-        ensures { Gives result (λ a. a ≡ bools bits (valid_of validity)) }
+        requires { ValidFits (valid_of validity) (length bits.bits) }
+        ensures { Gives result (λ a. a ≡ bools bits.bits (valid_of validity)) }
     {
         ArrayRef::from_parts(alloc, Layout::Bool { bits, validity })
     }

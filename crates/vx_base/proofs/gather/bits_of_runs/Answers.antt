@@ -6,12 +6,12 @@ use Rattle.vx_base.proofs.Runs.{All-run, runs_more}
 use Rattle.vx_base.proofs.gather.bits_of_runs.Goals as goal
 
 pub append_run-requires : goal.append_run-requires
-append_run-requires c = All-run (λ k. k < length c.args.bits.now) run_positions c.args.runs.now c.loop-run.run-index (0, 0) c.loop-run-test.true c.requires
+append_run-requires c = All-run (λ k. k < length c.args.bits.now.bits) run_positions c.args.runs.now c.loop-run.run-index (0, 0) c.loop-run-test.true c.requires
 
 pub loop-run-preserved : goal.loop-run-preserved
 loop-run-preserved c =
     let runs = c.args.runs.now in
     let i = c.loop-run.run-index in
-    let f = bit_of_position c.args.bits.now in
+    let f = bit_of_position c.args.bits.now.bits in
     c.in_ok-append_run.ensures ∙ ap (λ bs. bs ++ map f (run_positions (get_or runs i (0, 0)))) c.loop-run.invariant
     ∙ sym (ap (map f) (runs_more run_positions runs i (0, 0) c.loop-run-test.true) ∙ map-append f (flat_map run_positions (take i runs)) (run_positions (get_or runs i (0, 0))))

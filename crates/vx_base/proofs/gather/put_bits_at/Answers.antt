@@ -6,14 +6,14 @@ use Rattle.vx_base.proofs.gather.put_bits_at.Goals as goal
 
 pub loop-j-preserved : goal.loop-j-preserved
 loop-j-preserved c =
-    let f = λ (k : ℕ). bit_of_position c.args.bits.now (get_or c.args.positions.now k 0) in
+    let f = λ (k : ℕ). bit_of_position c.args.bits.now.bits (get_or c.args.positions.now k 0) in
     eight_packed c.loop-j.out f c.loop-j.j c.byte_of.result (omega arith)
     (rw (← c.value.ensures, ← c.value-in-loop-j.ensures, ← c.value-in-loop-j-2.ensures, ← c.value-in-loop-j-3.ensures, ← c.value-in-loop-j-4.ensures, ← c.value-in-loop-j-5.ensures, ← c.value-in-loop-j-6.ensures, ← c.value-in-loop-j-7.ensures) c.byte_of.ensures)
     c.loop-j.invariant
 
 pub returns-clause-bits : goal.returns-clause-bits
 returns-clause-bits c =
-    let bits = c.args.bits.now in
+    let bits = c.args.bits.now.bits in
     let ps = c.args.positions.now in
     packed_all c.loop-i.out (map (bit_of_position bits) ps) (length ps) (length-map ps (bit_of_position bits))
     (λ k h. c.loop-i.invariant k (omega arith) ∙ sym (get_or-map (bit_of_position bits) ps k 0 _ h))

@@ -1,7 +1,7 @@
 use Rattle.vx_base.proofs.Packing.{bytes_front}
 use Rattle.std.proofs.Common.{ℕ, ◌≡◌, ◌+◌, ◌*◌, ◌/◌, List, length, take, drop, sym, ap, ◌∙◌, arith}
 use lib.Lanes.{mask_l}
-use Rattle.vx_base.specs.Bits.{byte_from}
+use Rattle.vx_base.specs.Bits.{byte_from, bits_of}
 use Rattle.vx_base.proofs.PackedBits.{length_unpacked}
 use Rattle.vx_base.proofs.SameBits.{byte_of_part, same_more, same_byte}
 use Rattle.vx_base.proofs.bit_buffer.BitBuffer.same_bytes.Goals as goal
@@ -10,40 +10,40 @@ pub returns-then-byte_from : goal.returns-then-byte_from
 returns-then-byte_from c =
     let s = c.self.inside in
     let o = c.other.inside in
-    let xs = c.args.self.now in
-    let ys = c.args.other.now in
+    let xs = c.args.self.now.bits in
+    let ys = c.args.other.now.bits in
     let j = c.loop-j.j in
-    let long : length xs ≡ s.len = rw (← c.self.view_is) (length_unpacked s.bytes s.offset s.len) in
-    let wide : length ys ≡ o.len = rw (← c.other.view_is) (length_unpacked o.bytes o.offset o.len) in
+    let long : length xs ≡ s.len = rw (← (ap bits_of c.self.view_is)) (length_unpacked s.bytes s.offset s.len) in
+    let wide : length ys ≡ o.len = rw (← (ap bits_of c.other.view_is)) (length_unpacked o.bytes o.offset o.len) in
     let left : c.byte_from.result ≡ mask_l (take 8 (drop (8 * j) xs)) =
-    rw (← c.self.view_is) (c.byte_from.ensures ∙ ap (λ (bytes : List ℕ). byte_from bytes (s.offset + 8 * j)) c.as_slice-mine.ensures.value ∙ byte_of_part s.bytes s.offset s.len (8 * j) (omega arith)) in
+    rw (← (ap bits_of c.self.view_is)) (c.byte_from.ensures ∙ ap (λ (bytes : List ℕ). byte_from bytes (s.offset + 8 * j)) c.as_slice-mine.ensures.value ∙ byte_of_part s.bytes s.offset s.len (8 * j) (omega arith)) in
     let right : c.byte_from-in-loop-j.result ≡ mask_l (take 8 (drop (8 * j) ys)) =
-    rw (← c.other.view_is) (c.byte_from-in-loop-j.ensures ∙ ap (λ (bytes : List ℕ). byte_from bytes (o.offset + 8 * j)) c.as_slice-theirs.ensures.value ∙ byte_of_part o.bytes o.offset o.len (8 * j) (omega arith)) in
+    rw (← (ap bits_of c.other.view_is)) (c.byte_from-in-loop-j.ensures ∙ ap (λ (bytes : List ℕ). byte_from bytes (o.offset + 8 * j)) c.as_slice-theirs.ensures.value ∙ byte_of_part o.bytes o.offset o.len (8 * j) (omega arith)) in
     (λ h. absurd (cc), λ e. absurd (c.if-byte_from.true (left ∙ same_byte xs ys j (length xs / 8) (omega arith) e ∙ sym right)))
 
 pub loop-j-preserved : goal.loop-j-preserved
 loop-j-preserved c =
     let s = c.self.inside in
     let o = c.other.inside in
-    let xs = c.args.self.now in
-    let ys = c.args.other.now in
+    let xs = c.args.self.now.bits in
+    let ys = c.args.other.now.bits in
     let j = c.loop-j.j in
-    let long : length xs ≡ s.len = rw (← c.self.view_is) (length_unpacked s.bytes s.offset s.len) in
-    let wide : length ys ≡ o.len = rw (← c.other.view_is) (length_unpacked o.bytes o.offset o.len) in
+    let long : length xs ≡ s.len = rw (← (ap bits_of c.self.view_is)) (length_unpacked s.bytes s.offset s.len) in
+    let wide : length ys ≡ o.len = rw (← (ap bits_of c.other.view_is)) (length_unpacked o.bytes o.offset o.len) in
     let left : c.byte_from.result ≡ mask_l (take 8 (drop (8 * j) xs)) =
-    rw (← c.self.view_is) (c.byte_from.ensures ∙ ap (λ (bytes : List ℕ). byte_from bytes (s.offset + 8 * j)) c.as_slice-mine.ensures.value ∙ byte_of_part s.bytes s.offset s.len (8 * j) (omega arith)) in
+    rw (← (ap bits_of c.self.view_is)) (c.byte_from.ensures ∙ ap (λ (bytes : List ℕ). byte_from bytes (s.offset + 8 * j)) c.as_slice-mine.ensures.value ∙ byte_of_part s.bytes s.offset s.len (8 * j) (omega arith)) in
     let right : c.byte_from-in-loop-j.result ≡ mask_l (take 8 (drop (8 * j) ys)) =
-    rw (← c.other.view_is) (c.byte_from-in-loop-j.ensures ∙ ap (λ (bytes : List ℕ). byte_from bytes (o.offset + 8 * j)) c.as_slice-theirs.ensures.value ∙ byte_of_part o.bytes o.offset o.len (8 * j) (omega arith)) in
+    rw (← (ap bits_of c.other.view_is)) (c.byte_from-in-loop-j.ensures ∙ ap (λ (bytes : List ℕ). byte_from bytes (o.offset + 8 * j)) c.as_slice-theirs.ensures.value ∙ byte_of_part o.bytes o.offset o.len (8 * j) (omega arith)) in
     same_more xs ys j (omega arith) (omega arith) c.loop-j.invariant (sym left ∙ c.if-byte_from.false ∙ right)
 
 pub returns-then-other-eq0 : goal.returns-then-other-eq0
 returns-then-other-eq0 c =
     let s = c.self.inside in
     let o = c.other.inside in
-    let xs = c.args.self.now in
-    let ys = c.args.other.now in
-    let long : length xs ≡ s.len = rw (← c.self.view_is) (length_unpacked s.bytes s.offset s.len) in
-    let wide : length ys ≡ o.len = rw (← c.other.view_is) (length_unpacked o.bytes o.offset o.len) in
-    let left = bytes_front c.as_slice-mine.result.now xs s.offset s.len (s.len / 8) (rw c.as_slice-mine.ensures.value c.self.view_is) c.if-self-eq0.true (omega arith) in
-    let right = bytes_front c.as_slice-theirs.result.now ys o.offset o.len (s.len / 8) (rw c.as_slice-theirs.ensures.value c.other.view_is) c.if-other-eq0.true (omega arith) in
+    let xs = c.args.self.now.bits in
+    let ys = c.args.other.now.bits in
+    let long : length xs ≡ s.len = rw (← (ap bits_of c.self.view_is)) (length_unpacked s.bytes s.offset s.len) in
+    let wide : length ys ≡ o.len = rw (← (ap bits_of c.other.view_is)) (length_unpacked o.bytes o.offset o.len) in
+    let left = bytes_front c.as_slice-mine.result.now xs s.offset s.len (s.len / 8) (rw c.as_slice-mine.ensures.value (ap bits_of c.self.view_is)) c.if-self-eq0.true (omega arith) in
+    let right = bytes_front c.as_slice-theirs.result.now ys o.offset o.len (s.len / 8) (rw c.as_slice-theirs.ensures.value (ap bits_of c.other.view_is)) c.if-other-eq0.true (omega arith) in
     rw long (rw (left, right) at c.same_whole.ensures)

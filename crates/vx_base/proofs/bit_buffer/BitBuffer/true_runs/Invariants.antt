@@ -6,10 +6,10 @@ use Rattle.vx_base.proofs.bit_buffer.BitBuffer.true_runs.Given as goal
 abbrev pub invariant-loop-start : goal.invariant-loop-start
 invariant-loop-start l =
     record {
-      within : l.start ≤ length l.self;
-      found : l.start < length l.self → bool_at l.self l.start ≢ false;
-      held : HoldTrues l.self l.start l.runs.items;
+      within : l.start ≤ length l.self.bits;
+      found : l.start < length l.self.bits → bool_at l.self.bits l.start ≢ false;
+      held : HoldTrues l.self.bits l.start l.runs.items;
     }
 
 abbrev pub decreases-loop-start : goal.decreases-loop-start
-decreases-loop-start l = length l.self - l.start
+decreases-loop-start l = length l.self.bits - l.start
