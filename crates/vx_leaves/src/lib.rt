@@ -2,6 +2,7 @@
 #![tactic(auto)]
 
 mod bool_array;
+pub mod laws;
 mod primitive_array;
 
 pub use crate::bool_array::BoolArray;

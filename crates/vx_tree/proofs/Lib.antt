@@ -1,4 +1,5 @@
 pub mod Masks
+pub mod RowLists
 pub mod Positions
 pub mod Sliced
 pub mod Selected

@@ -10,6 +10,7 @@ mod layouts;
 mod mask;
 mod nulls;
 mod read;
+pub mod row_laws;
 mod select;
 mod slice;
 mod take;
