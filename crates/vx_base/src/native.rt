@@ -229,7 +229,8 @@ impl NativePType for i64 {
 }
 
 /// Calls a function at the number type of Rust that a `PType` stands for: of `PType::U16`,
-/// `call_native!(ptype, read(bytes))` is `read::<u16>(bytes)`.
+/// `call_native!(ptype, read(bytes))` is `read::<u16>(bytes)`, and of a function of two types
+/// `call_native!(ptype, read::<T>(bytes))` is `read::<T, u16>(bytes)`.
 #[macro_export]
 macro_rules! call_native {
     ($ptype:expr, $function:ident($($argument:expr),*)) => {
@@ -242,6 +243,18 @@ macro_rules! call_native {
             $crate::PType::I16 => $function::<i16>($($argument),*),
             $crate::PType::I32 => $function::<i32>($($argument),*),
             $crate::PType::I64 => $function::<i64>($($argument),*),
+        }
+    };
+    ($ptype:expr, $function:ident::<$first:ident>($($argument:expr),*)) => {
+        match $ptype {
+            $crate::PType::U8 => $function::<$first, u8>($($argument),*),
+            $crate::PType::U16 => $function::<$first, u16>($($argument),*),
+            $crate::PType::U32 => $function::<$first, u32>($($argument),*),
+            $crate::PType::U64 => $function::<$first, u64>($($argument),*),
+            $crate::PType::I8 => $function::<$first, i8>($($argument),*),
+            $crate::PType::I16 => $function::<$first, i16>($($argument),*),
+            $crate::PType::I32 => $function::<$first, i32>($($argument),*),
+            $crate::PType::I64 => $function::<$first, i64>($($argument),*),
         }
     };
 }

@@ -1,7 +1,6 @@
 //! Columns of lists: the one layout that rows of lists fix, and list view arrays.
 #![tactic(auto)]
 
-mod by_type;
 mod count_arrays;
 pub mod laws;
 mod list_checks;

@@ -7,9 +7,8 @@ ghost use Rattle.vx_tree.specs.Formed.{IsCounts, IsConsecutive};
 ghost use Rattle.vx_tree.specs.Tree.{primitive, non_nullable};
 ghost use Rattle.vx_lists.specs.ListViewFaults.{list_rows_fault};
 
-use crate::by_type::by_type;
 use crate::list_checks::check_list_row;
-use vx_base::{NativePType, PType, VortexError, int_at, number_count};
+use vx_base::{NativePType, PType, VortexError, call_native, int_at, number_count};
 
 /// Refuses the first row that is negative, or ends past every usize or past `count` elements.
 pub(crate) fn check_number_rows(
@@ -26,7 +25,7 @@ pub(crate) fn check_number_rows(
     ensures offsets { IfOk result (λ _. IsCounts (primitive offset_type offsets.now non_nullable)) }
     ensures sizes { IfOk result (λ _. IsCounts (primitive size_type sizes.now non_nullable)) }
 {
-    by_type!(
+    call_native!(
         offset_type,
         check_rows_from(count, offsets, size_type, sizes)
     )
@@ -46,7 +45,7 @@ fn check_rows_from<O: NativePType>(
     ensures offsets { IfOk result (λ _. IsCounts (primitive O.PTYPE offsets.now non_nullable)) }
     ensures sizes { IfOk result (λ _. IsCounts (primitive size_type sizes.now non_nullable)) }
 {
-    by_type!(size_type, check_typed_rows::<O>(count, offsets, sizes))
+    call_native!(size_type, check_typed_rows::<O>(count, offsets, sizes))
 }
 
 // The same for offsets of one type and sizes of another: a loop by itself, whose numbers stay in registers.
@@ -85,7 +84,7 @@ pub(crate) fn are_number_rows_consecutive(
         let s = primitive size_type sizes.now non_nullable in
         IsTrue result ↔ IsConsecutive o s }
 {
-    by_type!(offset_type, are_consecutive_from(offsets, size_type, sizes))
+    call_native!(offset_type, are_consecutive_from(offsets, size_type, sizes))
 }
 
 // The same for offsets of one type.
@@ -97,7 +96,7 @@ fn are_consecutive_from<O: NativePType>(offsets: &[u8], size_type: PType, sizes:
         let s = primitive size_type sizes.now non_nullable in
         IsTrue result ↔ IsConsecutive o s }
 {
-    by_type!(size_type, are_typed_consecutive::<O>(offsets, sizes))
+    call_native!(size_type, are_typed_consecutive::<O>(offsets, sizes))
 }
 
 // The same for offsets of one type and sizes of another.

@@ -10,9 +10,10 @@ ghost use Rattle.vx_lists.specs.CountBytes.{counts_of, numbers_before, AreCountB
 ghost use Rattle.vx_lists.specs.ListLayout.{joined_positions, starts_from, valid_sizes, valid_total};
 ghost use Rattle.vx_lists.specs.ListViews.{rebuilt_offset_ptype};
 
-use crate::by_type::by_type;
 use std::alloc::Global;
-use vx_base::{ByteBuffer, Mask, NativePType, PType, VortexError, int_at, number_count, put_int};
+use vx_base::{
+    ByteBuffer, Mask, NativePType, PType, VortexError, call_native, int_at, number_count, put_int,
+};
 
 /// The offsets of a list view and the sizes of its valid rows, 0 at null rows, as bytes of their
 /// types, and how many elements these rows have in all.
@@ -71,7 +72,7 @@ pub(crate) fn valid_total(ptype: PType, sizes: &[u8], mask: &Mask) -> u128
     requires same_len { length mask.now ≡ length (numbers ptype sizes.now) }
     ensures { result ≡ valid_total (counts_of ptype sizes.now) mask.now }
 {
-    by_type!(ptype, typed_total(sizes, mask))
+    call_native!(ptype, typed_total(sizes, mask))
 }
 
 #[inline(never)]
@@ -107,7 +108,7 @@ pub(crate) fn valid_sizes(
     if mask.all_true() {
         return Ok(sizes.try_clone(alloc)?);
     }
-    by_type!(ptype, typed_sizes(alloc, sizes.as_slice(), mask))
+    call_native!(ptype, typed_sizes(alloc, sizes.as_slice(), mask))
 }
 
 fn typed_sizes<S: NativePType>(
@@ -156,7 +157,7 @@ pub(crate) fn list_starts(
     ensures { Gives result (λ b.
         HoldCounts start_type b (starts_from 0 (counts_of size_type sizes.now))) }
 {
-    by_type!(start_type, starts_of(alloc, size_type, sizes))
+    call_native!(start_type, starts_of(alloc, size_type, sizes))
 }
 
 fn starts_of<O: NativePType>(
@@ -169,7 +170,7 @@ fn starts_of<O: NativePType>(
     ensures { Gives result (λ b.
         HoldCounts O.PTYPE b (starts_from 0 (counts_of size_type sizes.now))) }
 {
-    by_type!(size_type, typed_starts::<O>(alloc, sizes))
+    call_native!(size_type, typed_starts::<O>(alloc, sizes))
 }
 
 fn typed_starts<O: NativePType, S: NativePType>(
@@ -222,7 +223,7 @@ pub(crate) fn element_runs(
     ensures { Gives result (λ runs. flat_map run_positions runs.items
         ≡ joined_positions (counts_of offset_type offsets.now) (counts_of size_type sizes.now)) }
 {
-    by_type!(offset_type, runs_from(alloc, offsets, size_type, sizes))
+    call_native!(offset_type, runs_from(alloc, offsets, size_type, sizes))
 }
 
 fn runs_from<O: NativePType>(
@@ -241,7 +242,7 @@ fn runs_from<O: NativePType>(
     ensures { Gives result (λ runs. flat_map run_positions runs.items
         ≡ joined_positions (counts_of O.PTYPE offsets.now) (counts_of size_type sizes.now)) }
 {
-    by_type!(size_type, typed_runs::<O>(alloc, offsets, sizes))
+    call_native!(size_type, typed_runs::<O>(alloc, offsets, sizes))
 }
 
 #[inline(never)]

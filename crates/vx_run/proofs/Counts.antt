@@ -63,13 +63,3 @@ part-not_negative a t start n part h = λ i d inside.
     let count : get_or (numbers t part) i (pos 0) ≡ pos (count_in (row_at a (start + i))) = h.each i (omega (arith, h.len)) in
     let least : pos 0 ≤ℤ pos (count_in (row_at a (start + i))) = omega (arith, ints) in
     subst (λ z. pos 0 ≤ℤ z) (sym count ∙ get_or_default (numbers t part) i (pos 0) d inside) least
-
-pub counts-of_part : (a : Tree) (t : PType) (start n : ℕ) (part counts : List ℕ) → IsCountPart a t start n part → map pos counts ≡ numbers t part → AreCountsFrom a start n counts
-counts-of_part a t start n part counts h read =
-    let len : length counts ≡ n = sym (length-map counts pos) ∙ ap length read ∙ h.len in
-    record {
-      len = len;
-      each = λ i inside.
-          let count : pos (get_or counts i 0) ≡ pos (count_in (row_at a (start + i))) =
-          sym (get_or-map pos counts i 0 (pos 0) (omega (arith, len))) ∙ ap (λ zs. get_or zs i (pos 0)) read ∙ h.each i inside in cc;
-    }

@@ -11,8 +11,8 @@ ghost use Rattle.vx_run.specs.Shown.{AreCountsFrom};
 
 use std::alloc::Global;
 use vx_base::{
-    BitBuffer, Buffer, ByteBuffer, Mask, NativePType, PType, Scalar, VortexError, read_counts,
-    slice_numbers,
+    BitBuffer, Buffer, ByteBuffer, Mask, NativePType, PType, Scalar, VortexError, call_native,
+    read_counts, slice_numbers,
 };
 use vx_tree::{ArrayRef, Layout, Validity};
 
@@ -100,16 +100,7 @@ fn show_numbers(
 ) -> Result<(), VortexError>
     requires { length (numbers ptype bytes.now) ≡ length mask.now }
 {
-    match ptype {
-        PType::U8 => show_native::<u8>(alloc, bytes, mask, text),
-        PType::U16 => show_native::<u16>(alloc, bytes, mask, text),
-        PType::U32 => show_native::<u32>(alloc, bytes, mask, text),
-        PType::U64 => show_native::<u64>(alloc, bytes, mask, text),
-        PType::I8 => show_native::<i8>(alloc, bytes, mask, text),
-        PType::I16 => show_native::<i16>(alloc, bytes, mask, text),
-        PType::I32 => show_native::<i32>(alloc, bytes, mask, text),
-        PType::I64 => show_native::<i64>(alloc, bytes, mask, text),
-    }
+    call_native!(ptype, show_native(alloc, bytes, mask, text))
 }
 
 fn show_native<T: NativePType + Drop>(

@@ -13,7 +13,7 @@ ghost use Rattle.vx_tree.specs.Operations.{IsPosition, ArePositions, masked_numb
 
 use crate::array::{ArrayRef, Layout};
 use std::alloc::Global;
-use vx_base::{Mask, NativePType, PType, VortexError, int_at};
+use vx_base::{Mask, NativePType, PType, VortexError, call_native, int_at};
 
 impl ArrayRef {
     // The positions that the rows name, each below `len`, with 0 for a null row, or the first fault
@@ -79,16 +79,7 @@ fn masked_positions(
     ensures ok { IfOk result (λ ps. ArePositions (masked_numbers ptype bytes.now mask.now) len ps.items) }
     ensures refuses { Refuses result (indices_fault len (masked_numbers ptype bytes.now mask.now)) }
 {
-    match ptype {
-        PType::U8 => typed_positions::<u8>(alloc, bytes, mask, len),
-        PType::U16 => typed_positions::<u16>(alloc, bytes, mask, len),
-        PType::U32 => typed_positions::<u32>(alloc, bytes, mask, len),
-        PType::U64 => typed_positions::<u64>(alloc, bytes, mask, len),
-        PType::I8 => typed_positions::<i8>(alloc, bytes, mask, len),
-        PType::I16 => typed_positions::<i16>(alloc, bytes, mask, len),
-        PType::I32 => typed_positions::<i32>(alloc, bytes, mask, len),
-        PType::I64 => typed_positions::<i64>(alloc, bytes, mask, len),
-    }
+    call_native!(ptype, typed_positions(alloc, bytes, mask, len))
 }
 
 // The same for numbers of one type.

@@ -110,16 +110,6 @@ pub record HasRoom (start limit : ℕ) (heap lens : List ℕ) (k : ℕ) (buffers
   pub number_is : number ≡ start + length ends
   pub placed : ArePlaced start heap lens ends (sum (take (k + 1) lens)) k views
 
-pub IsCutting-start : (start limit : ℕ) (heap lens : List ℕ) → IsCutting start limit heap lens 0 [] [] start 0 0
-IsCutting-start start limit heap lens = record {
-  ends = [];
-  opened = record { pieces = refl; longest = tt; low = omega arith; high = omega arith };
-  buffers_are = refl;
-  number_is = omega arith;
-  at_is = refl;
-  placed = record { count = refl; each = λ k h. absurd (omega arith) };
-}
-
 pub HasRoom-keep : (start limit : ℕ) (heap lens : List ℕ) (k : ℕ) (buffers views : List (List ℕ)) (number begin at : ℕ) → IsCutting start limit heap lens k buffers views number begin at → k < length lens → at - begin + get_or lens k 0 ≤ limit → HasRoom start limit heap lens k buffers views number begin
 HasRoom-keep start limit heap lens k buffers views number begin at w k_in fits =
     let more = sum_more lens k k_in in

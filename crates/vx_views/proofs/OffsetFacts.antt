@@ -197,9 +197,6 @@ past_heap-none heap_len offsets h = ap (λ t. if t then None else Some (out_of_b
 past_heap-some : (heap_len : ℕ) (offsets : List ℤ) → heap_len < last_offset offsets → past_heap_fault heap_len offsets ≡ Some (out_of_bounds (last_offset offsets))
 past_heap-some heap_len offsets h = ap (λ t. if t then None else Some (out_of_bounds (last_offset offsets))) (lt-leb (last_offset offsets) heap_len h)
 
-pub offsets_fault-natural : (limit heap_len : ℕ) (offsets : List ℤ) → 0 < length offsets → offsets_fault limit heap_len offsets ≡ or_else (first_negative offsets) (or_else (first_falling offsets) (or_else (past_heap_fault heap_len offsets) (first_too_long limit (differences offsets))))
-offsets_fault-natural limit heap_len offsets some = rw (no_offset-none offsets some) refl
-
 pub offsets_fault-past : (limit heap_len : ℕ) (offsets : List ℤ) (n : ℕ) → 0 < length offsets → first_negative offsets ≡ None → first_falling offsets ≡ None → last_offset offsets ≡ n → heap_len < n → offsets_fault limit heap_len offsets ≡ Some (out_of_bounds n)
 offsets_fault-past limit heap_len offsets n some a b is past =
     rw (no_offset-none offsets some, a, b, past_heap-some heap_len offsets (omega arith)) (ap (λ m. Some (out_of_bounds m)) is)

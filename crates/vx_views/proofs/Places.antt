@@ -118,13 +118,6 @@ head_of_long value long h =
     ap (λ (bytes : List ℕ). from_le_bytes w64 (to_le_bytes w32 (length value) ++ bytes)) (long_prefix value long)
     ∙ ap (λ (n : ℕ). from_le_bytes w64 (to_le_bytes w32 n ++ prefix_of value)) (within (length value) (omega arith))
 
-pub size_of_view : (value : List ℕ) (block offset : ℕ) → length value < 2 ^ 32 → view_size (view_of value block offset) ≡ length value
-size_of_view value block offset h = by_length (cases_lt MAX_INLINED_SIZE (length value))
-  where
-    by_length : (MAX_INLINED_SIZE < length value) ⊎ (length value ≤ MAX_INLINED_SIZE) → view_size (view_of value block offset) ≡ length value
-    by_length (inl long) = ap view_size (view_of_long value block offset long) ∙ size_of_ref (length value) block offset (take 4 value) (four_long value long) h
-    by_length (inr short) = ap view_size (view_of_short value block offset short) ∙ size_of_inlined value h
-
 pub head_of_view : (value : List ℕ) (block offset : ℕ) → length value < 2 ^ 32 → view_head (view_of value block offset) ≡ head_of value
 head_of_view value block offset h = by_length (cases_lt MAX_INLINED_SIZE (length value))
   where
