@@ -1,60 +1,22 @@
 -- What it means that no fault stands in the parts of a list view, and which fault is the first.
-use Rattle.std.proofs.Common.{◌≡◌, ℕ, zero, suc, ◌+◌, ◌^◌, ◌<◌, ◌≤◌, Bool, true, false, cond, eqb, leb, ltb, below_more, Option, Some, None, refl, sym, ◌∙◌, ap, subst, add-one, ⊎_elim, Result, Ok, Err, to_z, of_z, rules, arith}
+use Rattle.std.proofs.Common.{◌≡◌, ℕ, ◌+◌, ◌^◌, ◌<◌, ◌≤◌, Bool, true, false, cond, eqb, leb, ltb, below_more, Option, Some, None, refl, sym, ◌∙◌, ap, subst, Result, Ok, Err, to_z, of_z, arith}
 use Rattle.std.specs.Prelude.{ℤ, pos, negsuc, IsSome, IfSome, unwrap_or, OnOk}
 use Rattle.std.specs.Int.{w128}
-use Rattle.std.proofs.lemmas.Int.{ints, to_z-of_z}
-use Rattle.std.proofs.lemmas.Bool.{eqb-true, leb-true, cases_lt, false≢true}
+use Rattle.std.proofs.lemmas.Bool.{eqb-true, leb-true, false≢true}
+use Rattle.vx_base.proofs.FirstFaults.{or_else-none, first_fault-none_at, first_fault-found, first_fault-next}
 use Rattle.vx_base.specs.declared.errors.VortexError.{VortexError}
 use Rattle.vx_base.specs.declared.ptypes.PType.{PType}
-use Rattle.vx_base.specs.declared.ptypes.PType.TheVariants.{U8, U16, U32, U64, I8, I16, I32, I64}
 use Rattle.vx_base.specs.Integers.{Holds}
-use Rattle.vx_base.specs.Refusals.{Refusal, Names, Tests, or_else, first_fault}
+use Rattle.vx_base.specs.Refusals.{Refusal, refusal_of, Names, Tests, or_else, first_fault}
 use Rattle.vx_base.specs.Rows.{Row, null, boolean, whole, bytes, text, items, record_of, number_in, count_in}
-use Rattle.vx_base.specs.Kinds.{Kind, booleans, integers, texts, binaries, lists, fixed_lists, records, is_plain_booleans, is_plain_integers}
-use Rattle.vx_tree.specs.Tree.{Tree, list_view, Valid, non_nullable, all_valid, all_invalid, by_array}
+use Rattle.vx_base.specs.Kinds.{is_plain_integers}
+use Rattle.vx_tree.specs.Tree.{Tree, list_view, Valid}
 use Rattle.vx_tree.specs.Meaning.{tree_len, kind_of, row_at}
 use Rattle.vx_tree.specs.Formed.{IsCounts, ValidFits, WellFormed}
 use Rattle.vx_tree.specs.Faults.{valid_type_fault, valid_len_fault}
+use Rattle.vx_tree.proofs.Positions.{number_passed}
+use Rattle.vx_tree.proofs.RowLists.{faultless_fits}
 use Rattle.vx_lists.specs.ListViewFaults.{list_row_fault, count_type_fault, whole_at, sizes_len_fault, list_parts_fault, list_rows_fault}
-
--- ---- first faults
-
-pub or_else-none : (a b : Option Refusal) → or_else a b ≡ None → (a ≡ None) × (b ≡ None)
-or_else-none None b none = (refl, none)
-or_else-none (Some r) b none = cc
-
-pub or_else-first : (a b : Option Refusal) → IsSome a → or_else a b ≡ a
-or_else-first None b some = cc
-or_else-first (Some r) b some = refl
-
--- a fault that an error names stands
-Names-stands : (a : Option Refusal) (e : VortexError) → Names a e → IsSome a
-Names-stands a e names = subst (λ f. IsSome f) (sym names.1) names.0
-
-pub Names-or_else_first : (a b : Option Refusal) (e : VortexError) → Names a e → Names (or_else a b) e
-Names-or_else_first a b e names = subst (λ f. Names f e) (sym (or_else-first a b (Names-stands a e names))) names
-
-pub Names-or_else_second : (a b : Option Refusal) (e : VortexError) → a ≡ None → Names b e → Names (or_else a b) e
-Names-or_else_second a b e none names = rw none names
-
-first_fault-none_at : (fault : ℕ → Option Refusal) (n i : ℕ) → first_fault fault n ≡ None → i < n → fault i ≡ None
-first_fault-none_at fault zero i none inside = absurd (omega arith)
-first_fault-none_at fault (suc n) i none inside =
-    let both = or_else-none (first_fault fault n) (fault n) none in
-    ⊎_elim (λ (below : i < n). first_fault-none_at fault n i both.0 below) (λ (above : n ≤ i). let here : i ≡ n = omega arith in ap fault here ∙ both.1) (cases_lt i n)
-
-first_fault-found : (fault : ℕ → Option Refusal) (n i : ℕ) → first_fault fault i ≡ None → IsSome (fault i) → i < n → first_fault fault n ≡ fault i
-first_fault-found fault zero i none some inside = absurd (omega arith)
-first_fault-found fault (suc n) i none some inside =
-    ⊎_elim
-    (λ (below : i < n).
-    let found = first_fault-found fault n i none some below in
-    let there : IsSome (first_fault fault n) = subst (λ f. IsSome f) (sym found) some in
-    or_else-first (first_fault fault n) (fault n) there ∙ found)
-    (λ (above : n ≤ i).
-    let here : n ≡ i = omega arith in
-    ap (λ f. or_else f (fault n)) (ap (first_fault fault) here ∙ none) ∙ ap fault here)
-    (cases_lt i n)
 
 -- ---- rows without a fault
 
@@ -99,40 +61,22 @@ module _ (count : ℕ) (o s : Tree) (n : ℕ) (offset size : ℤ) (checked : Are
   AreChecked-more none =
       let counts = list_row-not_negative count n offset size none in
       record {
-        none = rw add-one (ap (λ f. or_else f (list_row_fault count n (whole_at o n) (whole_at s n))) checked.none ∙ fault_is ∙ none);
+        none = first_fault-next (λ i. list_row_fault count i (whole_at o i) (whole_at s i)) n checked.none (fault_is ∙ none);
         offsets = AreCountsBelow-more o n checked.offsets (count_row (row_at o n) offset counts.0 offset_is counts.2);
         sizes = AreCountsBelow-more s n checked.sizes (count_row (row_at s n) size counts.1 size_is counts.3);
       }
 
   pub AreChecked-fault : (e : VortexError) → n < tree_len o → Names (list_row_fault count n offset size) e → Names (list_rows_fault count o s) e
   AreChecked-fault e inside names =
-      let names_here : Names (list_row_fault count n (whole_at o n) (whole_at s n)) e = subst (λ f. Names f e) (sym fault_is) names in
-      subst (λ f. Names f e) (sym (first_fault-found (λ i. list_row_fault count i (whole_at o i) (whole_at s i)) (tree_len o) n checked.none (Names-stands (list_row_fault count n (whole_at o n) (whole_at s n)) e names_here) inside)) names_here
+      let here : list_row_fault count n (whole_at o n) (whole_at s n) ≡ refusal_of e = fault_is ∙ names.1 in
+      let stands : IsSome (list_row_fault count n (whole_at o n) (whole_at s n)) = subst (λ f. IsSome f) (sym here) names.0 in
+      (names.0, first_fault-found (λ i. list_row_fault count i (whole_at o i) (whole_at s i)) (tree_len o) n checked.none stands inside ∙ here)
 
 -- ---- parts without a fault
-
-plain_booleans : (k : Kind) → is_plain_booleans k ≡ true → k ≡ booleans false
-plain_booleans (booleans true) plain = cc
-plain_booleans (booleans false) plain = refl
-plain_booleans (integers t n) plain = cc
-plain_booleans (texts n) plain = cc
-plain_booleans (binaries n) plain = cc
-plain_booleans (lists k n) plain = cc
-plain_booleans (fixed_lists k size n) plain = cc
-plain_booleans (records names ks n) plain = cc
 
 pub passed : (b : Bool) (r : Refusal) → cond b None (Some r) ≡ None → b ≡ true
 passed true r none = refl
 passed false r none = cc
-
-valid_fits : (v : Valid) (n : ℕ) → valid_type_fault v ≡ None → valid_len_fault v n ≡ None → ValidFits v n
-valid_fits non_nullable n type_none len_none = tt
-valid_fits all_valid n type_none len_none = tt
-valid_fits all_invalid n type_none len_none = tt
-valid_fits (by_array t) n type_none len_none = record {
-  len = eqb-true (tree_len t) n (passed (eqb (tree_len t) n) _ len_none);
-  kind = plain_booleans (kind_of t) (passed (is_plain_booleans (kind_of t)) _ type_none);
-}
 
 pub record ArePartsChecked (o s : Tree) (v : Valid) : Type 0 where
   pub offsets : is_plain_integers (kind_of o) ≡ true
@@ -150,7 +94,7 @@ parts_checked o s v none =
       offsets = passed (is_plain_integers (kind_of o)) _ offsets.0;
       sizes = passed (is_plain_integers (kind_of s)) _ sizes.0;
       same_len = eqb-true (tree_len s) (tree_len o) (passed (eqb (tree_len s) (tree_len o)) _ lens.0);
-      validity = valid_fits v (tree_len o) validity.0 lens.1;
+      validity = faultless_fits v (tree_len o) (ap (λ f. or_else f (valid_len_fault v (tree_len o))) validity.0 ∙ lens.1);
     }
 
 whole_at-count : (t : Tree) (i : ℕ) → row_at t i ≡ whole (pos (count_in (row_at t i))) → whole_at t i ≡ pos (count_in (row_at t i))
@@ -178,18 +122,7 @@ list_view_formed e o s v parts offsets sizes none = (
 
 -- ---- passing numbers and facts on
 
--- a number of an integer type is passed to a function as it is
-pub number_passed : (t : PType) (z : ℤ) → Holds t z → to_z w128 (of_z w128 z) ≡ z
-number_passed U8 z held = to_z-of_z w128 z (search (rules, ints))
-number_passed U16 z held = to_z-of_z w128 z (search (rules, ints))
-number_passed U32 z held = to_z-of_z w128 z (search (rules, ints))
-number_passed U64 z held = to_z-of_z w128 z (search (rules, ints))
-number_passed I8 z held = to_z-of_z w128 z (search (rules, ints))
-number_passed I16 z held = to_z-of_z w128 z (search (rules, ints))
-number_passed I32 z held = to_z-of_z w128 z (search (rules, ints))
-number_passed I64 z held = to_z-of_z w128 z (search (rules, ints))
-
--- so is one that a reader found
+-- a number that a reader found is passed to a function as it is
 pub found_passed : (t : PType) (read : Option ℤ) (z : ℤ) → read ≡ Some z → IfSome read (Holds t) → to_z w128 (of_z w128 z) ≡ z
 found_passed t read z found held = number_passed t z (subst (λ r. IfSome r (Holds t)) found held)
 

@@ -20,7 +20,8 @@ use Rattle.vx_lists.specs.ListViewFaults.{total_fault, rebuilt_total_fault, rebu
 use Rattle.vx_lists.proofs.CountBytes.{counts_of-held, held_are_counts, length-held}
 use Rattle.vx_lists.proofs.CountArrays.{count_array_of_numbers}
 use Rattle.vx_lists.proofs.ListFaults.{passed}
-use Rattle.vx_lists.proofs.ViewLayouts.{length-rows, length-counts_in, get_or-counts_in, length-valid_mask, layout_well_formed}
+use Rattle.vx_tree.proofs.RowLists.{length-rows, length-valid_mask}
+use Rattle.vx_lists.proofs.ViewLayouts.{length-counts_in, get_or-counts_in, layout_well_formed}
 use Rattle.vx_lists.proofs.PlannedNumbers.{Holds-below, map-size_of-position_rows}
 use Rattle.vx_lists.proofs.PlannedRows.{get_or-valid_sizes, length-valid_sizes, joined_positions-valid, length-joined_positions}
 use Rattle.vx_lists.proofs.RebuiltViews.{planned_below, rebuilt_formed, rebuilt_view}

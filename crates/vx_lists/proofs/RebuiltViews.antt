@@ -17,7 +17,8 @@ use Rattle.vx_lists.proofs.CanonicalRows.{canonical_well_formed, rows_of-canonic
 use Rattle.vx_lists.proofs.TidyLayouts.{canonical_tidy}
 use Rattle.vx_lists.proofs.PlannedNumbers.{planned_is_canonical, map-size_of-position_rows}
 use Rattle.vx_lists.proofs.PlannedRows.{length-valid_sizes}
-use Rattle.vx_lists.proofs.ViewLayouts.{length-rows, get_or-rows, length-counts_in, get_or-counts_in, layout_well_formed, rows_of-list_layout_of, same_rows_by_lists}
+use Rattle.vx_tree.proofs.RowLists.{length-rows, get_or-rows}
+use Rattle.vx_lists.proofs.ViewLayouts.{length-counts_in, get_or-counts_in, layout_well_formed, rows_of-list_layout_of, same_rows_by_lists}
 
 -- ---- the positions of a plan
 
@@ -64,7 +65,7 @@ rows-selected e ps r below selected =
     fill_by_all g (rows r) (length ps) null (length-rows r ∙ selected.len) each
     ∙ sym (fill_by_all g (map f ps) (length ps) null (length-map ps f) (λ i inside. refl))
 
-plain_kind : (k : Kind) → is_plain_integers k ≡ true → k ≡ integers (integer_type k) false
+pub plain_kind : (k : Kind) → is_plain_integers k ≡ true → k ≡ integers (integer_type k) false
 plain_kind (booleans n) plain = cc
 plain_kind (integers t true) plain = cc
 plain_kind (integers t false) plain = refl

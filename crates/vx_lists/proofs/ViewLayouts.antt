@@ -1,38 +1,28 @@
 -- What a list view stands for is what its layout of offsets, sizes, mask and elements has.
-use Rattle.std.proofs.Common.{◌≡◌, ℕ, zero, suc, ◌+◌, ◌<◌, ◌≤◌, Bool, true, false, cond, List, [], ◌∷◌, length, take, drop, map, get_or, Option, Some, None, refl, sym, ◌∙◌, ap, zero-add, add-one, arith}
+use Rattle.std.proofs.Common.{◌≡◌, ℕ, zero, suc, ◌+◌, ◌-◌, ◌<◌, ◌≤◌, Bool, true, false, cond, List, [], ◌∷◌, length, take, drop, map, get_or, Option, Some, None, refl, sym, ◌∙◌, ap, subst, zero-add, add-one, arith}
+use Rattle.std.specs.Prelude.{slice_range}
 use Rattle.std.specs.List.{range_with_len}
 use Rattle.std.proofs.lemmas.List.{length-map, take-map, drop-map, get_or-map}
 use Rattle.std.proofs.lemmas.Simd.{map-map}
-use Rattle.std.proofs.lemmas.List.FromFn.{fill_by_all, length-map-range_with_len, get_or-map-range_with_len}
+use Rattle.std.proofs.lemmas.List.FromFn.{fill_by_all}
 use Rattle.vx_base.proofs.ListParts.{map_range_same}
-use Rattle.vx_base.specs.Rows.{Row, null, items, Rows, no_rows, row, list_from, rows_from, list_in, count_in}
+use Rattle.vx_base.specs.Rows.{Row, null, items, Rows, no_rows, row, list_from, rows_from, list_in, count_in, is_present}
+use Rattle.vx_tree.proofs.RowLists.{length-rows, get_or-rows, length-valid_mask, get_or-valid_mask}
 use Rattle.vx_tree.specs.Tree.{Tree, bools, primitive, constant, dictionary, fixed_list, list_view, structure, view_array, Valid}
 use Rattle.vx_tree.specs.Layouts.{is_list_view}
 use Rattle.vx_tree.specs.Meaning.{tree_len, row_at, rows, rows_range, is_valid_at, valid_mask}
-use Rattle.vx_tree.specs.Formed.{IsListView}
-use Rattle.vx_lists.specs.ListLayout.{list_at, lists_at, rows_of, IsWellFormed}
+use Rattle.vx_tree.specs.Formed.{IsListView, WellFormed}
+use Rattle.vx_lists.specs.ListLayout.{list_at, lists_at, rows_of, IsWellFormed, StandsFor}
 use Rattle.vx_lists.specs.ListViews.{counts_in, list_layout_of, list_rows}
 use Rattle.vx_lists.proofs.MappedLayouts.{take-drop-range_with_len}
 
 -- ---- the lists over the rows of an array
-
-pub length-rows : (t : Tree) → length (rows t) ≡ tree_len t
-length-rows t = length-map-range_with_len (row_at t) 0 (tree_len t)
-
-pub get_or-rows : (t : Tree) (i : ℕ) (d : Row) → i < tree_len t → get_or (rows t) i d ≡ row_at t i
-get_or-rows t i d inside = get_or-map-range_with_len (row_at t) 0 (tree_len t) i i d inside (zero-add i)
 
 pub length-counts_in : (t : Tree) → length (counts_in t) ≡ tree_len t
 length-counts_in t = length-map (rows t) count_in ∙ length-rows t
 
 pub get_or-counts_in : (t : Tree) (i : ℕ) → i < tree_len t → get_or (counts_in t) i 0 ≡ count_in (row_at t i)
 get_or-counts_in t i inside = get_or-map count_in (rows t) i null 0 (omega (arith, length-rows t)) ∙ ap count_in (get_or-rows t i null inside)
-
-pub length-valid_mask : (v : Valid) (n : ℕ) → length (valid_mask v n) ≡ n
-length-valid_mask v n = length-map-range_with_len (is_valid_at v) 0 n
-
-pub get_or-valid_mask : (v : Valid) (n i : ℕ) → i < n → get_or (valid_mask v n) i false ≡ is_valid_at v i
-get_or-valid_mask v n i inside = get_or-map-range_with_len (is_valid_at v) 0 n i i false inside (zero-add i)
 
 -- the rows of an array from a start on, as a list
 list_from-rows_range : (f : ℕ → Row) (start n : ℕ) → list_from (rows_range f start n) ≡ map f (range_with_len start n)
@@ -89,11 +79,35 @@ module _ (e o s : Tree) (v : Valid) (f : Bool) (good : IsListView e o s f) where
       get_or-lists_at (rows e) (counts_in o) (counts_in s) (valid_mask v (tree_len o)) i well.sizes_len well.mask_len (omega (arith, length-counts_in o))
       ∙ ap (λ n. list_at (rows e) n (get_or (counts_in s) i 0) (get_or (valid_mask v (tree_len o)) i false)) (get_or-counts_in o i inside)
       ∙ ap (λ n. list_at (rows e) (count_in (row_at o i)) n (get_or (valid_mask v (tree_len o)) i false)) (get_or-counts_in s i inside_sizes)
-      ∙ ap (list_at (rows e) (count_in (row_at o i)) (count_in (row_at s i))) (get_or-valid_mask v (tree_len o) i inside)
+      ∙ ap (list_at (rows e) (count_in (row_at o i)) (count_in (row_at s i))) (get_or-valid_mask v (tree_len o) i false inside)
       ∙ ap (λ xs. cond (is_valid_at v i) (Some xs) None) (take-drop-rows e (count_in (row_at o i)) (count_in (row_at s i)) fits)
       ∙ sym (list_in-cond (is_valid_at v i) (rows_range (row_at e) (count_in (row_at o i)) (count_in (row_at s i)))) in
       fill_by_all (λ i. list_in (row_at (list_view e o s v f) i)) (rows_of (list_layout_of (list_view e o s v f))) (tree_len o) None count each
       ∙ sym (map-map list_in (row_at (list_view e o s v f)) (range_with_len 0 (tree_len o)))
+
+-- it stands for its lists
+pub stands_for_lists : (t e o s : Tree) (v : Valid) (f : Bool) → t ≡ list_view e o s v f → WellFormed (list_view e o s v f) → StandsFor (list_layout_of t) (list_rows t)
+stands_for_lists t e o s v f same formed =
+    subst (λ x. StandsFor (list_layout_of x) (list_rows x)) (sym same) (record { well_formed = layout_well_formed e o s v f formed.1; same = rows_of-list_layout_of e o s v f formed.1 })
+
+-- ---- one list
+
+list_in_present : (b : Bool) (rs : Rows) (xs : List Row) → xs ≡ list_from rs → list_in (cond b (items rs) null) ≡ cond (is_present (cond b (items rs) null)) (Some xs) None
+list_in_present true rs xs same = ap Some (sym same)
+list_in_present false rs xs same = refl
+
+-- where row i is present, it is the list of the element rows at its place
+pub list_of_elements : (t e o s : Tree) (v : Valid) (f : Bool) (i : ℕ) (xs : List Row) → t ≡ list_view e o s v f → WellFormed (list_view e o s v f) → i < tree_len t
+    → (let start = count_in (row_at o i) in xs ≡ slice_range (rows e) start (start + count_in (row_at s i)))
+    → list_in (row_at t i) ≡ cond (is_present (row_at t i)) (Some xs) None
+list_of_elements t e o s v f i xs same formed inside read =
+    let start = count_in (row_at o i) in
+    let size = count_in (row_at s i) in
+    let fits : start + size ≤ tree_len e = formed.1.within i (let here : i < tree_len (list_view e o s v f) = rw same at inside in here) in
+    let counted : start + size - start ≡ size = omega arith in
+    let listed : xs ≡ list_from (rows_range (row_at e) start size) = read ∙ ap (λ n. take n (drop start (rows e))) counted ∙ take-drop-rows e start size fits in
+    let one : list_in (row_at (list_view e o s v f) i) ≡ cond (is_present (row_at (list_view e o s v f) i)) (Some xs) None = list_in_present (is_valid_at v i) (rows_range (row_at e) start size) xs listed in
+    subst (λ x. list_in (row_at x i) ≡ cond (is_present (row_at x i)) (Some xs) None) (sym same) one
 
 -- ---- a list view has the rows that its lists are
 

@@ -62,13 +62,13 @@ abbrev pub canonical : {X : Type 0} → List (Option (List X)) → ListLayout X
 canonical rows = layout (starts_from 0 (map size_of rows)) (map size_of rows) (map is_some rows) (flat_map items_of rows)
 
 -- each row, null rows counted, ends where the next one starts
-abbrev pub IsConsecutive : List ℕ → List ℕ → Type 0
-IsConsecutive offsets sizes = (i : ℕ) → i + 1 < length offsets → slice_index offsets i + slice_index sizes i ≡ slice_index offsets (i + 1)
+abbrev pub LieEndToEnd : List ℕ → List ℕ → Type 0
+LieEndToEnd offsets sizes = (i : ℕ) → i + 1 < length offsets → slice_index offsets i + slice_index sizes i ≡ slice_index offsets (i + 1)
 
 -- the rows start at 0 and are consecutive, null rows have size 0, and no element lies past the last end
 pub record IsTidy {X : Type 0} (l : ListLayout X) : Type 0 where
   pub first : slice_index l.offsets 0 ≡ 0
-  pub consecutive : IsConsecutive l.offsets l.sizes
+  pub consecutive : LieEndToEnd l.offsets l.sizes
   pub nulls_empty : (i : ℕ) → i < length l.mask → slice_index_or l.mask i false ≡ false → slice_index l.sizes i ≡ 0
   pub none_past : length l.elements ≡ slice_index l.offsets (length l.offsets - 1) + slice_index l.sizes (length l.offsets - 1)
 

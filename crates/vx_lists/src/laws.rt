@@ -1,11 +1,14 @@
 //! Laws of list layouts. Each function stands for the law that its clause states.
 
 ghost use Rattle.std.specs.Prelude.{◌≡◌, ◌↔◌, ◌<◌, ◌∷◌, [], ℕ, true, false, List, Option, length, map, sum, take, slice_index, slice_index_or};
-ghost use Rattle.vx_base.specs.Rows.{Row};
-ghost use Rattle.vx_tree.specs.Meaning.{rows};
+ghost use Rattle.std.specs.List.{flat_map};
+ghost use Rattle.vx_base.specs.Rows.{Row, count_in};
+ghost use Rattle.vx_tree.specs.Meaning.{tree_len, row_at, rows};
 ghost use Rattle.vx_tree.specs.Tree.{Tree};
-ghost use Rattle.vx_lists.specs.ListLayout.{ListLayout, layout, rows_of, IsWellFormed, StandsFor, size_of, canonical, IsTidy, valid_total, numbered, position_rows, map_layout};
-ghost use Rattle.vx_lists.specs.ListViews.{AreAlike, IsRebuilt};
+ghost use Rattle.vx_lists.specs.ListLayout.{ListLayout, layout, rows_of, IsWellFormed, StandsFor, items_of, size_of, canonical, IsTidy, valid_total, numbered, position_rows, map_layout};
+ghost use Rattle.vx_lists.specs.ListViews.{counts_in, list_layout_of, list_rows, AreAlike, IsRebuilt};
+
+use crate::list_view::ListViewArray;
 
 /// The canonical layout stands for its rows.
 pub fn canonical_stands<T>()
@@ -75,6 +78,33 @@ pub fn canonical_rows_are_tidy()
 pub fn tidy_rows_are_canonical()
     ensures { (l : ListLayout Row) (rows : List (Option (List Row))) →
         StandsFor l rows → IsTidy l → l ≡ canonical rows }
+{}
+
+/// A list view's offsets, sizes, mask and element rows stand for its lists: each list lies within
+/// the elements, and is what its offset and size say.
+pub fn list_views_stand_for_their_lists(lists: &ListViewArray)
+    ensures { StandsFor (list_layout_of lists.now) (list_rows lists.now) }
+{
+    lists.parts();
+}
+
+/// Lists have as many elements, joined, as they have in all.
+pub fn joined_lists_have_all_elements<T>()
+    ensures { (rows : List (Option (List T))) →
+        length (flat_map items_of rows) ≡ sum (map size_of rows) }
+{}
+
+/// Lists of rows have as many elements, joined, as they have in all.
+pub fn joined_rows_have_all_elements()
+    ensures { (rows : List (Option (List Row))) →
+        length (flat_map items_of rows) ≡ sum (map size_of rows) }
+{}
+
+/// The counts of an array are as many as its rows, and each stands at the place of its row.
+pub fn counts_stand_at_their_places()
+    ensures len { (t : Tree) → length (counts_in t) ≡ tree_len t }
+    ensures each { (t : Tree) (i : ℕ) → i < tree_len t →
+        slice_index (counts_in t) i ≡ count_in (row_at t i) }
 {}
 
 /// Two list views rebuild alike, in offsets and sizes as numbers, in masks and in element rows,

@@ -1,10 +1,8 @@
 // What is tested of the parts of a list view, and of its total before it is rebuilt.
 
-ghost use Rattle.std.specs.Prelude.{◌≡◌, ◌<ℤ◌, ◌^◌, pos, true, false, IfOk, is_none};
-ghost use Rattle.vx_base.specs.DTypes.{dtype_meaning};
+ghost use Rattle.std.specs.Prelude.{◌≡◌, ◌<ℤ◌, ◌^◌, pos, true, false, IfOk};
 ghost use Rattle.vx_base.specs.Refusals.{Tests};
 ghost use Rattle.vx_base.specs.Kinds.{is_plain_integers};
-ghost use Rattle.vx_tree.specs.Faults.{valid_type_fault};
 ghost use Rattle.vx_tree.specs.Formed.{WellFormed, IsCounts};
 ghost use Rattle.vx_tree.specs.Meaning.{tree_len, kind_of};
 ghost use Rattle.vx_tree.specs.Parts.{valid_of};
@@ -13,28 +11,12 @@ ghost use Rattle.vx_lists.specs.ListViewFaults.{list_row_fault, list_parts_fault
 
 use crate::count_arrays::number_bytes;
 use crate::number_rows::check_number_rows;
-use vx_base::{DType, PType, VortexError};
+use vx_base::{PType, VortexError};
 use vx_tree::{ArrayRef, Validity};
 
-// Whether the rows are whole numbers and none may be null, as offsets and sizes are.
-fn is_count_type(dtype: &DType) -> bool
-    ensures { result ≡ is_plain_integers (dtype_meaning dtype.now) }
-{
-    dtype.is_plain_int()
-}
-
-// Whether a validity array, where there is one, is one of plain booleans.
-fn is_validity_type(validity: &Validity) -> bool
-    ensures { result ≡ is_none (valid_type_fault (valid_of validity.now)) }
-{
-    match validity {
-        Validity::Array(array) => array.dtype().is_plain_bool(),
-        _ => true,
-    }
-}
-
 // Refuses offsets and sizes that are not plain integers, a validity array that is not one of plain
-// booleans, then sizes or a validity that are not as long as the offsets.
+// booleans, then sizes or a validity that are not as long as the offsets (of lengths either fault is
+// the same, so it matters not which is tested first).
 fn check_list_parts(
     offsets: &ArrayRef,
     sizes: &ArrayRef,
@@ -42,21 +24,16 @@ fn check_list_parts(
 ) -> Result<(), VortexError>
     ensures tests { Tests result (list_parts_fault offsets.now sizes.now (valid_of validity.now)) }
 {
-    if !is_count_type(offsets.dtype()) || !is_count_type(sizes.dtype()) {
-        return Err(VortexError::MismatchedTypes);
-    }
-    if !is_validity_type(validity) {
+    if !offsets.dtype().is_plain_int() || !sizes.dtype().is_plain_int() {
         return Err(VortexError::MismatchedTypes);
     }
     let expected = offsets.len();
+    validity.check(expected)?;
     let found = sizes.len();
     if found != expected {
         return Err(VortexError::LengthMismatch { expected, found });
     }
-    match validity.maybe_len() {
-        Some(found) if found != expected => Err(VortexError::LengthMismatch { expected, found }),
-        _ => Ok(()),
-    }
+    Ok(())
 }
 
 /// Refuses a row that is not `size` elements from `offset` on, among `count` elements.

@@ -1,8 +1,8 @@
 // Lists that lie anywhere among shared elements.
 
-ghost use Rattle.std.specs.Prelude.{◌≡◌, ◌↔◌, ◌<◌, ◌+◌, ◌^◌, true, false, IfOk, IsTrue, IsOkUnless, slice_range};
+ghost use Rattle.std.specs.Prelude.{◌≡◌, ◌↔◌, ◌<◌, ◌≤◌, ◌+◌, ◌^◌, true, false, Some, None, IfOk, IsTrue, IsOkUnless, if◌then◌else◌, slice_range};
 ghost use Rattle.vx_base.specs.Refusals.{Refuses};
-ghost use Rattle.vx_base.specs.Rows.{count_in};
+ghost use Rattle.vx_base.specs.Rows.{count_in, is_present, list_in};
 ghost use Rattle.vx_base.specs.declared.errors.VortexError.TheVariants.{Memory};
 ghost use Rattle.vx_tree.specs.Formed.{WellFormed, IsConsecutive, IsCounts};
 ghost use Rattle.vx_tree.specs.Meaning.{tree_len, kind_of, row_at, rows};
@@ -139,6 +139,7 @@ impl ListViewArray {
     pub fn offsets(&self) -> &ArrayRef
         ensures value { result.now ≡ offsets_of self.now }
         ensures counts { IsCounts result.now }
+        ensures len { tree_len result.now ≡ tree_len self.now }
     {
         self.parts().offsets
     }
@@ -147,6 +148,7 @@ impl ListViewArray {
     pub fn sizes(&self) -> &ArrayRef
         ensures value { result.now ≡ sizes_of self.now }
         ensures counts { IsCounts result.now }
+        ensures len { tree_len result.now ≡ tree_len self.now }
     {
         self.parts().sizes
     }
@@ -158,10 +160,13 @@ impl ListViewArray {
         self.parts().flag
     }
 
-    /// Where list `i` starts. Asks a row below the length.
+    /// Where list `i` starts; `offset_at(i) + size_at(i)`, where it ends, is at most the number of
+    /// elements. Asks a row below the length.
     pub fn offset_at(&self, i: usize) -> usize
         requires { i < tree_len self.now }
-        ensures { result ≡ count_in (row_at (offsets_of self.now) i) }
+        ensures value { result ≡ count_in (row_at (offsets_of self.now) i) }
+        ensures within { result + count_in (row_at (sizes_of self.now) i)
+            ≤ tree_len (elements_of self.now) }
     {
         count_at(self.parts().offsets, i)
     }
@@ -169,7 +174,9 @@ impl ListViewArray {
     /// How many elements list `i` has. Asks a row below the length.
     pub fn size_at(&self, i: usize) -> usize
         requires { i < tree_len self.now }
-        ensures { result ≡ count_in (row_at (sizes_of self.now) i) }
+        ensures value { result ≡ count_in (row_at (sizes_of self.now) i) }
+        ensures within { count_in (row_at (offsets_of self.now) i) + result
+            ≤ tree_len (elements_of self.now) }
     {
         count_at(self.parts().sizes, i)
     }
@@ -194,9 +201,12 @@ impl ListViewArray {
         true
     }
 
-    /// The elements of list `i`, also where the row is null. Asks a row below the length.
+    /// The elements of list `i`, also where the row is null. Where it is not, row `i` is the list of
+    /// their rows. Asks a row below the length.
     pub fn list_elements_at(&self, alloc: Global, i: usize) -> Result<ArrayRef, VortexError>
         requires { i < tree_len self.now }
+        ensures list { let row = row_at self.now i in IfOk result (λ a.
+            list_in row ≡ (if is_present row then Some (rows a) else None)) }
         ensures rows { let start = count_in (row_at (offsets_of self.now) i)
             in let end = start + count_in (row_at (sizes_of self.now) i)
             in IfOk result (λ a. rows a ≡ slice_range (rows (elements_of self.now)) start end) }
