@@ -11,8 +11,7 @@ use Rattle.vx_tree.specs.Meaning.{tree_len, kind_of, row_at, rows, rows_range}
 use Rattle.vx_leaves.specs.Leaves.{IsPrimitive}
 use Rattle.vx_lists.specs.ListLayout.{items_of, size_of, starts_from}
 use Rattle.vx_lists.specs.ListViews.{is_list_view, counts_in, elements_of, offsets_of, sizes_of, flag_of, list_rows, IsRebuilt}
-use Rattle.vx_uses.proofs.EndToEnd.{rebuilt_offsets, rebuilt_elements, tree_len-offsets_of}
-use Rattle.vx_uses.proofs.RowLists.{length-rows, get_or-rows, length-counts_in, get_or-counts_in}
+use Rattle.vx_uses.proofs.EndToEnd.{rebuilt_offsets, rebuilt_elements}
 
 abbrev pub elements : List ℤ
 elements = pos 1 ∷ pos 2 ∷ pos 3 ∷ pos 4 ∷ []
@@ -55,7 +54,14 @@ pub record IsFirst (r : Tree) : Type 0 where
   pub size : count_in (row_at (sizes_of r) 2) ≡ 2
   pub elements : rows (elements_of r) ≡ counts (3 ∷ 4 ∷ 1 ∷ 2 ∷ 3 ∷ [])
 
-module _ (e o s t r : Tree) (e_is : IsPrimitive I32 elements non_nullable e) (o_is : IsPrimitive U32 offsets non_nullable o) (s_is : IsPrimitive U32 sizes non_nullable s) (t_is : t ≡ list_view e o s non_nullable false) where
+-- the laws that rows and counts stand at their places
+pub record ArePlaced : Type 0 where
+  pub rows_len : (t : Tree) → length (rows t) ≡ tree_len t
+  pub rows_each : (t : Tree) (i : ℕ) (d : Row) → i < tree_len t → get_or (rows t) i d ≡ row_at t i
+  pub counts_len : (t : Tree) → length (counts_in t) ≡ tree_len t
+  pub counts_each : (t : Tree) (i : ℕ) → i < tree_len t → get_or (counts_in t) i 0 ≡ count_in (row_at t i)
+
+module _ (law : ArePlaced) (e o s t r : Tree) (e_is : IsPrimitive I32 elements non_nullable e) (o_is : IsPrimitive U32 offsets non_nullable o) (s_is : IsPrimitive U32 sizes non_nullable s) (t_is : t ≡ list_view e o s non_nullable false) where
   lists_are : list_rows t ≡ Some (counts (3 ∷ 4 ∷ [])) ∷ Some (counts (1 ∷ [])) ∷ Some (counts (2 ∷ 3 ∷ [])) ∷ []
   lists_are =
       ap list_rows t_is
@@ -70,12 +76,12 @@ module _ (e o s t r : Tree) (e_is : IsPrimitive I32 elements non_nullable e) (o_
       let is : IsRebuilt t r = rebuild (λ none. omega (arith, three_lists)) (ap flag_of t_is) in
       let starts : counts_in (offsets_of r) ≡ 0 ∷ 2 ∷ 3 ∷ [] = rebuilt_offsets t r is ∙ ap (λ ls. starts_from 0 (map size_of ls)) lists_are in
       let lens : counts_in (sizes_of r) ≡ 2 ∷ 1 ∷ 2 ∷ [] = ap (λ l. l.sizes) is.canonical_layout ∙ ap (map size_of) lists_are in
-      let offset_count : tree_len (offsets_of r) ≡ 3 = sym (length-counts_in (offsets_of r)) ∙ ap length starts in
-      let size_count : tree_len (sizes_of r) ≡ 3 = sym (length-counts_in (sizes_of r)) ∙ ap length lens in
+      let offset_count : tree_len (offsets_of r) ≡ 3 = sym (law.counts_len (offsets_of r)) ∙ ap length starts in
+      let size_count : tree_len (sizes_of r) ≡ 3 = sym (law.counts_len (sizes_of r)) ∙ ap length lens in
       record {
-        len = sym (tree_len-offsets_of r is.is_view) ∙ offset_count;
-        start = sym (get_or-counts_in (offsets_of r) 2 (omega arith)) ∙ ap (λ ns. get_or ns 2 0) starts;
-        size = sym (get_or-counts_in (sizes_of r) 2 (omega arith)) ∙ ap (λ ns. get_or ns 2 0) lens;
+        len = sym (law.rows_len r) ∙ ap length is.same_rows ∙ law.rows_len t ∙ three_lists;
+        start = sym (law.counts_each (offsets_of r) 2 (omega arith)) ∙ ap (λ ns. get_or ns 2 0) starts;
+        size = sym (law.counts_each (sizes_of r) 2 (omega arith)) ∙ ap (λ ns. get_or ns 2 0) lens;
         elements = rebuilt_elements t r is ∙ ap (flat_map items_of) lists_are;
       }
 
@@ -90,9 +96,9 @@ pub record IsThird (a : Tree) : Type 0 where
   pub len : tree_len a ≡ 2
   pub first : row_at a 0 ≡ whole (pos 2)
 
-pub third_read : (r a : Tree) → IsFirst r →
+pub third_read : ArePlaced → (r a : Tree) → IsFirst r →
     (let start = count_in (row_at (offsets_of r) 2) in rows a ≡ slice_range (rows (elements_of r)) start (start + count_in (row_at (sizes_of r) 2))) → IsThird a
-third_read r a is read =
+third_read law r a is read =
     let are : rows a ≡ counts (2 ∷ 3 ∷ []) = read ∙ (λ i. slice_range (is.elements i) (is.start i) (is.start i + is.size i)) in
-    let count : tree_len a ≡ 2 = sym (length-rows a) ∙ ap length are in
-    record { len = count; first = sym (get_or-rows a 0 null (omega arith)) ∙ ap (λ rs. get_or rs 0 null) are }
+    let count : tree_len a ≡ 2 = sym (law.rows_len a) ∙ ap length are in
+    record { len = count; first = sym (law.rows_each a 0 null (omega arith)) ∙ ap (λ rs. get_or rs 0 null) are }

@@ -1,5 +1,4 @@
 pub mod RowLists
-pub mod ReadColumns
 pub mod FoundFaults
 pub mod EndToEnd
 pub mod FirstLists

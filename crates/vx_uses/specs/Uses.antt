@@ -1,19 +1,11 @@
 -- What the callers of this crate conclude.
-use Rattle.std.specs.Prelude.{◌≡◌, ◌<◌, ◌⊎◌, ℕ, ℤ, negsuc, Bool, true, false, List, [], ◌∷◌, Some, None}
-use Rattle.vx_base.specs.Rows.{Row, null, whole}
+use Rattle.std.specs.Prelude.{◌≡◌, ◌<◌, ◌⊎◌, ℕ, ℤ, negsuc, false, Some, None}
 use Rattle.vx_base.specs.Refusals.{Refusal, negative, out_of_bounds}
 use Rattle.vx_tree.specs.Tree.{Tree, list_view, non_nullable}
 use Rattle.vx_tree.specs.Meaning.{tree_len}
 use Rattle.vx_lists.specs.ListViewFaults.{list_view_fault, list_row_fault, whole_at}
 use Rattle.vx_uses.specs.declared.reader.Lists.{Lists}
 use Rattle.vx_uses.specs.declared.reader.Lists.TheVariants.{Read, NegativeRow, EndsPast, Refused}
-
--- a number where its bit is set, else null
-abbrev pub masked_rows : List Bool → List ℤ → List Row
-masked_rows [] numbers = []
-masked_rows (valid ∷ mask) [] = []
-masked_rows (true ∷ mask) (z ∷ numbers) = whole z ∷ masked_rows mask numbers
-masked_rows (false ∷ mask) (z ∷ numbers) = null ∷ masked_rows mask numbers
 
 -- a number below 0
 abbrev pub IsNegative : ℤ → Type 0

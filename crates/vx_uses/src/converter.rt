@@ -11,6 +11,8 @@ ghost use Rattle.vx_lists.specs.ListViewFaults.{rebuild_overflow};
 use std::alloc::Global;
 use vx_base::VortexError;
 use vx_lists::ListViewArray;
+use vx_lists::laws::{counts_stand_at_their_places, joined_rows_have_all_elements};
+use vx_tree::row_laws::rows_stand_at_their_places;
 use vx_tree::{ArrayRef, TypedArray};
 
 /// Lists by offsets alone: list `i` is the elements from offset `i` up to offset `i + 1`.
@@ -27,9 +29,12 @@ pub fn lists_end_to_end(alloc: Global, lists: &ListViewArray) -> Result<ListColu
     ensures elements { IfOk result (λ c. rows c.elements ≡ flat_map items_of (list_rows lists.now)) }
     ensures refuses { Refuses result (rebuild_overflow lists.now) }
 {
+    counts_stand_at_their_places();
+    rows_stand_at_their_places();
+    joined_rows_have_all_elements();
     let rebuilt = lists.rebuild_by_take(alloc)?;
     let mut offsets = Vec::with_capacity(alloc, rebuilt.len())?;
-    for i in 0..rebuilt.len() {
+    for i in 0..rebuilt.offsets().len() {
         offsets.push(rebuilt.offset_at(i))?;
     }
     offsets.push(rebuilt.elements().len())?;

@@ -8,7 +8,9 @@ ghost use Rattle.vx_leaves.specs.Leaves.{IsPrimitive};
 use std::alloc::Global;
 use vx_base::{Buffer, NativePType, VortexError};
 use vx_leaves::PrimitiveArray;
+use vx_lists::laws::counts_stand_at_their_places;
 use vx_lists::{ListViewArray, ListViewRebuildMode};
+use vx_tree::row_laws::rows_stand_at_their_places;
 use vx_tree::{ArrayRef, TypedArray, Validity};
 
 /// A column of these numbers, none of them null.
@@ -27,6 +29,8 @@ pub fn third_list(alloc: Global) -> Result<(usize, Option<i128>), VortexError>
     ensures read { IfOk result (λ r. (r.0 ≡ 3) × (r.1 ≡ Some (pos 2))) }
     ensures err { IsOkUnless result Memory }
 {
+    counts_stand_at_their_places();
+    rows_stand_at_their_places();
     let elements = column::<i32>(alloc, &[1, 2, 3, 4])?;
     let offsets = column::<u32>(alloc, &[2, 0, 1])?;
     let sizes = column::<u32>(alloc, &[2, 1, 2])?;

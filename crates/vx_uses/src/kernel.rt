@@ -14,6 +14,7 @@ use std::alloc::Global;
 use std::ops::Range;
 use vx_base::{Scalar, VortexError};
 use vx_lists::ListViewArray;
+use vx_tree::row_laws::{parts_of_parts_of_rows, rows_of_a_constant, rows_stand_at_their_places};
 use vx_tree::{ArrayRef, TypedArray};
 
 /// A page of a column, in another order: the rows of `page` at the places that `order` names.
@@ -47,6 +48,7 @@ pub fn inner_page(
         (slice_fault (tree_len column.now) outer.start outer.end)
         (slice_fault (outer.end - outer.start) inner.start inner.end)) }
 {
+    parts_of_parts_of_rows();
     let page = column.slice(alloc, outer)?;
     Ok(page.slice(alloc, inner)?)
 }
@@ -57,6 +59,7 @@ pub fn repeated_row(alloc: Global, row: Scalar, len: usize) -> Result<ArrayRef, 
     ensures kind { IfOk result (λ a. kind_of a ≡ row.kind) }
     ensures err { IsOkUnless result Memory }
 {
+    rows_of_a_constant();
     Ok(ArrayRef::constant(alloc, row, len)?)
 }
 
@@ -71,10 +74,7 @@ pub fn list_of_row(
     ensures rows { IfOk result (λ list. option_map rows list ≡ list_in (row_at lists.now i)) }
     ensures err { IsOkUnless result Memory }
 {
-    let array = lists.as_array();
-    // its parts are well formed, so the list lies within the elements
-    let _formed = array.layout();
-    if !array.is_valid(alloc, i)? {
+    if !lists.as_array().is_valid(alloc, i)? {
         return Ok(None);
     }
     Ok(Some(lists.list_elements_at(alloc, i)?))
@@ -85,6 +85,7 @@ pub fn valid_count(column: &ArrayRef) -> usize
     requires { is_integers (kind_of column.now) ≡ true }
     ensures { result ≡ count_by is_present (rows column.now) }
 {
+    rows_stand_at_their_places();
     let mut count = 0;
     for i in 0..column.len() {
         if column.int_at(i).is_some() {

@@ -7,12 +7,15 @@ ghost use Rattle.vx_base.specs.Refusals.{Refuses, length_mismatch};
 ghost use Rattle.vx_base.specs.Rows.{whole};
 ghost use Rattle.vx_base.specs.declared.errors.VortexError.TheVariants.{Memory};
 ghost use Rattle.vx_tree.specs.Meaning.{kind_of, rows};
-ghost use Rattle.vx_uses.specs.Uses.{masked_rows, TellsFault};
+ghost use Rattle.vx_tree.specs.Operations.{masked};
+ghost use Rattle.vx_uses.specs.Uses.{TellsFault};
 
 use std::alloc::Global;
 use vx_base::{BitBuffer, Buffer, ByteBuffer, NativePType, VortexError, first_fault_is_least};
+use vx_leaves::laws::rows_of_numbers;
 use vx_leaves::{BoolArray, PrimitiveArray};
 use vx_lists::ListViewArray;
+use vx_tree::row_laws::{faultless_validities_fit, masks_stand_at_their_places};
 use vx_tree::{ArrayRef, TypedArray, Validity};
 
 /// A column of the numbers that these bytes hold, none of them null. Bytes beyond the last whole
@@ -25,6 +28,7 @@ pub fn column_of_bytes<T: NativePType + Drop>(
     ensures kind { IfOk result (λ a. kind_of a ≡ integers T.PTYPE false) }
     ensures err { IsOkUnless result Memory }
 {
+    rows_of_numbers();
     let numbers = Buffer::<T>::from_byte_buffer(alloc, bytes)?;
     let column = PrimitiveArray::try_new(alloc, numbers, Validity::NonNullable)?;
     Ok(column.into_array())
@@ -38,11 +42,14 @@ pub fn nullable_column<T: NativePType + Drop>(
     numbers: Buffer<T>,
     valid: BitBuffer,
 ) -> Result<ArrayRef, VortexError>
-    ensures rows { IfOk result (λ a. rows a ≡ masked_rows valid.bits (map T.value numbers)) }
+    ensures rows { IfOk result (λ a. rows a ≡ masked valid.bits (map whole (map T.value numbers))) }
     ensures kind { IfOk result (λ a. kind_of a ≡ integers T.PTYPE true) }
     ensures refuses { Refuses result
         (if length valid.bits == length numbers then None else Some length_mismatch) }
 {
+    rows_of_numbers();
+    masks_stand_at_their_places();
+    faultless_validities_fit();
     let valid = BoolArray::try_new(alloc, valid, Validity::NonNullable)?;
     let validity = Validity::Array(valid.into_array());
     let column = PrimitiveArray::try_new(alloc, numbers, validity)?;

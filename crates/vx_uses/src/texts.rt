@@ -30,9 +30,5 @@ pub fn text_of_row<'a>(
     if !mask.value(row) {
         return Ok(None);
     }
-    let mut slices = Vec::with_capacity(alloc, buffers.len())?;
-    for buffer in buffers {
-        slices.push(buffer.as_slice())?;
-    }
-    Ok(Some(views[row].bytes(&slices)))
+    Ok(Some(views[row].value_in(buffers)))
 }
