@@ -18,6 +18,13 @@ rest gnil = gnil
 rest (gnum n) = gnil
 rest (gcons a b) = b
 
+-- the second part of several, and what is left after it
+abbrev pub second : Gv → Gv
+second g = first (rest g)
+
+abbrev pub after_second : Gv → Gv
+after_second g = rest (rest g)
+
 abbrev pub number : Gv → ℕ
 number g = num g
 
@@ -98,7 +105,8 @@ mutual
   pub code_fields-inj : (x y : Fields) → code_fields x ≡ code_fields y → x ≡ y
   code_fields-inj no_fields no_fields p = refl
   code_fields-inj (field n r fs) (field m q gs) p =
-      λ i. field ((coded_list coded_ℕ).inj n m (ap first p) i) (code_row-inj r q (ap (λ g. first (rest g)) p) i) (code_fields-inj fs gs (ap (λ g. rest (rest g)) p) i)
+      λ i. field ((coded_list coded_ℕ).inj n m (ap first p) i) (code_row-inj r q (ap second p) i)
+          (code_fields-inj fs gs (ap after_second p) i)
   code_fields-inj _ _ p = cc
 
 -- ---- kinds
@@ -111,7 +119,8 @@ abbrev mutual
   code_kind (binaries n) = gcons (gnum 3) (coded_bool.code n)
   code_kind (lists k n) = gcons (gnum 4) (gcons (code_kind k) (coded_bool.code n))
   code_kind (fixed_lists k size n) = gcons (gnum 5) (gcons (code_kind k) (gcons (gnum size) (coded_bool.code n)))
-  code_kind (records names ks n) = gcons (gnum 6) (gcons ((coded_list (coded_list coded_ℕ)).code names) (gcons (code_kinds ks) (coded_bool.code n)))
+  code_kind (records names ks n) =
+      gcons (gnum 6) (gcons ((coded_list (coded_list coded_ℕ)).code names) (gcons (code_kinds ks) (coded_bool.code n)))
 
   pub code_kinds : Kinds → Gv
   code_kinds no_kinds = gnil
@@ -120,14 +129,17 @@ abbrev mutual
 mutual
   pub code_kind-inj : (x y : Kind) → code_kind x ≡ code_kind y → x ≡ y
   code_kind-inj (booleans n) (booleans m) p = ap booleans (coded_bool.inj n m (ap rest p))
-  code_kind-inj (integers t n) (integers u m) p = λ i. integers (code_type-inj t u (ap (λ g. first (rest g)) p) i) (coded_bool.inj n m (ap (λ g. rest (rest g)) p) i)
+  code_kind-inj (integers t n) (integers u m) p =
+      λ i. integers (code_type-inj t u (ap second p) i) (coded_bool.inj n m (ap after_second p) i)
   code_kind-inj (texts n) (texts m) p = ap texts (coded_bool.inj n m (ap rest p))
   code_kind-inj (binaries n) (binaries m) p = ap binaries (coded_bool.inj n m (ap rest p))
-  code_kind-inj (lists k n) (lists h m) p = λ i. lists (code_kind-inj k h (ap (λ g. first (rest g)) p) i) (coded_bool.inj n m (ap (λ g. rest (rest g)) p) i)
+  code_kind-inj (lists k n) (lists h m) p = λ i. lists (code_kind-inj k h (ap second p) i) (coded_bool.inj n m (ap after_second p) i)
   code_kind-inj (fixed_lists k size n) (fixed_lists h size2 m) p =
-      λ i. fixed_lists (code_kind-inj k h (ap (λ g. first (rest g)) p) i) (ap (λ g. num (first (rest (rest g)))) p i) (coded_bool.inj n m (ap (λ g. rest (rest (rest g))) p) i)
+      λ i. fixed_lists (code_kind-inj k h (ap second p) i) (ap (λ g. num (second (rest g))) p i)
+          (coded_bool.inj n m (ap (λ g. after_second (rest g)) p) i)
   code_kind-inj (records names ks n) (records names2 hs m) p =
-      λ i. records ((coded_list (coded_list coded_ℕ)).inj names names2 (ap (λ g. first (rest g)) p) i) (code_kinds-inj ks hs (ap (λ g. first (rest (rest g))) p) i) (coded_bool.inj n m (ap (λ g. rest (rest (rest g))) p) i)
+      λ i. records ((coded_list (coded_list coded_ℕ)).inj names names2 (ap second p) i)
+          (code_kinds-inj ks hs (ap (λ g. second (rest g)) p) i) (coded_bool.inj n m (ap (λ g. after_second (rest g)) p) i)
   code_kind-inj _ _ p = let e = ap tag p in absurd (omega (arith, e))
 
   pub code_kinds-inj : (x y : Kinds) → code_kinds x ≡ code_kinds y → x ≡ y

@@ -11,7 +11,8 @@ pub record TypedRow : Type 0 where
   pub row : Row
 
 abbrev pub coded_typed_row : Coded TypedRow
-coded_typed_row = code_by (Kind × Row) (coded× coded_kind coded_row) (λ s. (s.kind, s.row)) (λ p. record { kind = p.0; row = p.1 }) (λ _. refl)
+coded_typed_row =
+    code_by (Kind × Row) (coded× coded_kind coded_row) (λ s. (s.kind, s.row)) (λ p. record { kind = p.0; row = p.1 }) (λ _. refl)
 
 abbrev pub typed_row : Kind → Row → TypedRow
 typed_row k r = record { kind = k; row = r }

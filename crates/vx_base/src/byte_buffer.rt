@@ -125,7 +125,7 @@ pub fn slice_numbers(
         ≡ slice_range (numbers ptype bytes.now) range.start range.end) }
     ensures len { IfOk result (λ b. length b ≡ (range.end - range.start) * byte_width ptype) }
 {
-    let _len = bytes.len();
+    prove!(bytes.len() <= isize::MAX as usize);
     let width = ptype.byte_width();
     bytes.slice(alloc, range.start * width..range.end * width)
 }

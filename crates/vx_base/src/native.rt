@@ -11,13 +11,14 @@ ghost use Rattle.vx_base.specs.declared.ptypes.PType.TheVariants.{U8, U16, U32, 
 use crate::numbers::{int_of, put_int};
 use crate::ptypes::PType;
 use num_traits::{PrimInt, cast};
+use std::mem::size_of;
 
 /// A number type of Rust that is one of the eight of `PType`.
 pub trait NativePType: PrimInt {
     /// The type's `PType`.
     const PTYPE: PType;
 
-    /// How many bytes a number takes.
+    /// How many bytes a number takes: as many as its `PType` says.
     const WIDTH: usize;
 
     ghost PTYPE: { PType };
@@ -71,11 +72,11 @@ pub trait NativePType: PrimInt {
 impl NativePType for u8 {
     const PTYPE: PType = PType::U8;
 
-    const WIDTH: usize = 1;
+    const WIDTH: usize = size_of::<u8>();
 
     ghost PTYPE = { U8 };
 
-    ghost WIDTH = { 1 };
+    ghost WIDTH = { byte_width U8 };
 
     fn as_i128(self) -> i128 {
         self as i128
@@ -91,11 +92,11 @@ impl NativePType for u8 {
 impl NativePType for u16 {
     const PTYPE: PType = PType::U16;
 
-    const WIDTH: usize = 2;
+    const WIDTH: usize = size_of::<u16>();
 
     ghost PTYPE = { U16 };
 
-    ghost WIDTH = { 2 };
+    ghost WIDTH = { byte_width U16 };
 
     fn as_i128(self) -> i128 {
         self as i128
@@ -111,11 +112,11 @@ impl NativePType for u16 {
 impl NativePType for u32 {
     const PTYPE: PType = PType::U32;
 
-    const WIDTH: usize = 4;
+    const WIDTH: usize = size_of::<u32>();
 
     ghost PTYPE = { U32 };
 
-    ghost WIDTH = { 4 };
+    ghost WIDTH = { byte_width U32 };
 
     fn as_i128(self) -> i128 {
         self as i128
@@ -131,11 +132,11 @@ impl NativePType for u32 {
 impl NativePType for u64 {
     const PTYPE: PType = PType::U64;
 
-    const WIDTH: usize = 8;
+    const WIDTH: usize = size_of::<u64>();
 
     ghost PTYPE = { U64 };
 
-    ghost WIDTH = { 8 };
+    ghost WIDTH = { byte_width U64 };
 
     fn as_i128(self) -> i128 {
         self as i128
@@ -151,11 +152,11 @@ impl NativePType for u64 {
 impl NativePType for i8 {
     const PTYPE: PType = PType::I8;
 
-    const WIDTH: usize = 1;
+    const WIDTH: usize = size_of::<i8>();
 
     ghost PTYPE = { I8 };
 
-    ghost WIDTH = { 1 };
+    ghost WIDTH = { byte_width I8 };
 
     fn as_i128(self) -> i128 {
         self as i128
@@ -171,11 +172,11 @@ impl NativePType for i8 {
 impl NativePType for i16 {
     const PTYPE: PType = PType::I16;
 
-    const WIDTH: usize = 2;
+    const WIDTH: usize = size_of::<i16>();
 
     ghost PTYPE = { I16 };
 
-    ghost WIDTH = { 2 };
+    ghost WIDTH = { byte_width I16 };
 
     fn as_i128(self) -> i128 {
         self as i128
@@ -191,11 +192,11 @@ impl NativePType for i16 {
 impl NativePType for i32 {
     const PTYPE: PType = PType::I32;
 
-    const WIDTH: usize = 4;
+    const WIDTH: usize = size_of::<i32>();
 
     ghost PTYPE = { I32 };
 
-    ghost WIDTH = { 4 };
+    ghost WIDTH = { byte_width I32 };
 
     fn as_i128(self) -> i128 {
         self as i128
@@ -211,11 +212,11 @@ impl NativePType for i32 {
 impl NativePType for i64 {
     const PTYPE: PType = PType::I64;
 
-    const WIDTH: usize = 8;
+    const WIDTH: usize = size_of::<i64>();
 
     ghost PTYPE = { I64 };
 
-    ghost WIDTH = { 8 };
+    ghost WIDTH = { byte_width I64 };
 
     fn as_i128(self) -> i128 {
         self as i128
