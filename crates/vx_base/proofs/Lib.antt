@@ -5,6 +5,7 @@ pub mod PackedBits
 pub mod PackedBytes
 pub mod SameBits
 pub mod MaskCounts
+pub mod Joined
 pub mod Positions
 pub mod Gathered
 pub mod Packing

@@ -144,16 +144,8 @@ words_front bs bits offset len words e (inr none) h = rw none (unpacked_none bs 
 -- one byte more is packed
 pub eight_packed : (out : List ℕ) (f : ℕ → Bool) (j byte : ℕ) → j < length out → byte ≡ mask_l (eight_from f (8 * j)) → ((k : ℕ) → k < 8 * j → bit_of out k ≡ f k)
     → (k : ℕ) → k < 8 * (j + 1) → bit_of (set out j byte) k ≡ f k
-eight_packed out f j byte within e before k h = elim (cases_lt k (8 * j)) [
-  | inl small ↦
-      let apart : k / 8 ≢ j = omega arith in
-      rw get_or-set_other (before k small)
-  | inr here ↦
-      let place : k / 8 ≡ j = omega arith in
-      let low : k % 8 < 8 = omega arith in
-      let same : 8 * j + k % 8 ≡ k = omega arith in
-      rw (place, get_or-set_same, e) (ap (λ (n : ℕ). eqb n 1) (bit_mask_l (eight_from f (8 * j)) (k % 8)) ∙ is_one (get_or (eight_from f (8 * j)) (k % 8) false) ∙ eight_at f (8 * j) (k % 8) low ∙ ap f same)
-]
+eight_packed out f j byte within e before = byte_put out f j byte within
+    (λ i h. ap (λ (n : ℕ). eqb (bit_at n i) 1) e ∙ ap (λ (n : ℕ). eqb n 1) (bit_mask_l (eight_from f (8 * j)) i) ∙ is_one (get_or (eight_from f (8 * j)) i false) ∙ eight_at f (8 * j) i h) before
 
 -- the bits are those that were packed
 pub packed_all : (out : List ℕ) (bits : List Bool) (len : ℕ) → length bits ≡ len → ((k : ℕ) → k < len → bit_of out k ≡ bool_at bits k) → unpacked out 0 len ≡ bits

@@ -13,6 +13,11 @@ byte_of_part bs from len n h =
     let part = unpacked_part bs bs from len (from + n) n (n + 8) (omega arith) h (λ j l. refl) in
     ap mask_l (rw eight at part)
 
+-- a byte that is read, by the bits that are seen there
+pub byte_seen : (bits : List Bool) (bs source : List ℕ) (from len n byte : ℕ) → unpacked bs from len ≡ bits → source ≡ bs → n + 8 ≤ len → byte ≡ byte_from source (from + n) → byte ≡ mask_l (take 8 (drop n bits))
+byte_seen bits bs source from len n byte seen same h e =
+    e ∙ ap (λ (xs : List ℕ). byte_from xs (from + n)) same ∙ byte_of_part bs from len n h ∙ ap (λ (xs : List Bool). mask_l (take 8 (drop n xs))) seen
+
 -- bits that make the same number are the same
 same_from_mask : (xs ys : List Bool) → length xs ≡ length ys → mask_l xs ≡ mask_l ys → xs ≡ ys
 same_from_mask [] [] e h = refl

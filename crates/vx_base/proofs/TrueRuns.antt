@@ -1,5 +1,5 @@
 -- The runs in which a mask is true.
-use Rattle.std.proofs.Common.{ℕ, zero, suc, ◌+◌, ◌-◌, ◌*◌, ◌<◌, ◌≤◌, ◌≡◌, ◌≢◌, Bool, true, false, cond, eqb, List, [], ◌∷◌, ◌++◌, length, get_or, replicate, refl, sym, ◌∙◌, ap, subst, append-nil, map, inl, inr, arith}
+use Rattle.std.proofs.Common.{ℕ, zero, suc, ◌+◌, ◌-◌, ◌<◌, ◌≤◌, ◌≡◌, Bool, true, false, cond, eqb, List, [], ◌∷◌, ◌++◌, length, replicate, refl, sym, ◌∙◌, ap, append-nil, map, inl, inr, arith}
 use Rattle.std.specs.Prelude.{count_by}
 use Rattle.std.specs.List.{filter, flat_map, range_with_len}
 use Rattle.std.specs.Int.{bit_at}
@@ -9,7 +9,7 @@ use Rattle.std.proofs.lemmas.List.Elements.{filter-append}
 use Rattle.std.proofs.lemmas.Grind.{flat_map-append}
 use Rattle.vx_base.specs.Bits.{bit_of, byte_from, byte_like, bool_at, unpacked}
 use Rattle.vx_base.specs.Selections.{run_positions}
-use Rattle.vx_base.specs.Trues.{trues, AreAll, IsReached, IsRunEnd}
+use Rattle.vx_base.specs.Trues.{trues, AreAll}
 use Rattle.vx_base.proofs.PackedBits.{get_unpacked}
 use Rattle.vx_base.proofs.PackedBytes.{bit_of-byte_from}
 use Rattle.vx_base.proofs.Filling.{like_bit}

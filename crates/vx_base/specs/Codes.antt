@@ -106,7 +106,7 @@ mutual
   code_fields-inj no_fields no_fields p = refl
   code_fields-inj (field n r fs) (field m q gs) p =
       λ i. field ((coded_list coded_ℕ).inj n m (ap first p) i) (code_row-inj r q (ap second p) i)
-          (code_fields-inj fs gs (ap after_second p) i)
+      (code_fields-inj fs gs (ap after_second p) i)
   code_fields-inj _ _ p = cc
 
 -- ---- kinds
@@ -136,10 +136,10 @@ mutual
   code_kind-inj (lists k n) (lists h m) p = λ i. lists (code_kind-inj k h (ap second p) i) (coded_bool.inj n m (ap after_second p) i)
   code_kind-inj (fixed_lists k size n) (fixed_lists h size2 m) p =
       λ i. fixed_lists (code_kind-inj k h (ap second p) i) (ap (λ g. num (second (rest g))) p i)
-          (coded_bool.inj n m (ap (λ g. after_second (rest g)) p) i)
+      (coded_bool.inj n m (ap (λ g. after_second (rest g)) p) i)
   code_kind-inj (records names ks n) (records names2 hs m) p =
       λ i. records ((coded_list (coded_list coded_ℕ)).inj names names2 (ap second p) i)
-          (code_kinds-inj ks hs (ap (λ g. second (rest g)) p) i) (coded_bool.inj n m (ap (λ g. after_second (rest g)) p) i)
+      (code_kinds-inj ks hs (ap (λ g. second (rest g)) p) i) (coded_bool.inj n m (ap (λ g. after_second (rest g)) p) i)
   code_kind-inj _ _ p = let e = ap tag p in absurd (omega (arith, e))
 
   pub code_kinds-inj : (x y : Kinds) → code_kinds x ≡ code_kinds y → x ≡ y

@@ -4,6 +4,7 @@ pub mod Bits
 pub mod Trues
 pub mod Selections
 pub mod Picked
+pub mod Booleans
 pub mod Masks
 pub mod Lends
 pub mod Refusals

@@ -11,6 +11,7 @@ ghost use Rattle.vx_base.specs.Bits.{packed, bits_of, bit_of, unpacked, bool_at,
 ghost use Rattle.vx_base.specs.Trues.{AreAll};
 
 use crate::bit_buffer_mut::{fill_bits, put_bit};
+use crate::bit_buffer_view::{BitBufferMeta, BitBufferView};
 use crate::byte_buffer::ByteBuffer;
 use crate::errors::VortexError;
 use std::alloc::Global;
@@ -82,7 +83,7 @@ pub(crate) fn byte_like(value: bool) -> u8
 
 // Bit `place` of the bytes.
 #[inline]
-fn read_bit(bytes: &[u8], place: usize) -> bool
+pub(crate) fn read_bit(bytes: &[u8], place: usize) -> bool
     requires { place / 8 < length bytes.now }
     ensures { result ≡ bit_of bytes.now place }
 {
@@ -395,6 +396,14 @@ impl BitBuffer {
         Ok(BitBuffer::from_parts(ByteBuffer::from_vec(alloc, bytes)?, 0, self.len))
     }
 
+    /// The booleans where they lie, to be read.
+    pub fn view(&self) -> BitBufferView<'_>
+        ensures { result ≡ self.now.bits }
+    {
+        let meta = BitBufferMeta::new(self.offset, self.len);
+        BitBufferView::from_meta(self.bytes.as_slice(), meta)
+    }
+
     /// The bit of the first byte at which the booleans begin, how many they are, and the bytes,
     /// which hold them all: what `new_with_offset` takes.
     pub fn into_inner(self) -> (usize, usize, ByteBuffer)
@@ -449,7 +458,7 @@ impl BitBuffer {
     }
 
     // Whether the two have the same booleans.
-    fn same(&self, other: &BitBuffer) -> bool
+    pub(crate) fn same(&self, other: &BitBuffer) -> bool
         ensures { IsTrue result ↔ (self.now.bits ≡ other.now.bits) }
     {
         if self.len() != other.len() || !self.same_bytes(other) {

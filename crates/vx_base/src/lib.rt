@@ -3,6 +3,7 @@
 
 mod bit_buffer;
 mod bit_buffer_mut;
+mod bit_buffer_view;
 mod buffer;
 mod buffer_mut;
 mod byte_buffer;
@@ -14,6 +15,9 @@ mod field_names;
 mod gather;
 mod laws;
 mod mask;
+#[cfg(test)]
+mod mask_tests;
+mod mask_values;
 mod native;
 mod nullability;
 mod numbers;
@@ -30,6 +34,7 @@ mod true_runs;
 
 pub use crate::bit_buffer::BitBuffer;
 pub use crate::bit_buffer_mut::BitBufferMut;
+pub use crate::bit_buffer_view::{BitBufferMeta, BitBufferView};
 pub use crate::buffer::Buffer;
 pub use crate::buffer_mut::BufferMut;
 pub use crate::byte_buffer::{ByteBuffer, share_buffers, slice_numbers};
@@ -40,6 +45,7 @@ pub use crate::field_names::{FieldName, FieldNames};
 pub use crate::gather::{gather_bits, gather_items, gather_numbers};
 pub use crate::laws::first_fault_is_least;
 pub use crate::mask::Mask;
+pub use crate::mask_values::MaskValues;
 pub use crate::native::{NativePType, get_then_put, put_then_get};
 pub use crate::nullability::Nullability;
 pub use crate::numbers::{int_at, int_of, number_count, put_int};

@@ -1,14 +1,20 @@
 // A list of booleans, one a row.
 
-ghost use Rattle.std.specs.Prelude.{◌≡◌, ◌<◌, ◌↔◌, Bool, true, false, length, replicate, count_by, IsTrue};
-ghost use Rattle.vx_base.specs.Refusals.{Gives};
+ghost use Rattle.std.specs.Prelude.{◌≡◌, ◌<◌, ◌↔◌, ◌^◌, ◌++◌, true, false, length, replicate, count_by, IsTrue, IsSome, IfSome, IfOk};
+ghost use Rattle.std.specs.Bool.{beq};
+ghost use Rattle.std.specs.Cmp.{bool_eq_equiv, partial_equiv_from_equiv};
+ghost use Rattle.std.specs.Cmp.Lexicographic.{pointwise, lists_equiv};
 ghost use Rattle.std.specs.List.{flat_map};
+ghost use Rattle.vx_base.specs.Refusals.{Gives, Refuses, Tests};
 ghost use Rattle.vx_base.specs.Bits.{bool_at};
+ghost use Rattle.vx_base.specs.Booleans.{IsMixed, joined, count_fault};
 ghost use Rattle.vx_base.specs.Selections.{run_positions};
 ghost use Rattle.vx_base.specs.Trues.{trues};
 
 use crate::bit_buffer::BitBuffer;
+use crate::bit_buffer_mut::BitBufferMut;
 use crate::errors::VortexError;
+use crate::mask_values::MaskValues;
 use std::alloc::Global;
 use std::marker::Model;
 
@@ -22,19 +28,18 @@ pub struct Mask {
 enum MaskState {
     AllTrue(usize),
     AllFalse(usize),
-    // both values stand
-    Mixed { bits: BitBuffer, true_count: usize },
+    Mixed(MaskValues),
 }
 
 impl Model for Mask {
     ghost use Rattle.std.specs.Prelude.{Bool, List};
-    ghost use Rattle.vx_base.specs.Masks.{booleans_of, IsCounted};
+    ghost use Rattle.vx_base.specs.Masks.{booleans_of, IsMixedState};
 
     ghost Value = { List Bool };
 
     ghost view = { λ m. booleans_of m.state };
 
-    ghost invariant = { λ m. IsCounted m.state };
+    ghost invariant = { λ m. IsMixedState m.state };
 }
 
 #[tactic(auto, using(crate::proofs::MaskCounts::mask_counts))]
@@ -70,7 +75,27 @@ impl Mask {
             return Ok(Mask::new_false(len));
         }
         Ok(Mask {
-            state: MaskState::Mixed { bits, true_count },
+            state: MaskState::Mixed(MaskValues::new(bits, true_count)),
+        })
+    }
+
+    /// The booleans of these masks, one mask after another. Refuses `Overflow` where they are 2^64
+    /// or more. Takes memory only where both values stand.
+    pub fn concat(alloc: Global, masks: &[Mask]) -> Result<Mask, VortexError>
+        ensures booleans { IfOk result (λ m. m ≡ joined masks.now) }
+        ensures refuses { Refuses result (count_fault (length (joined masks.now))) }
+    {
+        let len = total_len(masks)?;
+        let trues = total_true_count(masks);
+        if trues == len {
+            return Ok(Mask::new_true(len));
+        }
+        if trues == 0 {
+            return Ok(Mask::new_false(len));
+        }
+        let bits = joined_bits(alloc, masks, len)?;
+        Ok(Mask {
+            state: MaskState::Mixed(MaskValues::new(bits, trues)),
         })
     }
 
@@ -81,7 +106,7 @@ impl Mask {
         match &self.state {
             MaskState::AllTrue(len) => *len,
             MaskState::AllFalse(len) => *len,
-            MaskState::Mixed { bits, .. } => bits.len(),
+            MaskState::Mixed(values) => values.len(),
         }
     }
 
@@ -93,7 +118,7 @@ impl Mask {
         match &self.state {
             MaskState::AllTrue(_) => true,
             MaskState::AllFalse(_) => false,
-            MaskState::Mixed { bits, .. } => bits.value(i),
+            MaskState::Mixed(values) => values.value(i),
         }
     }
 
@@ -104,7 +129,7 @@ impl Mask {
         match &self.state {
             MaskState::AllTrue(len) => *len,
             MaskState::AllFalse(_) => 0,
-            MaskState::Mixed { true_count, .. } => *true_count,
+            MaskState::Mixed(values) => values.true_count(),
         }
     }
 
@@ -116,7 +141,7 @@ impl Mask {
         match &self.state {
             MaskState::AllTrue(len) => Ok(vec![in alloc; (0, *len)]?),
             MaskState::AllFalse(_) => Ok(Vec::new(alloc)),
-            MaskState::Mixed { bits, .. } => bits.true_runs(alloc),
+            MaskState::Mixed(values) => values.true_runs(alloc),
         }
     }
 
@@ -133,4 +158,91 @@ impl Mask {
     {
         self.true_count() == 0
     }
+
+    /// The booleans themselves, `None` where all of them are alike.
+    pub fn values(&self) -> Option<&MaskValues>
+        ensures some { IsSome result ↔ IsMixed self.now }
+        ensures value { IfSome result (λ v. v.now ≡ self.now) }
+    {
+        match &self.state {
+            MaskState::AllTrue(_) | MaskState::AllFalse(_) => None,
+            MaskState::Mixed(values) => Some(values),
+        }
+    }
+
+    // Adds the booleans at the end of these bits.
+    fn append_to(&self, bits: &mut BitBufferMut) -> Result<(), VortexError>
+        ensures { Gives result (λ _. bits.new ≡ bits.old ++ self.now) }
+    {
+        match &self.state {
+            MaskState::AllTrue(len) => bits.append_n(true, *len),
+            MaskState::AllFalse(len) => bits.append_n(false, *len),
+            MaskState::Mixed(values) => values.append_to(bits),
+        }
+    }
+
+    // Whether the two have the same booleans.
+    fn same(&self, other: &Mask) -> bool
+        ensures { IsTrue result ↔ (self.now ≡ other.now) }
+    {
+        if self.len() != other.len() || self.true_count() != other.true_count() {
+            return false;
+        }
+        match (&self.state, &other.state) {
+            (MaskState::Mixed(values), MaskState::Mixed(others)) => values.same(others),
+            _ => true,
+        }
+    }
+}
+
+impl PartialEq for Mask {
+    ghost eq = { pointwise beq };
+
+    ghost laws = { partial_equiv_from_equiv (lists_equiv bool_eq_equiv) };
+
+    fn eq(&self, other: &Mask) -> bool {
+        self.same(other)
+    }
+}
+
+impl Eq for Mask {
+    ghost laws = { lists_equiv bool_eq_equiv };
+}
+
+// How many booleans these masks have.
+fn total_len(masks: &[Mask]) -> Result<usize, VortexError>
+    ensures len { IfOk result (λ n. n ≡ length (joined masks.now)) }
+    ensures tests { Tests result (count_fault (length (joined masks.now))) }
+{
+    let mut total = 0usize;
+    for mask in masks {
+        let Some(longer) = total.checked_add(mask.len()) else {
+            return Err(VortexError::Overflow);
+        };
+        total = longer;
+    }
+    Ok(total)
+}
+
+// How many of the booleans of these masks are true. Asks that they can be counted.
+fn total_true_count(masks: &[Mask]) -> usize
+    requires { length (joined masks.now) < 2 ^ 64 }
+    ensures { result ≡ count_by (λ b. b) (joined masks.now) }
+{
+    let mut total = 0;
+    for mask in masks {
+        total += mask.true_count();
+    }
+    total
+}
+
+// The booleans of these masks as bits, of which there are `len`.
+fn joined_bits(alloc: Global, masks: &[Mask], len: usize) -> Result<BitBuffer, VortexError>
+    ensures { Gives result (λ b. b.bits ≡ joined masks.now) }
+{
+    let mut bits = BitBufferMut::with_capacity(alloc, len)?;
+    for mask in masks {
+        mask.append_to(&mut bits)?;
+    }
+    bits.freeze()
 }

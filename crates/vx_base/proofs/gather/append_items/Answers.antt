@@ -1,5 +1,4 @@
-use Rattle.std.proofs.Common.{◌+◌, ◌-◌, ◌<◌, ◌≤◌, ◌≡◌, ◌++◌, length, map, sym, ap, ◌∙◌, arith}
-use Rattle.vx_base.specs.Selections.{run_positions, item_of_position}
+use Rattle.std.proofs.Common.{◌-◌, ◌<◌, ◌≤◌, ◌++◌, length, ap, ◌∙◌, arith}
 use Rattle.vx_base.proofs.Runs.{in_run, part_by_places}
 use Rattle.vx_base.proofs.gather.append_items.Goals as goal
 

@@ -1,4 +1,4 @@
-use Rattle.std.proofs.Common.{◌+◌, ◌<◌, ◌≡◌, ◌++◌, take, get_or, length, map, sym, ap, ◌∙◌}
+use Rattle.std.proofs.Common.{◌<◌, ◌++◌, take, get_or, length, map, sym, ap, ◌∙◌}
 use Rattle.std.specs.List.{flat_map}
 use Rattle.std.proofs.lemmas.List.{map-append}
 use Rattle.vx_base.specs.Selections.{run_positions, item_of_position}

@@ -1,9 +1,8 @@
 use Rattle.vx_base.proofs.Packing.{bytes_front}
-use Rattle.std.proofs.Common.{ℕ, ◌≡◌, ◌+◌, ◌*◌, ◌/◌, List, length, take, drop, sym, ap, ◌∙◌, arith}
-use lib.Lanes.{mask_l}
-use Rattle.vx_base.specs.Bits.{byte_from, bits_of}
+use Rattle.std.proofs.Common.{◌≡◌, ◌*◌, ◌/◌, length, sym, ap, ◌∙◌, arith}
+use Rattle.vx_base.specs.Bits.{bits_of}
 use Rattle.vx_base.proofs.PackedBits.{length_unpacked}
-use Rattle.vx_base.proofs.SameBits.{byte_of_part, same_more, same_byte}
+use Rattle.vx_base.proofs.SameBits.{byte_seen, same_more, same_byte}
 use Rattle.vx_base.proofs.bit_buffer.BitBuffer.same_bytes.Goals as goal
 
 pub returns-then-byte_from : goal.returns-then-byte_from
@@ -15,10 +14,8 @@ returns-then-byte_from c =
     let j = c.loop-j.j in
     let long : length xs ≡ s.len = rw (← (ap bits_of c.self.view_is)) (length_unpacked s.bytes s.offset s.len) in
     let wide : length ys ≡ o.len = rw (← (ap bits_of c.other.view_is)) (length_unpacked o.bytes o.offset o.len) in
-    let left : c.byte_from.result ≡ mask_l (take 8 (drop (8 * j) xs)) =
-    rw (← (ap bits_of c.self.view_is)) (c.byte_from.ensures ∙ ap (λ (bytes : List ℕ). byte_from bytes (s.offset + 8 * j)) c.as_slice-mine.ensures.value ∙ byte_of_part s.bytes s.offset s.len (8 * j) (omega arith)) in
-    let right : c.byte_from-in-loop-j.result ≡ mask_l (take 8 (drop (8 * j) ys)) =
-    rw (← (ap bits_of c.other.view_is)) (c.byte_from-in-loop-j.ensures ∙ ap (λ (bytes : List ℕ). byte_from bytes (o.offset + 8 * j)) c.as_slice-theirs.ensures.value ∙ byte_of_part o.bytes o.offset o.len (8 * j) (omega arith)) in
+    let left = byte_seen xs s.bytes c.as_slice-mine.result.now s.offset s.len (8 * j) c.byte_from.result (ap bits_of c.self.view_is) c.as_slice-mine.ensures.value (omega arith) c.byte_from.ensures in
+    let right = byte_seen ys o.bytes c.as_slice-theirs.result.now o.offset o.len (8 * j) c.byte_from-in-loop-j.result (ap bits_of c.other.view_is) c.as_slice-theirs.ensures.value (omega arith) c.byte_from-in-loop-j.ensures in
     (λ h. absurd (cc), λ e. absurd (c.if-byte_from.true (left ∙ same_byte xs ys j (length xs / 8) (omega arith) e ∙ sym right)))
 
 pub loop-j-preserved : goal.loop-j-preserved
@@ -30,10 +27,8 @@ loop-j-preserved c =
     let j = c.loop-j.j in
     let long : length xs ≡ s.len = rw (← (ap bits_of c.self.view_is)) (length_unpacked s.bytes s.offset s.len) in
     let wide : length ys ≡ o.len = rw (← (ap bits_of c.other.view_is)) (length_unpacked o.bytes o.offset o.len) in
-    let left : c.byte_from.result ≡ mask_l (take 8 (drop (8 * j) xs)) =
-    rw (← (ap bits_of c.self.view_is)) (c.byte_from.ensures ∙ ap (λ (bytes : List ℕ). byte_from bytes (s.offset + 8 * j)) c.as_slice-mine.ensures.value ∙ byte_of_part s.bytes s.offset s.len (8 * j) (omega arith)) in
-    let right : c.byte_from-in-loop-j.result ≡ mask_l (take 8 (drop (8 * j) ys)) =
-    rw (← (ap bits_of c.other.view_is)) (c.byte_from-in-loop-j.ensures ∙ ap (λ (bytes : List ℕ). byte_from bytes (o.offset + 8 * j)) c.as_slice-theirs.ensures.value ∙ byte_of_part o.bytes o.offset o.len (8 * j) (omega arith)) in
+    let left = byte_seen xs s.bytes c.as_slice-mine.result.now s.offset s.len (8 * j) c.byte_from.result (ap bits_of c.self.view_is) c.as_slice-mine.ensures.value (omega arith) c.byte_from.ensures in
+    let right = byte_seen ys o.bytes c.as_slice-theirs.result.now o.offset o.len (8 * j) c.byte_from-in-loop-j.result (ap bits_of c.other.view_is) c.as_slice-theirs.ensures.value (omega arith) c.byte_from-in-loop-j.ensures in
     same_more xs ys j (omega arith) (omega arith) c.loop-j.invariant (sym left ∙ c.if-byte_from.false ∙ right)
 
 pub returns-then-other-eq0 : goal.returns-then-other-eq0

@@ -1,5 +1,5 @@
 use Rattle.std.proofs.Common.{[], ◌∷◌, ◌++◌}
-use Rattle.vx_base.proofs.TrueRuns.{HoldTrues, HoldTrues-none, HoldTrues-run, HoldTrues-passed}
+use Rattle.vx_base.proofs.TrueRuns.{HoldTrues-none, HoldTrues-run, HoldTrues-passed}
 use Rattle.vx_base.proofs.bit_buffer.BitBuffer.true_runs.Goals as goal
 
 pub loop-start-init : goal.loop-start-init

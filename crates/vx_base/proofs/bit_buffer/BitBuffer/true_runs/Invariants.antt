@@ -1,4 +1,4 @@
-use Rattle.std.proofs.Common.{◌≡◌, ◌≢◌, ◌≤◌, ◌<◌, ◌-◌, length, false}
+use Rattle.std.proofs.Common.{◌≢◌, ◌≤◌, ◌<◌, ◌-◌, length, false}
 use Rattle.vx_base.specs.Bits.{bool_at}
 use Rattle.vx_base.proofs.TrueRuns.{HoldTrues}
 use Rattle.vx_base.proofs.bit_buffer.BitBuffer.true_runs.Given as goal
