@@ -89,6 +89,17 @@ number_bytes_hold a t bs v parts formed are_counts =
     } in
     subst (λ x. HoldCounts (integer_type (kind_of x)) bs (counts_in x)) (sym same) hold
 
+-- and are read as their counts
+pub number_bytes_read : (a : Tree) (t : PType) (bs : List ℕ) (v : Valid) → a ≡ primitive t bs v → WellFormed (primitive t bs v) → IsCounts a → numbers t bs ≡ map pos (counts_in a)
+number_bytes_read a t bs v parts formed counts =
+    let hold = number_bytes_hold a t bs v parts formed counts in
+    subst (λ p. numbers p bs ≡ map pos (counts_in a)) (ap (λ x. integer_type (kind_of x)) parts) hold.are
+
+pub counts_read : (a : Tree) (t : PType) (bs : List ℕ) (v : Valid) (counts : List ℕ) → a ≡ primitive t bs v → IsCounts a → map pos counts ≡ numbers t bs → counts ≡ counts_in a
+counts_read a t bs v counts parts are_counts read =
+    let plain : v ≡ non_nullable = plain_numbers t bs v (ap (λ x. is_plain_integers (kind_of x)) (sym parts) ∙ are_counts.kind) in
+    sym (ap counts_in (parts ∙ ap (primitive t bs) plain) ∙ counts_in-primitive t bs counts (sym read))
+
 -- ---- counts that are read row by row
 
 pub record AreCountsRead (a : Tree) (n : ℕ) (counts : List ℕ) : Type 0 where

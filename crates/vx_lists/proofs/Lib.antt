@@ -10,3 +10,5 @@ pub mod RebuiltViews
 pub mod RebuiltAlike
 pub mod ListFaults
 pub mod ListPlans
+pub mod ReferencedElements
+pub mod TrimmedViews

@@ -2,3 +2,4 @@ pub mod ListLayout
 pub mod CountBytes
 pub mod ListViews
 pub mod ListViewFaults
+pub mod ListReferences

@@ -2,14 +2,14 @@
 use Rattle.std.specs.Prelude.{◌≡◌, ℕ, ◌+◌, ◌^◌, ◌==◌, nat_lt, nat_le, int_le, if◌then◌else◌, ℤ, pos, negsuc, Option, Some, None, unwrap_or}
 use Rattle.vx_base.specs.declared.ptypes.PType.{PType}
 use Rattle.vx_base.specs.Integers.{greatest}
-use Rattle.vx_base.specs.Refusals.{Refusal, mismatched_types, length_mismatch, negative, overflow, out_of_bounds, or_else, first_fault}
+use Rattle.vx_base.specs.Refusals.{Refusal, mismatched_types, length_mismatch, negative, overflow, out_of_bounds, not_implemented, or_else, first_fault}
 use Rattle.vx_base.specs.Rows.{number_in}
 use Rattle.vx_base.specs.Kinds.{is_plain_integers, integer_type}
 use Rattle.vx_tree.specs.Tree.{Tree, Valid}
 use Rattle.vx_tree.specs.Meaning.{tree_len, kind_of, row_at}
 use Rattle.vx_tree.specs.Faults.{valid_type_fault, valid_len_fault, take_overflow}
 use Rattle.vx_lists.specs.declared.rebuild.ListViewRebuildMode.{ListViewRebuildMode}
-use Rattle.vx_lists.specs.declared.rebuild.ListViewRebuildMode.TheVariants.{MakeZeroCopyToList}
+use Rattle.vx_lists.specs.declared.rebuild.ListViewRebuildMode.TheVariants.{MakeZeroCopyToList, TrimElements, MakeExact, OverlapCompression}
 use Rattle.vx_lists.specs.ListViews.{elements_of, offsets_of, flag_of, rebuilt_offset_ptype, total_of}
 
 -- the fault of one row over `count` elements: a negative offset or size, an end past every usize, or an end past the elements
@@ -59,3 +59,6 @@ rebuild_overflow t = or_else (rebuilt_total_fault t) (take_overflow (elements_of
 -- the same by mode: an array without rows comes back in each
 abbrev pub rebuild_fault : ListViewRebuildMode → Tree → Option Refusal
 rebuild_fault MakeZeroCopyToList t = if tree_len t == 0 then None else (if flag_of t then None else rebuild_overflow t)
+rebuild_fault TrimElements t = None
+rebuild_fault MakeExact t = if tree_len t == 0 then None else (if flag_of t then None else rebuild_overflow t)
+rebuild_fault OverlapCompression t = if tree_len t == 0 then None else Some not_implemented

@@ -13,7 +13,7 @@ ghost use Rattle.vx_lists.specs.CountBytes.{HoldCounts};
 ghost use Rattle.vx_lists.specs.ListViews.{counts_in};
 
 use std::alloc::Global;
-use vx_base::{ByteBuffer, PType, VortexError, write_counts};
+use vx_base::{ByteBuffer, PType, VortexError, read_counts, write_counts};
 use vx_tree::{ArrayRef, Layout};
 
 /// Row `i` of an array of counts.
@@ -49,6 +49,17 @@ pub(crate) fn count_bytes(alloc: Global, array: &ArrayRef) -> Result<ByteBuffer,
     }
     let counts = counts_by_row(alloc, array)?;
     Ok(write_counts(alloc, array.dtype().as_ptype(), &counts)?)
+}
+
+/// The rows of an array of counts.
+pub(crate) fn counts_of(alloc: Global, array: &ArrayRef) -> Result<Vec<usize>, VortexError>
+    requires { IsCounts array.now }
+    ensures { Gives result (λ counts. counts.items ≡ counts_in array.now) }
+{
+    if let Layout::Primitive { ptype, bytes, .. } = array.layout() {
+        return Ok(read_counts(alloc, *ptype, bytes.as_slice())?);
+    }
+    Ok(counts_by_row(alloc, array)?)
 }
 
 // The rows of an array of counts, which their type holds.

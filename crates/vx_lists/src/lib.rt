@@ -8,6 +8,8 @@ mod list_view;
 mod number_rows;
 mod rebuild;
 mod rebuild_plan;
+mod references;
+mod trim;
 
 pub use crate::list_view::ListViewArray;
 pub use crate::rebuild::ListViewRebuildMode;

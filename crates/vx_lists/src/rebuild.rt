@@ -4,10 +4,11 @@ ghost use Rattle.std.specs.Prelude.{◌≡◌, ◌≢◌, true, false, None, IfO
 ghost use Rattle.vx_base.specs.Refusals.{Gives, Refuses};
 ghost use Rattle.vx_tree.specs.Faults.{take_overflow};
 ghost use Rattle.vx_tree.specs.Formed.{IsConsecutive};
-ghost use Rattle.vx_tree.specs.Meaning.{tree_len};
+ghost use Rattle.vx_tree.specs.Meaning.{tree_len, rows};
 ghost use Rattle.vx_tree.specs.Operations.{IsSelected};
-ghost use Rattle.vx_lists.specs.declared.rebuild.ListViewRebuildMode.TheVariants.{MakeZeroCopyToList};
+ghost use Rattle.vx_lists.specs.declared.rebuild.ListViewRebuildMode.TheVariants.{MakeZeroCopyToList, TrimElements, MakeExact};
 ghost use Rattle.vx_lists.specs.ListViewFaults.{rebuilt_total_fault, rebuild_overflow, rebuild_fault};
+ghost use Rattle.vx_lists.specs.ListReferences.{IsTrimmedToBounds};
 ghost use Rattle.vx_lists.specs.ListViews.{elements_of, offsets_of, sizes_of, flag_of, with_flag, valid_positions_of, IsRebuildPlan, IsRebuilt};
 
 use crate::count_arrays::count_bytes;
@@ -26,6 +27,12 @@ use vx_tree::{ArrayRef, Layout, TypedArray, Validity};
 pub enum ListViewRebuildMode {
     /// The lists lie end to end in their order, so that the offsets are those of a list array.
     MakeZeroCopyToList,
+    /// The elements before the first list and after the last one are left out.
+    TrimElements,
+    /// The lists lie end to end, with no element before the first and none after the last.
+    MakeExact,
+    /// Lists share the elements that they have in common: not implemented.
+    OverlapCompression,
 }
 
 impl ListViewArray {
@@ -53,8 +60,8 @@ impl ListViewArray {
         })
     }
 
-    // The elements of the plan, by their positions; of numbers and bits ranges are copied.
-    fn take_elements(&self, alloc: Global, plan: &RebuildPlan) -> Result<ArrayRef, VortexError>
+    // The elements of the plan, run by run.
+    fn elements_by_runs(&self, alloc: Global, plan: &RebuildPlan) -> Result<ArrayRef, VortexError>
         requires plan { IsRebuildPlan self.now plan.now.offset_type plan.now.offsets
             plan.now.size_type plan.now.sizes plan.now.count }
         requires fits { rebuilt_total_fault self.now ≡ None }
@@ -70,14 +77,50 @@ impl ListViewArray {
             plan.size_type,
             plan.sizes.as_slice(),
         )?;
-        if matches!(
-            elements.layout(),
-            Layout::Bool { .. } | Layout::Primitive { .. }
-        ) {
-            return elements.select(alloc, &Selection::of_runs(&runs, plan.count));
-        }
+        elements.select(alloc, &Selection::of_runs(&runs, plan.count))
+    }
+
+    // The elements of the plan, by their positions.
+    fn elements_at_positions(
+        &self,
+        alloc: Global,
+        plan: &RebuildPlan,
+    ) -> Result<ArrayRef, VortexError>
+        requires plan { IsRebuildPlan self.now plan.now.offset_type plan.now.offsets
+            plan.now.size_type plan.now.sizes plan.now.count }
+        requires fits { rebuilt_total_fault self.now ≡ None }
+        ensures selected { IfOk result
+            (IsSelected (elements_of self.now) (valid_positions_of self.now)) }
+        ensures refuses { Refuses result (rebuild_overflow self.now) }
+    {
+        let elements = self.parts().elements;
+        let runs = element_runs(
+            alloc,
+            plan.offset_type,
+            plan.offsets.as_slice(),
+            plan.size_type,
+            plan.sizes.as_slice(),
+        )?;
         let positions = positions_of_runs(alloc, &runs, plan.count)?;
         elements.select(alloc, &Selection::at_positions(&positions))
+    }
+
+    // The elements of the plan at once: of numbers and bits ranges are copied.
+    fn take_elements(&self, alloc: Global, plan: &RebuildPlan) -> Result<ArrayRef, VortexError>
+        requires plan { IsRebuildPlan self.now plan.now.offset_type plan.now.offsets
+            plan.now.size_type plan.now.sizes plan.now.count }
+        requires fits { rebuilt_total_fault self.now ≡ None }
+        ensures selected { IfOk result
+            (IsSelected (elements_of self.now) (valid_positions_of self.now)) }
+        ensures refuses { Refuses result (rebuild_overflow self.now) }
+    {
+        if matches!(
+            self.parts().elements.layout(),
+            Layout::Bool { .. } | Layout::Primitive { .. }
+        ) {
+            return self.elements_by_runs(alloc, plan);
+        }
+        self.elements_at_positions(alloc, plan)
     }
 
     // The rebuilt list view of a plan over these elements.
@@ -123,6 +166,17 @@ impl ListViewArray {
         Ok(self.rebuilt(alloc, plan, elements)?)
     }
 
+    /// The same as `rebuild_by_take` gives, copied run by run: no list of a position for each element
+    /// is made.
+    pub fn rebuild_by_runs(&self, alloc: Global) -> Result<ListViewArray, VortexError>
+        ensures rebuilt { IfOk result (IsRebuilt self.now) }
+        ensures refuses { Refuses result (rebuild_overflow self.now) }
+    {
+        let plan = self.plan(alloc)?;
+        let elements = self.elements_by_runs(alloc, &plan)?;
+        Ok(self.rebuilt(alloc, plan, elements)?)
+    }
+
     // The same parts under this flag.
     fn with_flag(&self, alloc: Global, flag: bool) -> Result<ListViewArray, VortexError>
         requires { IsTrue flag → IsConsecutive (offsets_of self.now) (sizes_of self.now) }
@@ -137,9 +191,21 @@ impl ListViewArray {
         Ok(ListViewArray::from_array(array))
     }
 
+    // The same lists over just the elements that they lie in.
+    fn trim_to_bounds(&self, alloc: Global) -> Result<ListViewArray, VortexError>
+        requires { tree_len self.now ≢ 0 }
+        ensures { Gives result (IsTrimmedToBounds self.now) }
+    {
+        let (start, end) = self.referenced_element_bounds()?;
+        self.trim_elements(alloc, start, end)
+    }
+
     /// The same rows, rebuilt as `mode` says. An array without rows comes back with the flag set
-    /// and all its elements. Under `MakeZeroCopyToList` a flagged one comes back as it is, and any
-    /// other as `rebuild_by_take` gives it, which refuses `Overflow`.
+    /// and all its elements, in every mode. Of any other, `MakeZeroCopyToList` gives a flagged one
+    /// as it is, and one without the flag as `rebuild_by_take` does; `TrimElements` gives it trimmed
+    /// to `referenced_element_bounds`; `MakeExact` gives a flagged one trimmed, and one without the
+    /// flag as `rebuild_by_take` does, which refuses `Overflow`; `OverlapCompression` refuses
+    /// `NotImplemented`.
     pub fn rebuild(
         &self,
         alloc: Global,
@@ -150,18 +216,33 @@ impl ListViewArray {
             IfOk result (λ a. a ≡ self.now) }
         ensures rebuilt { mode ≡ MakeZeroCopyToList → tree_len self.now ≢ 0 →
             flag_of self.now ≡ false → IfOk result (IsRebuilt self.now) }
+        ensures trimmed { mode ≡ TrimElements → tree_len self.now ≢ 0 →
+            IfOk result (IsTrimmedToBounds self.now) }
+        ensures exact_flagged { mode ≡ MakeExact → tree_len self.now ≢ 0 →
+            flag_of self.now ≡ true → IfOk result (IsTrimmedToBounds self.now) }
+        ensures exact { mode ≡ MakeExact → tree_len self.now ≢ 0 →
+            flag_of self.now ≡ false → IfOk result (IsRebuilt self.now) }
+        ensures rows { IfOk result (λ a. rows a ≡ rows self.now) }
         ensures refuses { Refuses result (rebuild_fault mode self.now) }
     {
-        match mode {
-            ListViewRebuildMode::MakeZeroCopyToList => {
-                if self.is_empty() {
-                    Ok(self.with_flag(alloc, true)?)
-                } else if self.is_zero_copy_to_list() {
-                    Ok(self.try_clone(alloc)?)
-                } else {
-                    self.rebuild_by_take(alloc)
+        if self.is_empty() {
+            return Ok(self.with_flag(alloc, true)?);
+        }
+        if self.is_zero_copy_to_list() {
+            return match mode {
+                ListViewRebuildMode::MakeZeroCopyToList => Ok(self.try_clone(alloc)?),
+                ListViewRebuildMode::TrimElements | ListViewRebuildMode::MakeExact => {
+                    Ok(self.trim_to_bounds(alloc)?)
                 }
+                ListViewRebuildMode::OverlapCompression => Err(VortexError::NotImplemented),
+            };
+        }
+        match mode {
+            ListViewRebuildMode::MakeZeroCopyToList | ListViewRebuildMode::MakeExact => {
+                self.rebuild_by_take(alloc)
             }
+            ListViewRebuildMode::TrimElements => Ok(self.trim_to_bounds(alloc)?),
+            ListViewRebuildMode::OverlapCompression => Err(VortexError::NotImplemented),
         }
     }
 }

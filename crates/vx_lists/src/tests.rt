@@ -204,3 +204,144 @@ fn another_layout_comes_back(rt: HostRuntime) -> Result<(), Fail> {
     assert!(rt; ListViewArray::try_from_array(bools(alloc, &[true])?).is_err());
     Ok(())
 }
+
+// The lists `[9]`, `[1]`, `[2]`, `[9]`, of which the middle two are left: flagged, over four elements.
+fn flagged_middle(alloc: Global) -> Result<ListViewArray, VortexError> {
+    let lists = view::<u8>(
+        alloc,
+        &[9, 1, 2, 9],
+        &[0, 1, 2, 3],
+        &[1, 1, 1, 1],
+        Validity::NonNullable,
+    )?;
+    let rebuilt = lists.rebuild_by_take(alloc)?;
+    match ListViewArray::try_from_array(rebuilt.as_array().slice(alloc, 1..3)?) {
+        Ok(middle) => Ok(middle),
+        Err(_) => Err(VortexError::MismatchedTypes),
+    }
+}
+
+#[test]
+fn elements_around_the_lists_are_trimmed(rt: HostRuntime) -> Result<(), Fail> {
+    let alloc = rt.alloc();
+    let lists = view::<u32>(
+        alloc,
+        &[99, 98, 1, 2, 97, 3, 4, 96, 95],
+        &[2, 5],
+        &[2, 2],
+        Validity::NonNullable,
+    )?;
+    let trimmed = lists.rebuild(alloc, ListViewRebuildMode::TrimElements)?;
+    assert!(rt; has_ranges(&trimmed, &[(0, 2), (3, 2)]));
+    assert!(rt; has_numbers(trimmed.elements(), &[1, 2, 97, 3, 4]));
+    assert!(rt; !trimmed.is_zero_copy_to_list() && has_type(trimmed.offsets(), PType::U32));
+    Ok(())
+}
+
+#[test]
+fn lists_that_reach_both_ends_stay(rt: HostRuntime) -> Result<(), Fail> {
+    let alloc = rt.alloc();
+    let lists = view::<u8>(
+        alloc,
+        &[0; 261],
+        &[215, 0],
+        &[46, 10],
+        Validity::NonNullable,
+    )?;
+    assert_eq!(rt; lists.referenced_element_bounds()?, (0, 261));
+    let trimmed = lists.rebuild(alloc, ListViewRebuildMode::TrimElements)?;
+    assert!(rt; has_ranges(&trimmed, &[(215, 46), (0, 10)]) && trimmed.elements().len() == 261);
+    Ok(())
+}
+
+#[test]
+fn bounds_count_null_and_empty_lists(rt: HostRuntime) -> Result<(), Fail> {
+    let alloc = rt.alloc();
+    let validity = Validity::Array(bools(alloc, &[true, true, false])?);
+    let lists = view::<i32>(alloc, &[0; 9], &[4, 7, 1], &[2, 0, 1], validity)?;
+    let (start, end) = lists.referenced_element_bounds()?;
+    assert_eq!(rt; (start, end), (1, 7));
+    let trimmed = lists.trim_elements(alloc, start, end)?;
+    assert!(rt; has_ranges(&trimmed, &[(3, 2), (6, 0), (0, 1)]) && trimmed.elements().len() == 6);
+    let none = view::<i32>(alloc, &[1], &[], &[], Validity::NonNullable)?;
+    assert_eq!(rt;
+        none.referenced_element_bounds(),
+        Err(VortexError::EmptyInput)
+    );
+    Ok(())
+}
+
+#[test]
+fn referenced_elements_are_marked(rt: HostRuntime) -> Result<(), Fail> {
+    let alloc = rt.alloc();
+    let lists = view::<u16>(alloc, &[1, 2, 3, 4], &[0, 1], &[2, 1], Validity::AllInvalid)?;
+    let mask = lists.compute_referenced_elements_mask(alloc)?;
+    assert_eq!(rt; mask.len(), lists.elements().len());
+    assert!(rt; mask.len() == 4 && mask.true_count() == 2);
+    Ok(())
+}
+
+#[test]
+fn exact_views_have_no_other_element(rt: HostRuntime) -> Result<(), Fail> {
+    let alloc = rt.alloc();
+    let middle = flagged_middle(alloc)?;
+    let kept = middle.rebuild(alloc, ListViewRebuildMode::MakeZeroCopyToList)?;
+    assert!(rt; has_ranges(&kept, &[(1, 1), (2, 1)]) && kept.elements().len() == 4);
+    let exact = middle.rebuild(alloc, ListViewRebuildMode::MakeExact)?;
+    assert!(rt; has_ranges(&exact, &[(0, 1), (1, 1)]) && exact.is_zero_copy_to_list());
+    assert!(rt; has_numbers(exact.elements(), &[1, 2]));
+    let lists = view::<u8>(alloc, &[5, 6, 7], &[2, 0], &[1, 1], Validity::NonNullable)?;
+    let exact = lists.rebuild(alloc, ListViewRebuildMode::MakeExact)?;
+    assert!(rt; has_numbers(exact.elements(), &[7, 5]) && exact.is_zero_copy_to_list());
+    Ok(())
+}
+
+#[test]
+fn overlaps_are_not_compressed(rt: HostRuntime) -> Result<(), Fail> {
+    let alloc = rt.alloc();
+    let none = view::<u8>(alloc, &[1, 2, 3], &[], &[], Validity::NonNullable)?;
+    let kept = none.rebuild(alloc, ListViewRebuildMode::OverlapCompression)?;
+    assert!(rt; kept.is_zero_copy_to_list() && kept.elements().len() == 3);
+    let one = view::<u8>(alloc, &[1, 2, 3], &[0], &[1], Validity::NonNullable)?;
+    let refused = one.rebuild(alloc, ListViewRebuildMode::OverlapCompression);
+    assert!(rt; matches!(refused, Err(VortexError::NotImplemented)));
+    Ok(())
+}
+
+// Whether both ways of rebuilding give these ranges and elements.
+fn rebuilds_both_ways_to(
+    alloc: Global,
+    lists: &ListViewArray,
+    ranges: &[(usize, usize)],
+    elements: &[i128],
+) -> Result<bool, VortexError> {
+    for rebuilt in [lists.rebuild_by_take(alloc)?, lists.rebuild_by_runs(alloc)?] {
+        if !has_ranges(&rebuilt, ranges) || !has_numbers(rebuilt.elements(), elements) {
+            return Ok(false);
+        }
+    }
+    Ok(true)
+}
+
+#[test]
+fn runs_give_the_same_layout(rt: HostRuntime) -> Result<(), Fail> {
+    let alloc = rt.alloc();
+    let validity = Validity::Array(bools(alloc, &[true, false, true])?);
+    let lists = view::<u32>(alloc, &[1, 2, 3, 4], &[0, 1, 2], &[1, 2, 2], validity)?;
+    assert!(rt; rebuilds_both_ways_to(alloc, &lists, &[(0, 1), (1, 0), (1, 2)], &[1, 3, 4])?);
+    Ok(())
+}
+
+#[test]
+fn more_elements_than_positions_fit_are_rebuilt(rt: HostRuntime) -> Result<(), Fail> {
+    let alloc = rt.alloc();
+    let zero = Scalar::int(0, PType::U8, Nullability::NonNullable);
+    let elements = ArrayRef::constant(alloc, zero, 1_152_921_504_606_846_976)?;
+    let offsets = ints::<u64>(alloc, &[0])?;
+    let sizes = ints::<u64>(alloc, &[1_152_921_504_606_846_976])?;
+    let lists = ListViewArray::try_new(alloc, elements, offsets, sizes, Validity::NonNullable)?;
+    let rebuilt = lists.rebuild_by_runs(alloc)?;
+    assert!(rt; has_ranges(&rebuilt, &[(0, 1_152_921_504_606_846_976)]));
+    assert!(rt; rebuilt.elements().len() == 1_152_921_504_606_846_976);
+    Ok(())
+}
