@@ -1,6 +1,6 @@
 // Rebuilding: the rows of a list view in another layout of the same lists.
 
-ghost use Rattle.std.specs.Prelude.{◌≡◌, ◌≢◌, true, false, None, IfOk, IsTrue};
+ghost use Rattle.std.specs.Prelude.{◌≡◌, ◌≢◌, ◌/◌, ◌==◌, ◌||◌, true, false, None, IfOk, IsTrue, nat_lt};
 ghost use Rattle.vx_base.specs.Refusals.{Gives, Refuses};
 ghost use Rattle.vx_tree.specs.Faults.{take_overflow};
 ghost use Rattle.vx_tree.specs.Formed.{IsConsecutive};
@@ -175,6 +175,14 @@ impl ListViewArray {
         let plan = self.plan(alloc)?;
         let elements = self.elements_by_runs(alloc, &plan)?;
         Ok(self.rebuilt(alloc, plan, elements)?)
+    }
+
+    /// Whether that many elements of so many rows are better taken at once than run by run: where
+    /// there are no rows, or fewer than 128 elements a row, rounded down.
+    pub fn should_use_take(total: u64, rows: usize) -> bool
+        ensures { result ≡ (rows == 0 || nat_lt (total / rows) 128) }
+    {
+        rows == 0 || total / (rows as u64) < 128
     }
 
     // The same parts under this flag.

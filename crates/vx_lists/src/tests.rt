@@ -345,3 +345,11 @@ fn more_elements_than_positions_fit_are_rebuilt(rt: HostRuntime) -> Result<(), F
     assert!(rt; rebuilt.elements().len() == 1_152_921_504_606_846_976);
     Ok(())
 }
+
+#[test]
+fn long_rows_are_copied_by_runs(rt: HostRuntime) {
+    assert!(rt; !ListViewArray::should_use_take(280, 2));
+    assert!(rt; ListViewArray::should_use_take(127_000, 1000));
+    assert!(rt; !ListViewArray::should_use_take(128_000, 1000));
+    assert!(rt; ListViewArray::should_use_take(1, 0));
+}
