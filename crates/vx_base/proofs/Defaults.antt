@@ -34,24 +34,23 @@ pub repeated_count : (r : Row) (n : ℕ) → row_count (rows_from (replicate n r
 repeated_count r zero = refl
 repeated_count r (suc n) = omega (arith, repeated_count r n)
 
-pub repeated_named : (k : Kind) (v : Option ScalarValue) (r : Row) (n : ℕ) → row_under k v ≡ r
+pub repeated_named : (k : Kind) (v : Option ScalarValue) (r : Row) (n : ℕ) → (Fits k r → row_under k v ≡ r) → AllFit k (rows_from (replicate n r))
     → all_named k (rows_from (map option_row (replicate n v))) ≡ rows_from (replicate n r)
-repeated_named k v r zero same = refl
-repeated_named k v r (suc n) same = λ i. row (same i) (repeated_named k v r n same i)
+repeated_named k v r zero same fits = refl
+repeated_named k v r (suc n) same fits = λ i. row (same fits.0 i) (repeated_named k v r n same fits.1 i)
 
 -- ---- the fields of records
 
-pub defaults_named : (ns : List (List ℕ)) (ds : List DType) (vs : List (Option ScalarValue)) → even_fields ns (kinds_of ds) ≡ true
-    → AllZip (λ d v. is_even (dtype_meaning d) ≡ true → row_under (dtype_meaning d) v ≡ default_row (dtype_meaning d)) ds vs
+pub defaults_named : (ns : List (List ℕ)) (ds : List DType) (vs : List (Option ScalarValue)) → FieldsFit ns (kinds_of ds) (default_fields ns (kinds_of ds))
+    → AllZip (λ d v. Fits (dtype_meaning d) (default_row (dtype_meaning d)) → row_under (dtype_meaning d) v ≡ default_row (dtype_meaning d)) ds vs
     → fields_named ns (kinds_of ds) (unnamed (rows_from (map option_row vs))) ≡ default_fields ns (kinds_of ds)
-defaults_named [] [] [] even all = refl
-defaults_named [] [] (v ∷ vs) even all = absurd all
-defaults_named [] (d ∷ ds) vs even all = cc
-defaults_named (n ∷ ns) [] vs even all = cc
-defaults_named (n ∷ ns) (d ∷ ds) [] even all = absurd all
-defaults_named (n ∷ ns) (d ∷ ds) (v ∷ vs) even all =
-    let each = both (is_even (dtype_meaning d)) (even_fields ns (kinds_of ds)) even in
-    λ i. field n (all.0 each.0 i) (defaults_named ns ds vs each.1 all.1 i)
+defaults_named [] [] [] fit all = refl
+defaults_named [] [] (v ∷ vs) fit all = absurd all
+defaults_named [] (d ∷ ds) vs fit all = absurd fit
+defaults_named (n ∷ ns) [] vs fit all = absurd fit
+defaults_named (n ∷ ns) (d ∷ ds) [] fit all = absurd all
+defaults_named (n ∷ ns) (d ∷ ds) (v ∷ vs) fit all =
+    λ i. field n (all.0 fit.1 i) (defaults_named ns ds vs fit.2 all.1 i)
 
 -- ---- defaults fit
 
@@ -109,31 +108,31 @@ even_from ns ds i d in_ns in_ds at =
     λ k. even_fields (from_place ns i (get_or ns i []) in_ns (get_or_default ns i [] (get_or ns i []) in_ns) k) (kinds_of (from_place ds i d in_ds at k))
 
 pub fixed_default : (h k : Kind) (size : ℕ) (n : Bool) (v : Option ScalarValue) (vs : List (Option ScalarValue)) (rs : Rows)
-    → h ≡ fixed_lists k size n → is_nullable_kind h ≡ false → (is_even k ≡ true → row_under k v ≡ default_row k)
-    → vs ≡ replicate size v → rs ≡ rows_from (map option_row vs) → is_even h ≡ true → row_under h (Some (value.List rs)) ≡ default_row h
+    → h ≡ fixed_lists k size n → is_nullable_kind h ≡ false → (Fits k (default_row k) → row_under k v ≡ default_row k)
+    → vs ≡ replicate size v → rs ≡ rows_from (map option_row vs) → Fits h (default_row h) → row_under h (Some (value.List rs)) ≡ default_row h
 fixed_default h k size n v vs rs same plain each made rows =
-    let P : Kind → Type 0 = λ x. is_nullable_kind x ≡ false → is_even x ≡ true → row_under x (Some (value.List rs)) ≡ default_row x in
+    let P : Kind → Type 0 = λ x. is_nullable_kind x ≡ false → Fits x (default_row x) → row_under x (Some (value.List rs)) ≡ default_row x in
     subst P (sym same) (known n) plain
   where
-    known : (m : Bool) → is_nullable_kind (fixed_lists k size m) ≡ false → is_even (fixed_lists k size m) ≡ true
+    known : (m : Bool) → is_nullable_kind (fixed_lists k size m) ≡ false → Fits (fixed_lists k size m) (default_row (fixed_lists k size m))
         → row_under (fixed_lists k size m) (Some (value.List rs)) ≡ default_row (fixed_lists k size m)
-    known true p even = cc
-    known false p even = ap items (ap (all_named k) (rows ∙ ap (λ xs. rows_from (map option_row xs)) made) ∙ repeated_named k v (default_row k) size (each even))
+    known true p fits = cc
+    known false p fits = ap items (ap (all_named k) (rows ∙ ap (λ xs. rows_from (map option_row xs)) made) ∙ repeated_named k v (default_row k) size each fits.1)
 
 pub record_default : (d : DType) (fs : StructFields) (n : Nullability) (ds : List DType) (vs : List (Option ScalarValue)) (rs : Rows)
     → d ≡ struct_dtype fs n → is_nullable_kind (dtype_meaning d) ≡ false → kinds_of ds ≡ field_kinds fs
-    → AllZip (λ d v. is_even (dtype_meaning d) ≡ true → row_under (dtype_meaning d) v ≡ default_row (dtype_meaning d)) ds vs
-    → rs ≡ rows_from (map option_row vs) → is_even (dtype_meaning d) ≡ true → row_under (dtype_meaning d) (Some (value.Record rs)) ≡ default_row (dtype_meaning d)
+    → AllZip (λ d v. Fits (dtype_meaning d) (default_row (dtype_meaning d)) → row_under (dtype_meaning d) v ≡ default_row (dtype_meaning d)) ds vs
+    → rs ≡ rows_from (map option_row vs) → Fits (dtype_meaning d) (default_row (dtype_meaning d)) → row_under (dtype_meaning d) (Some (value.Record rs)) ≡ default_row (dtype_meaning d)
 record_default d fs n ds vs rs same plain kinds each rows =
-    let P : Kind → Type 0 = λ x. is_nullable_kind x ≡ false → is_even x ≡ true → row_under x (Some (value.Record rs)) ≡ default_row x in
+    let P : Kind → Type 0 = λ x. is_nullable_kind x ≡ false → Fits x (default_row x) → row_under x (Some (value.Record rs)) ≡ default_row x in
     let whole = struct_kind d fs n same ∙ ap (λ ks. records (field_names fs) ks (is_nullable_kind (dtype_meaning d))) (sym kinds) in
     subst P (sym whole) (known (is_nullable_kind (dtype_meaning d))) plain
   where
-    known : (m : Bool) → m ≡ false → is_even (records (field_names fs) (kinds_of ds) m) ≡ true
+    known : (m : Bool) → m ≡ false → Fits (records (field_names fs) (kinds_of ds) m) (default_row (records (field_names fs) (kinds_of ds) m))
         → row_under (records (field_names fs) (kinds_of ds) m) (Some (value.Record rs)) ≡ default_row (records (field_names fs) (kinds_of ds) m)
-    known true p even = cc
-    known false p even =
-        ap record_of (ap (λ x. fields_named (field_names fs) (kinds_of ds) (unnamed x)) rows ∙ defaults_named (field_names fs) ds vs even each)
+    known true p fits = cc
+    known false p fits =
+        ap record_of (ap (λ x. fields_named (field_names fs) (kinds_of ds) (unnamed x)) rows ∙ defaults_named (field_names fs) ds vs fits each)
 
 pub zip_push : {A B : Type 0} (R : A → B → Type 0) (xs : List A) (ys : List B) (x : A) (y : B) → AllZip R xs ys → R x y → AllZip R (xs ++ x ∷ []) (ys ++ y ∷ [])
 zip_push R [] [] x y all here = (here, tt)

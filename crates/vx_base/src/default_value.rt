@@ -1,9 +1,10 @@
 // The value of a row where none is given.
 
-ghost use Rattle.std.specs.Prelude.{◌≡◌, ◌&&◌, true, replicate};
+ghost use Rattle.std.specs.Prelude.{◌≡◌, ◌&&◌, replicate};
 ghost use Rattle.std.specs.List.{AllZip};
 ghost use Rattle.vx_base.specs.Refusals.{Gives};
 ghost use Rattle.vx_base.specs.DTypes.{dtype_meaning, field_names, field_kinds, kinds_of};
+ghost use Rattle.vx_base.specs.Kinds.{Fits};
 ghost use Rattle.vx_base.specs.Defaults.{default_row, is_even, even_fields};
 ghost use Rattle.vx_base.specs.ValueRows.{row_under};
 
@@ -46,11 +47,11 @@ fn are_even(fields: &StructFields) -> bool
     true
 }
 
-// The default of a data type.
+// The default of a data type, where it fits.
 #[tactic(auto, using(crate::proofs::ValueFits::struct_depth))]
 #[cycle(default)]
 pub(crate) fn default_of(alloc: Global, dtype: &DType) -> Result<Option<ScalarValue>, VortexError>
-    ensures { Gives result (λ v. is_even (dtype_meaning dtype.now) ≡ true
+    ensures { Gives result (λ v. Fits (dtype_meaning dtype.now) (default_row (dtype_meaning dtype.now))
         → row_under (dtype_meaning dtype.now) v ≡ default_row (dtype_meaning dtype.now)) }
 {
     if dtype.is_nullable() {
@@ -77,11 +78,11 @@ pub(crate) fn default_of(alloc: Global, dtype: &DType) -> Result<Option<ScalarVa
     }
 }
 
-// The defaults of data types, in order.
+// The defaults of data types, in order, where they fit.
 #[tactic(auto, using(crate::proofs::ValueFits::field_depth))]
 #[cycle(default)]
 fn defaults_of(alloc: Global, dtypes: &[DType]) -> Result<Vec<Option<ScalarValue>>, VortexError>
-    ensures { Gives result (λ vs. AllZip (λ d v. is_even (dtype_meaning d) ≡ true
+    ensures { Gives result (λ vs. AllZip (λ d v. Fits (dtype_meaning d) (default_row (dtype_meaning d))
         → row_under (dtype_meaning d) v ≡ default_row (dtype_meaning d)) dtypes.now vs.items) }
 {
     let mut values = Vec::with_capacity(alloc, dtypes.len())?;

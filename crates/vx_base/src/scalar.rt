@@ -79,6 +79,15 @@ impl Scalar {
         if !is_even(&dtype) {
             return Err(VortexError::MismatchedTypes);
         }
+        Scalar::default_that_fits(alloc, dtype)
+    }
+
+    /// The row of a data type where none is given, as `default_value` gives it. Asks that it fits,
+    /// as it does where any row does. Fails only for want of memory.
+    pub fn default_that_fits(alloc: Global, dtype: DType) -> Result<Scalar, VortexError>
+        requires { Fits (dtype_meaning dtype) (default_row (dtype_meaning dtype)) }
+        ensures { Gives result (λ s. s ≡ typed_row (dtype_meaning dtype) (default_row (dtype_meaning dtype))) }
+    {
         let value = default_of(alloc, &dtype)?;
         Ok(Scalar { dtype, value })
     }

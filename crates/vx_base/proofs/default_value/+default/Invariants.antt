@@ -1,7 +1,8 @@
-use Rattle.std.proofs.Common.{◌≡◌, ◌+◌, ◌*◌, take, true}
+use Rattle.std.proofs.Common.{◌≡◌, ◌+◌, ◌*◌, take}
 use Rattle.std.specs.List.{AllZip}
 use Rattle.vx_base.specs.Codes.{kind_depth, kinds_depth}
-use Rattle.vx_base.specs.Defaults.{default_row, is_even}
+use Rattle.vx_base.specs.Defaults.{default_row}
+use Rattle.vx_base.specs.Kinds.{Fits}
 use Rattle.vx_base.specs.DTypes.{dtype_meaning, kinds_of}
 use Rattle.vx_base.specs.ValueRows.{row_under}
 use Rattle.vx_base.proofs.default_value.+default.Given as goal
@@ -14,4 +15,4 @@ decreases-defaults_of l = 2 * kinds_depth (kinds_of l.dtypes.now) + 1
 
 abbrev pub invariant-defaults_of-loop-dtype : goal.invariant-defaults_of-loop-dtype
 invariant-defaults_of-loop-dtype l =
-    AllZip (λ d v. is_even (dtype_meaning d) ≡ true → row_under (dtype_meaning d) v ≡ default_row (dtype_meaning d)) (take l.dtype-index l.dtypes) l.values.items
+    AllZip (λ d v. Fits (dtype_meaning d) (default_row (dtype_meaning d)) → row_under (dtype_meaning d) v ≡ default_row (dtype_meaning d)) (take l.dtype-index l.dtypes) l.values.items
