@@ -32,6 +32,11 @@ pub(crate) fn show_parts(
             let flag = *flag;
             write!(text, " values {count} flag {flag}")?;
         }
+        Layout::FixedSizeList { elements, size, .. } => {
+            let size = *size;
+            let count = elements.len();
+            write!(text, "fixed {size} elements {count}")?;
+        }
         Layout::ListView {
             elements,
             offsets,

@@ -1,6 +1,6 @@
 // The rows of an array as text.
 
-ghost use Rattle.std.specs.Prelude.{ℕ, true, ◌≡◌, ◌+◌, ◌-◌, ◌<◌, ◌≤◌, length, slice_index, IfOk};
+ghost use Rattle.std.specs.Prelude.{ℕ, true, ◌≡◌, ◌+◌, ◌-◌, ◌*◌, ◌<◌, ◌≤◌, length, slice_index, IfOk};
 ghost use Rattle.vx_base.specs.Integers.{numbers};
 ghost use Rattle.vx_base.specs.Kinds.{is_integers};
 ghost use Rattle.vx_base.specs.Rows.{count_in};
@@ -57,6 +57,15 @@ fn show_rows(
         Layout::Constant { scalar, .. } => show_constant(alloc, scalar, end - start, text)?,
         Layout::Dict { codes, values, .. } => {
             show_dictionary(alloc, codes, values, start, end, text)?;
+        }
+        Layout::FixedSizeList {
+            elements,
+            size,
+            validity,
+            ..
+        } => {
+            let mask = mask_of(alloc, validity, start, end)?;
+            show_fixed_lists(alloc, elements, *size as usize, start, end, &mask, text)?;
         }
         Layout::ListView {
             elements,
@@ -176,6 +185,45 @@ fn show_lists(
         }
     }
     Ok(())
+}
+
+// Adds the lists from `start` up to `end`, of `size` elements each, null where the mask is false.
+#[cycle(show)]
+fn show_fixed_lists(
+    alloc: Global,
+    elements: &ArrayRef,
+    size: usize,
+    start: usize,
+    end: usize,
+    mask: &Mask,
+    text: &mut String,
+) -> Result<(), VortexError>
+    requires mask { length mask.now ≡ end - start }
+    requires in_bounds { end * size ≤ tree_len elements.now }
+{
+    for row in start..end {
+        separate(row - start, text)?;
+        if mask.value(row - start) {
+            let (first, last) = list_range(elements, size, row);
+            text.push('[')?;
+            show_rows(alloc, elements, first, last, text)?;
+            text.push(']')?;
+        } else {
+            text.push_str("null")?;
+        }
+    }
+    Ok(())
+}
+
+// Where the elements of a list start and end, where each list has `size` of them.
+fn list_range(elements: &ArrayRef, size: usize, row: usize) -> (usize, usize)
+    requires { (row + 1) * size ≤ tree_len elements.now }
+    ensures ordered { result.0 ≤ result.1 }
+    ensures within { result.1 ≤ tree_len elements.now }
+{
+    let _len = elements.len();
+    let start = row * size;
+    (start, start + size)
 }
 
 // Adds the values that the codes from `start` up to `end` refer to, null where a code is null.

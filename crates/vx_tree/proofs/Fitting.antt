@@ -43,7 +43,7 @@ masked_fits k r true here none = here refl
 masked_fits k r false here none = null_fits k (none refl)
 
 -- a kind under which null may stand too takes the same rows
-fits_nullable : (c : Bool) (k : Kind) (r : Row) → Fits k r → Fits (or_nullable c k) r
+pub fits_nullable : (c : Bool) (k : Kind) (r : Row) → Fits k r → Fits (or_nullable c k) r
 fits_nullable c k null h = null_fits (or_nullable c k) (may c k h)
   where
     or_true : (a b : Bool) → IsTrue b → IsTrue (a || b)
@@ -105,7 +105,7 @@ count_range f start zero = refl
 count_range f start (suc n) = omega (arith, count_range f (suc start) n)
 
 -- a list of a fixed size ends within the elements
-list_within : (i k n len : ℕ) → len ≡ n * k → i < n → i * k + k ≤ len
+pub list_within : (i k n len : ℕ) → len ≡ n * k → i < n → i * k + k ≤ len
 list_within i k n len e l =
     let more : i + 1 ≤ n = omega arith in
     let scaled : (i + 1) * k ≤ n * k = mul-le-mul_right k more in

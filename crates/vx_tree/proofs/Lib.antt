@@ -6,7 +6,9 @@ pub mod Selected
 pub mod Nulled
 pub mod Taken
 pub mod Dictionaries
+pub mod FixedLists
 pub mod Fitting
+pub mod Defaults
 pub mod Counted
 pub mod Values
 pub mod Worked

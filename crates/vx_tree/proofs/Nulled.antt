@@ -13,7 +13,7 @@ use Rattle.vx_base.specs.Kinds.{Kind, booleans, integers, texts, binaries, lists
 use Rattle.vx_tree.specs.Tree.{Tree, bools, primitive, constant, dictionary, fixed_list, list_view, structure, view_array, Valid, non_nullable, all_valid, all_invalid, by_array}
 use Rattle.vx_tree.specs.Meaning.{row_at, tree_len, kind_of, is_valid_at, nullable}
 use Rattle.vx_base.specs.Selections.{number_of_position}
-use Rattle.vx_tree.specs.Shapes.{State, bool_shape, primitive_shape, list_view_shape, never_null, none_null, every_null, told, state_of, is_nullable_state, taken_state}
+use Rattle.vx_tree.specs.Shapes.{State, bool_shape, primitive_shape, fixed_list_shape, list_view_shape, never_null, none_null, every_null, told, state_of, is_nullable_state, taken_state}
 use Rattle.vx_tree.specs.Formed.{ValidFits, IsMask}
 use Rattle.vx_tree.specs.Operations.{IsNulled, IsValidNulled, IsNulls, IsValidNulls, IsZeroes, IsZeroCodes}
 use Rattle.vx_tree.proofs.Selected.{nullable-state}
@@ -73,6 +73,15 @@ lists_nulled t r e o s v u w f a b h =
       len = refl;
       kind = ap (lists (kind_of e)) (nullable_nulled v u w h.state);
       shape = ap (λ st. list_view_shape e st f) h.state;
+      rows = λ i l. two (is_valid_at w i) (is_valid_at v i) (is_valid_at u i) _ (h.bits i l);
+    })
+
+pub fixed_lists_nulled : (t r e : Tree) (k n : ℕ) (v u w : Valid) → t ≡ fixed_list e k v n → r ≡ fixed_list e k w n → IsValidNulled v u n w → IsNulled t u r
+fixed_lists_nulled t r e k n v u w a b h =
+    rw (a, b) (record {
+      len = refl;
+      kind = ap (fixed_lists (kind_of e) k) (nullable_nulled v u w h.state);
+      shape = ap fixed_list_shape h.state;
       rows = λ i l. two (is_valid_at w i) (is_valid_at v i) (is_valid_at u i) _ (h.bits i l);
     })
 
@@ -144,6 +153,15 @@ lists_nulls t r e o s o2 s2 v u w f p n a b z h =
       len = z.len;
       kind = ap (lists (kind_of e)) (nullable_nulled v u w h.state);
       shape = ap (λ st. list_view_shape e st false) h.state;
+      rows = λ i l. null_row (is_valid_at w i) _ (h.bits i l);
+    })
+
+pub fixed_lists_nulls : (t r e d : Tree) (k m n : ℕ) (v u w : Valid) → t ≡ fixed_list e k v m → r ≡ fixed_list d k w n → kind_of d ≡ kind_of e → IsValidNulls v u n w → IsNulls t n u r
+fixed_lists_nulls t r e d k m n v u w a b same h =
+    rw (a, b) (record {
+      len = refl;
+      kind = λ i. fixed_lists (same i) k (nullable_nulled v u w h.state i);
+      shape = ap fixed_list_shape h.state;
       rows = λ i l. null_row (is_valid_at w i) _ (h.bits i l);
     })
 

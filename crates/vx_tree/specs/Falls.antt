@@ -20,4 +20,5 @@ layout_falls (layout.Bool bits v) = omega (arith, valid_falls v)
 layout_falls (layout.Primitive t bs v) = omega (arith, valid_falls v)
 layout_falls (layout.Constant s n) = omega arith
 layout_falls (layout.Dict c v f) = omega arith
+layout_falls (layout.FixedSizeList e k v n) = omega (arith, valid_falls v)
 layout_falls (layout.ListView e o s v f) = omega (arith, valid_falls v)

@@ -1,6 +1,6 @@
 -- The layout of an array.
 use Rattle.std.specs.Prelude.{Bool, true, false}
-use Rattle.vx_tree.specs.Tree.{Tree, bools, primitive, constant, dictionary, list_view}
+use Rattle.vx_tree.specs.Tree.{Tree, bools, primitive, constant, dictionary, fixed_list, list_view}
 
 abbrev pub is_bools : Tree → Bool
 is_bools (bools bits v) = true
@@ -17,6 +17,10 @@ is_constant _ = false
 abbrev pub is_dictionary : Tree → Bool
 is_dictionary (dictionary c v f) = true
 is_dictionary _ = false
+
+abbrev pub is_fixed_list : Tree → Bool
+is_fixed_list (fixed_list e k v n) = true
+is_fixed_list _ = false
 
 abbrev pub is_list_view : Tree → Bool
 is_list_view (list_view e o s v f) = true

@@ -70,6 +70,13 @@ pub enum Layout {
         values: ArrayRef,
         flag: bool,
     },
+    /// Row `i` is the list of the `size` rows of the elements from `i * size` on.
+    FixedSizeList {
+        elements: ArrayRef,
+        size: u32,
+        validity: Validity,
+        len: usize,
+    },
     /// Row `i` is the list of `sizes[i]` rows of the elements from `offsets[i]` on. A set flag
     /// says that each list ends where the next one begins, null rows counted.
     ListView {
@@ -135,8 +142,8 @@ impl ArrayRef {
 
     /// An array of these parts. Asks that they are well formed: that the validity has as many
     /// rows, that a dictionary's codes are integers and each valid one the position of a value,
-    /// that a list view's offsets and sizes are counts, that its lists end within the elements, and
-    /// that a set flag holds.
+    /// that lists of a fixed size have all their elements and no more, that a list view's offsets and
+    /// sizes are counts, that its lists end within the elements, and that a set flag holds.
     #[inline(always)]
     pub fn from_parts(alloc: Global, layout: Layout) -> Result<ArrayRef, VortexError>
         requires { WellFormed (tree_of layout) }
@@ -215,6 +222,15 @@ impl Layout {
                 codes.known();
                 values.known();
             }
+            Layout::FixedSizeList {
+                elements,
+                validity,
+                ..
+            } => {
+                elements.known();
+                elements.known_len();
+                validity.known();
+            }
             Layout::ListView {
                 elements,
                 offsets,
@@ -239,6 +255,7 @@ impl Layout {
             Layout::Primitive { ptype, bytes, .. } => number_count(bytes.as_slice(), *ptype),
             Layout::Constant { len, .. } => *len,
             Layout::Dict { codes, .. } => codes.len(),
+            Layout::FixedSizeList { len, .. } => *len,
             Layout::ListView { offsets, .. } => offsets.len(),
         }
     }
@@ -258,6 +275,15 @@ impl Layout {
             Layout::Dict { codes, values, .. } => {
                 let dtype = values.dtype().try_clone(alloc)?;
                 Ok(dtype.union_nullability(codes.dtype().nullability()))
+            }
+            Layout::FixedSizeList {
+                elements,
+                size,
+                validity,
+                ..
+            } => {
+                let items = Rc::new(alloc, elements.dtype().try_clone(alloc)?)?;
+                Ok(DType::FixedSizeList(items, *size, validity.nullability()))
             }
             Layout::ListView {
                 elements,

@@ -45,6 +45,7 @@ impl ArrayRef {
             Layout::Primitive { .. } => Ok(self.number_value(i)),
             Layout::Constant { .. } => self.constant_value(alloc),
             Layout::Dict { .. } => self.dictionary_value(alloc, i),
+            Layout::FixedSizeList { .. } => self.fixed_list_value(alloc, i),
             Layout::ListView { .. } => self.list_value(alloc, i),
         }
     }

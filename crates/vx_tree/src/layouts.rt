@@ -3,5 +3,6 @@
 mod bool;
 pub(crate) mod constant;
 mod dict;
+mod fixed_size_list;
 mod list_view;
 mod primitive;

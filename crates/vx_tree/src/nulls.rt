@@ -1,10 +1,11 @@
 // Rows that become null where a validity is not true.
 
-ghost use Rattle.std.specs.Prelude.{◌≡◌, ◌<◌, ℕ, false};
+ghost use Rattle.std.specs.Prelude.{◌≡◌, ◌<◌, ℕ, false, None};
 ghost use Rattle.vx_base.specs.Refusals.{Gives};
 ghost use Rattle.vx_tree.specs.Meaning.{tree_len, is_valid_at};
 ghost use Rattle.vx_tree.specs.Formed.{ValidFits};
 ghost use Rattle.vx_tree.specs.Parts.{valid_of};
+ghost use Rattle.vx_tree.specs.Faults.{take_overflow};
 ghost use Rattle.vx_tree.specs.Operations.{IsNulled, IsNulls};
 
 use crate::array::{ArrayRef, Layout, Validity};
@@ -24,12 +25,14 @@ impl ArrayRef {
             Layout::Primitive { .. } => self.nulled_primitive(alloc, nulls),
             Layout::Constant { .. } => self.nulled_constant(alloc, nulls),
             Layout::Dict { .. } => self.nulled_dictionary(alloc, nulls),
+            Layout::FixedSizeList { .. } => self.nulled_fixed_lists(alloc, nulls),
             Layout::ListView { .. } => self.nulled_list_view(alloc, nulls),
         }
     }
 
     // `len` rows of null in the same layout, by a validity that is nowhere true. The parts are made
-    // of zeroes; a list view keeps its elements, a dictionary its values.
+    // of zeroes; a list view keeps its elements, a dictionary its values. Asks that the elements of
+    // so many lists of a fixed size can be counted.
     #[cycle(null_rows)]
     pub(crate) fn nulls(
         &self,
@@ -39,6 +42,7 @@ impl ArrayRef {
     ) -> Result<ArrayRef, VortexError>
         requires fits { ValidFits (valid_of nulls.now) len }
         requires none { (i : ℕ) → i < len → is_valid_at (valid_of nulls.now) i ≡ false }
+        requires countable { take_overflow self.now len ≡ None }
         ensures { Gives result (IsNulls self.now len (valid_of nulls.now)) }
     {
         match self.layout() {
@@ -46,6 +50,7 @@ impl ArrayRef {
             Layout::Primitive { .. } => self.null_numbers(alloc, len, nulls),
             Layout::Constant { .. } => self.null_constant(alloc, len, nulls),
             Layout::Dict { .. } => self.null_codes(alloc, len, nulls),
+            Layout::FixedSizeList { .. } => self.null_fixed_lists(alloc, len, nulls),
             Layout::ListView { .. } => self.null_lists(alloc, len, nulls),
         }
     }

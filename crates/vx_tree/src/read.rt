@@ -43,6 +43,7 @@ impl ArrayRef {
                 Some(code) => values.is_valid_within(code),
                 None => false,
             },
+            Layout::FixedSizeList { validity, .. } => validity.is_valid_at(i),
             Layout::ListView { validity, .. } => validity.is_valid_at(i),
         }
     }
@@ -144,6 +145,7 @@ impl ArrayRef {
             Layout::Primitive { validity, .. } => validity.try_clone(alloc),
             Layout::Constant { scalar, .. } => Ok(scalar_validity(scalar)),
             Layout::Dict { .. } => self.dictionary_validity(alloc),
+            Layout::FixedSizeList { validity, .. } => validity.try_clone(alloc),
             Layout::ListView { validity, .. } => validity.try_clone(alloc),
         }
     }

@@ -27,6 +27,7 @@ impl ArrayRef {
     }
 
     // Whether so many rows need no more elements than can be counted.
+    #[cycle(can_select)]
     pub(crate) fn can_select(&self, count: usize) -> bool
         ensures { take_overflow self.now count ≡ (if result then None else Some overflow) }
     {
@@ -35,6 +36,12 @@ impl ArrayRef {
             Layout::Primitive { .. } => true,
             Layout::Constant { .. } => true,
             Layout::Dict { .. } => true,
+            Layout::FixedSizeList { elements, size, .. } => {
+                match count.checked_mul(*size as usize) {
+                    Some(count) => elements.can_select(count),
+                    None => false,
+                }
+            }
             Layout::ListView { .. } => true,
         }
     }
@@ -55,6 +62,7 @@ impl ArrayRef {
             Layout::Primitive { .. } => self.select_primitive(alloc, selection),
             Layout::Constant { .. } => self.select_constant(alloc, selection),
             Layout::Dict { .. } => self.select_dictionary(alloc, selection),
+            Layout::FixedSizeList { .. } => self.select_fixed_lists(alloc, selection),
             Layout::ListView { .. } => self.select_list_view(alloc, selection),
         }
     }

@@ -58,6 +58,7 @@ impl ArrayRef {
             Layout::Primitive { .. } => self.slice_primitive(alloc, start, end),
             Layout::Constant { .. } => self.slice_constant(alloc, start, end),
             Layout::Dict { .. } => self.slice_dictionary(alloc, start, end),
+            Layout::FixedSizeList { .. } => self.slice_fixed_lists(alloc, start, end),
             Layout::ListView { .. } => self.slice_list_view(alloc, start, end),
         }
     }

@@ -14,6 +14,7 @@ use std::alloc::Global;
 use std::process::Abort;
 use vx_base::{BitBuffer, ByteBuffer, Nullability, PType, Scalar, Selection, VortexError};
 
+mod fixed_size_lists;
 mod masks;
 mod scalars;
 

@@ -3,6 +3,7 @@
 ghost use Rattle.std.specs.Prelude.{◌≡◌, ◌<◌, ◌≤◌, ◌-◌, ℕ, true, false};
 ghost use Rattle.vx_base.specs.Kinds.{is_nullable_kind};
 ghost use Rattle.vx_base.specs.Rows.{is_present};
+ghost use Rattle.vx_base.specs.Defaults.{default_row};
 ghost use Rattle.vx_base.specs.Refusals.{Gives};
 ghost use Rattle.vx_base.specs.ValueRows.{row_under};
 ghost use Rattle.vx_tree.specs.Tree.{constant};
@@ -104,6 +105,16 @@ impl ArrayRef {
             Some(value) => Ok(Some(value.try_clone(alloc)?)),
             None => Ok(None),
         }
+    }
+
+    // `len` rows of its data type where none is given.
+    #[tactic(auto, using(crate::proofs::Defaults::default_of_array))]
+    pub(crate) fn default_rows(&self, alloc: Global, len: usize) -> Result<ArrayRef, VortexError>
+        ensures { Gives result (λ a. a ≡ constant (kind_of self.now) (default_row (kind_of self.now)) len) }
+    {
+        self.known();
+        let dtype = self.dtype().try_clone(alloc)?;
+        ArrayRef::constant(alloc, Scalar::default_that_fits(alloc, dtype)?, len)
     }
 }
 
