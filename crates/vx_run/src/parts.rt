@@ -52,6 +52,10 @@ pub(crate) fn show_parts(
             let flag = *flag;
             write!(text, " elements {count} flag {flag}")?;
         }
+        Layout::VarBinView { buffers, .. } => {
+            let count = buffers.len();
+            write!(text, "views {len} buffers {count}")?;
+        }
     }
     Ok(())
 }

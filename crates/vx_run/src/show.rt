@@ -5,14 +5,15 @@ ghost use Rattle.vx_base.specs.Integers.{numbers};
 ghost use Rattle.vx_base.specs.Kinds.{is_integers};
 ghost use Rattle.vx_base.specs.Rows.{count_in};
 ghost use Rattle.vx_tree.specs.Formed.{IsCounts, ValidCovers};
+ghost use Rattle.vx_tree.specs.Layouts.{is_view_array};
 ghost use Rattle.vx_tree.specs.Meaning.{tree_len, kind_of, row_at};
 ghost use Rattle.vx_tree.specs.Parts.{valid_of};
 ghost use Rattle.vx_run.specs.Shown.{AreCountsFrom};
 
 use std::alloc::Global;
 use vx_base::{
-    BitBuffer, Buffer, ByteBuffer, Mask, NativePType, PType, Scalar, VortexError, call_native,
-    read_counts, slice_numbers,
+    BitBuffer, Buffer, ByteBuffer, Mask, NativePType, PType, Scalar, ScalarValue, VortexError,
+    call_native, read_counts, slice_numbers,
 };
 use vx_tree::{ArrayRef, Layout, Validity};
 
@@ -79,6 +80,37 @@ fn show_rows(
             let sizes = counts_of(alloc, sizes, start, end)?;
             show_lists(alloc, elements, &offsets, &sizes, &mask, text)?;
         }
+        Layout::VarBinView { .. } => show_values(array, start, end, text)?,
+    }
+    Ok(())
+}
+
+// Adds the texts or byte lists from `start` up to `end`.
+fn show_values(
+    array: &ArrayRef,
+    start: usize,
+    end: usize,
+    text: &mut String,
+) -> Result<(), VortexError>
+    requires layout { is_view_array array.now ≡ true }
+    requires in_bounds { end ≤ tree_len array.now }
+{
+    for row in start..end {
+        separate(row - start, text)?;
+        match array.bytes_at(row) {
+            Some(value) => show_bytes(value, text)?,
+            None => text.push_str("null")?,
+        }
+    }
+    Ok(())
+}
+
+// Adds bytes as `x` and two lower case hexadecimal digits for each.
+fn show_bytes(value: &[u8], text: &mut String) -> Result<(), VortexError> {
+    text.push('x')?;
+    for byte in value {
+        let byte = *byte;
+        write!(text, "{byte:02x}")?;
     }
     Ok(())
 }
@@ -141,10 +173,12 @@ fn show_constant(
     text: &mut String,
 ) -> Result<(), VortexError> {
     let mut word = String::new(alloc);
-    match scalar.as_int() {
-        _ if !scalar.is_valid() => word.push_str("null")?,
-        Some(number) => write!(word, "{number}")?,
-        None => {
+    match scalar.value() {
+        None => word.push_str("null")?,
+        Some(ScalarValue::Int(number)) => write!(word, "{number}")?,
+        Some(ScalarValue::Text(value)) => show_bytes(value.as_slice(), &mut word)?,
+        Some(ScalarValue::Bytes(value)) => show_bytes(value.as_slice(), &mut word)?,
+        Some(_) => {
             let truth = scalar.as_bool();
             write!(word, "{truth}")?;
         }

@@ -7,6 +7,7 @@ pub mod Nulled
 pub mod Taken
 pub mod Dictionaries
 pub mod FixedLists
+pub mod ViewArrays
 pub mod Fitting
 pub mod Defaults
 pub mod Counted

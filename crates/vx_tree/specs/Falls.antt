@@ -22,3 +22,4 @@ layout_falls (layout.Constant s n) = omega arith
 layout_falls (layout.Dict c v f) = omega arith
 layout_falls (layout.FixedSizeList e k v n) = omega (arith, valid_falls v)
 layout_falls (layout.ListView e o s v f) = omega (arith, valid_falls v)
+layout_falls (layout.VarBinView vs bs d v) = omega (arith, valid_falls v)

@@ -1,6 +1,6 @@
 -- The layout of an array.
 use Rattle.std.specs.Prelude.{Bool, true, false}
-use Rattle.vx_tree.specs.Tree.{Tree, bools, primitive, constant, dictionary, fixed_list, list_view}
+use Rattle.vx_tree.specs.Tree.{Tree, bools, primitive, constant, dictionary, fixed_list, list_view, view_array}
 
 abbrev pub is_bools : Tree → Bool
 is_bools (bools bits v) = true
@@ -25,3 +25,7 @@ is_fixed_list _ = false
 abbrev pub is_list_view : Tree → Bool
 is_list_view (list_view e o s v f) = true
 is_list_view _ = false
+
+abbrev pub is_view_array : Tree → Bool
+is_view_array (view_array vs bs k v) = true
+is_view_array _ = false

@@ -10,3 +10,4 @@ pub mod Operations
 pub mod Composed
 pub mod Fitting
 pub mod Worked
+pub mod Values

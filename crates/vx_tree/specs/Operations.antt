@@ -1,8 +1,9 @@
 -- What slicing, selecting and taking give, row by row.
-use Rattle.std.specs.Prelude.{◌≡◌, ◌<◌, ◌+◌, ◌&&◌, ℕ, pos, Bool, true, false, List, [], ◌∷◌, length, map, Option, Some, None, is_some, IfSome, slice_index, slice_index_or, if◌then◌else◌}
+use Rattle.std.specs.Prelude.{◌≡◌, ◌<◌, ◌+◌, ◌&&◌, ℕ, pos, Bool, true, false, List, [], ◌∷◌, length, replicate, map, Option, Some, None, is_some, IfSome, slice_index, slice_index_or, if◌then◌else◌}
 use Rattle.std.specs.List.{All}
 use Rattle.vx_base.specs.declared.ptypes.PType.{PType}
 use Rattle.vx_base.specs.declared.ptypes.PType.TheVariants.{U8}
+use Rattle.vx_base.specs.Bits.{bool_at}
 use Rattle.vx_base.specs.Rows.{Row, null, whole, position_in, is_present, truth_of}
 use Rattle.vx_base.specs.Kinds.{or_nullable, booleans, integers, is_nullable_kind}
 use Rattle.vx_tree.specs.Tree.{Tree, bools, primitive, Valid, non_nullable, by_array}
@@ -59,6 +60,10 @@ pub record IsValidNulled (v u : Valid) (n : ℕ) (w : Valid) : Type 0 where
   pub fits : ValidFits w n
   pub state : state_of w ≡ taken_state (state_of v) (state_of u)
   pub bits : (i : ℕ) → i < n → is_valid_at w i ≡ (is_valid_at v i && is_valid_at u i)
+
+-- the view of row i where a mask is true, 16 zero bytes elsewhere
+abbrev pub valid_view : List (List ℕ) → List Bool → ℕ → List ℕ
+valid_view views mask i = if bool_at mask i then slice_index_or views i [] else replicate 16 0
 
 -- n rows of null, by a validity that is nowhere true
 pub record IsValidNulls (v u : Valid) (n : ℕ) (w : Valid) : Type 0 where

@@ -8,10 +8,12 @@ ghost use Rattle.vx_tree.specs.Formed.{WellFormed};
 ghost use Rattle.vx_tree.specs.Fitting.{AllFormed};
 ghost use Rattle.vx_tree.specs.Parts.{tree_of};
 
+use crate::layouts::var_bin_view::known_views;
 use std::alloc::Global;
 use std::marker::Model;
 use std::rc::Rc;
-use vx_base::{BitBuffer, ByteBuffer, DType, PType, Scalar, VortexError, number_count};
+use vx_base::{BitBuffer, Buffer, ByteBuffer, DType, PType, Scalar, VortexError, number_count};
+use vx_views::BinaryView;
 
 /// A column of rows: a layout whose parts are shared, with the data type and the number of its
 /// rows. Its parts are well formed at every depth.
@@ -86,6 +88,14 @@ pub enum Layout {
         validity: Validity,
         flag: bool,
     },
+    /// Texts or byte lists: row `i` is the value of `views[i]`, which stands in the view or in one
+    /// of the buffers. The view of a null row is 16 zero bytes.
+    VarBinView {
+        views: Buffer<BinaryView>,
+        buffers: Vec<ByteBuffer>,
+        dtype: DType,
+        validity: Validity,
+    },
 }
 
 impl Model for ArrayRef {
@@ -143,7 +153,9 @@ impl ArrayRef {
     /// An array of these parts. Asks that they are well formed: that the validity has as many
     /// rows, that a dictionary's codes are integers and each valid one the position of a value,
     /// that lists of a fixed size have all their elements and no more, that a list view's offsets and
-    /// sizes are counts, that its lists end within the elements, and that a set flag holds.
+    /// sizes are counts, that its lists end within the elements, that a set flag holds, that each
+    /// view of a valid row is sound and that of a null row 16 zero bytes, and that texts and byte
+    /// lists are nullable just where their validity is.
     #[inline(always)]
     pub fn from_parts(alloc: Global, layout: Layout) -> Result<ArrayRef, VortexError>
         requires { WellFormed (tree_of layout) }
@@ -243,6 +255,15 @@ impl Layout {
                 sizes.known();
                 validity.known();
             }
+            Layout::VarBinView {
+                views,
+                buffers,
+                validity,
+                ..
+            } => {
+                known_views(views.as_slice(), buffers);
+                validity.known();
+            }
         }
     }
 
@@ -257,6 +278,7 @@ impl Layout {
             Layout::Dict { codes, .. } => codes.len(),
             Layout::FixedSizeList { len, .. } => *len,
             Layout::ListView { offsets, .. } => offsets.len(),
+            Layout::VarBinView { views, .. } => views.len(),
         }
     }
 
@@ -293,6 +315,7 @@ impl Layout {
                 let items = Rc::new(alloc, elements.dtype().try_clone(alloc)?)?;
                 Ok(DType::List(items, validity.nullability()))
             }
+            Layout::VarBinView { dtype, .. } => dtype.try_clone(alloc),
         }
     }
 }

@@ -47,6 +47,7 @@ impl ArrayRef {
             Layout::Dict { .. } => self.dictionary_value(alloc, i),
             Layout::FixedSizeList { .. } => self.fixed_list_value(alloc, i),
             Layout::ListView { .. } => self.list_value(alloc, i),
+            Layout::VarBinView { .. } => self.view_value(alloc, i),
         }
     }
 

@@ -6,3 +6,4 @@ mod dict;
 mod fixed_size_list;
 mod list_view;
 mod primitive;
+pub(crate) mod var_bin_view;

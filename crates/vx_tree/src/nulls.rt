@@ -27,6 +27,7 @@ impl ArrayRef {
             Layout::Dict { .. } => self.nulled_dictionary(alloc, nulls),
             Layout::FixedSizeList { .. } => self.nulled_fixed_lists(alloc, nulls),
             Layout::ListView { .. } => self.nulled_list_view(alloc, nulls),
+            Layout::VarBinView { .. } => self.nulled_views(alloc, nulls),
         }
     }
 
@@ -52,6 +53,7 @@ impl ArrayRef {
             Layout::Dict { .. } => self.null_codes(alloc, len, nulls),
             Layout::FixedSizeList { .. } => self.null_fixed_lists(alloc, len, nulls),
             Layout::ListView { .. } => self.null_lists(alloc, len, nulls),
+            Layout::VarBinView { .. } => self.null_views(alloc, len, nulls),
         }
     }
 }

@@ -45,6 +45,7 @@ impl ArrayRef {
             },
             Layout::FixedSizeList { validity, .. } => validity.is_valid_at(i),
             Layout::ListView { validity, .. } => validity.is_valid_at(i),
+            Layout::VarBinView { validity, .. } => validity.is_valid_at(i),
         }
     }
 
@@ -147,6 +148,7 @@ impl ArrayRef {
             Layout::Dict { .. } => self.dictionary_validity(alloc),
             Layout::FixedSizeList { validity, .. } => validity.try_clone(alloc),
             Layout::ListView { validity, .. } => validity.try_clone(alloc),
+            Layout::VarBinView { validity, .. } => validity.try_clone(alloc),
         }
     }
 }

@@ -43,6 +43,7 @@ impl ArrayRef {
                 }
             }
             Layout::ListView { .. } => true,
+            Layout::VarBinView { .. } => true,
         }
     }
 
@@ -64,6 +65,7 @@ impl ArrayRef {
             Layout::Dict { .. } => self.select_dictionary(alloc, selection),
             Layout::FixedSizeList { .. } => self.select_fixed_lists(alloc, selection),
             Layout::ListView { .. } => self.select_list_view(alloc, selection),
+            Layout::VarBinView { .. } => self.select_views(alloc, selection),
         }
     }
 }

@@ -60,6 +60,7 @@ impl ArrayRef {
             Layout::Dict { .. } => self.slice_dictionary(alloc, start, end),
             Layout::FixedSizeList { .. } => self.slice_fixed_lists(alloc, start, end),
             Layout::ListView { .. } => self.slice_list_view(alloc, start, end),
+            Layout::VarBinView { .. } => self.slice_views(alloc, start, end),
         }
     }
 }

@@ -92,6 +92,14 @@ impl Validity {
         }
     }
 
+    // One boolean for each of `len` rows: whether the row is valid.
+    pub(crate) fn mask(&self, alloc: Global, len: usize) -> Result<Mask, VortexError>
+        requires { ValidFits (valid_of self.now) len }
+        ensures { Gives result (λ m. m ≡ valid_mask (valid_of self.now) len) }
+    {
+        self.execute_mask(alloc, len)
+    }
+
     // Whether null may stand.
     pub(crate) fn is_nullable(&self) -> bool
         ensures { result ≡ nullable (valid_of self.now) }

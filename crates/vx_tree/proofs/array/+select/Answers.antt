@@ -1,15 +1,17 @@
-use Rattle.std.proofs.Common.{ℕ, List, length, ◌*◌, rules, ap, subst, sym, ◌∙◌}
+use Rattle.std.proofs.Common.{ℕ, List, length, ◌*◌, rules, ap, subst, sym, ◌∙◌, ◌≡◌, []}
 use Rattle.std.specs.List.{flat_map}
 use Rattle.vx_base.specs.Selections.{run_positions}
 use Rattle.vx_tree.specs.Parts.{tree_of, valid_of}
 use Rattle.vx_base.proofs.Refused.{Gives-weaker}
 use Rattle.vx_tree.specs.Meaning.{tree_len}
 use Rattle.vx_tree.specs.Formed.{WellFormed}
-use Rattle.vx_tree.specs.Tree.{fixed_list, list_view}
+use Rattle.vx_tree.specs.Tree.{fixed_list, list_view, view_array}
 use Rattle.vx_tree.specs.Operations.{IsSelected}
 use Rattle.vx_tree.proofs.Selected.{lists_selected, ValidHasAll-from_fits}
 use Rattle.vx_tree.proofs.Dictionaries.{dictionary_selected}
 use Rattle.vx_tree.proofs.FixedLists.{lists_long, elements_selected, fixed_lists_selected}
+use Rattle.vx_base.specs.DTypes.{dtype_meaning}
+use Rattle.vx_tree.proofs.ViewArrays.{selected_rows, rows_formed, views_selected}
 use Rattle.vx_tree.proofs.array.+select.Goals as goal
 
 pub ArrayRef::select_list_view-returns : goal.ArrayRef::select_list_view-returns
@@ -65,3 +67,32 @@ ArrayRef::select_fixed_lists-returns t c =
     (λ a e. fixed_lists_selected c.args.self.now a c.in-FixedSizeList.elements c.in_ok-elements.elements c.in-FixedSizeList.size c.in-FixedSizeList.len (valid_of c.in-FixedSizeList.validity) (valid_of c.in_ok-validity.validity)
     c.args.selection.now same (rw c.len-len.ensures at e) (subst S picked c.in_ok-elements.ensures) c.in_ok-validity.ensures)
     c.with_parts.ensures
+
+pub ArrayRef::select_views-var_bin_view-requires : goal.ArrayRef::select_views-var_bin_view-requires
+ArrayRef::select_views-var_bin_view-requires t c =
+    let views = c.in-VarBinView.views in
+    let buffers = c.in-VarBinView.buffers.items in
+    let k = dtype_meaning c.in-VarBinView.dtype in
+    let v = valid_of c.in-VarBinView.validity in
+    let w = valid_of c.in_ok-validity.validity in
+    let ps = c.args.selection.now in
+    let same = sym c.layout.ensures.parts ∙ ap tree_of c.in-VarBinView.is in
+    let shared : c.in_ok-buffers.buffers.items ≡ buffers = c.in_ok-buffers.ensures ∙ c.deref.ensures.value in
+    let kind : dtype_meaning c.in_ok-dtype.dtype ≡ k = c.in_ok-dtype.ensures in
+    let rows = selected_rows views c.in_ok-views.views v w ps (rw c.as_slice.ensures at (c.in_ok-views.ensures [])) (rw same at c.requires.within) c.in_ok-validity.ensures in
+    let formed : WellFormed (view_array views buffers k v) = rw c.in-VarBinView.is at c.layout.ensures.formed in
+    rw (shared, kind) (rows_formed views buffers c.in_ok-views.views k v w _ _ rows formed)
+
+pub ArrayRef::select_views-returns : goal.ArrayRef::select_views-returns
+ArrayRef::select_views-returns t c =
+    let views = c.in-VarBinView.views in
+    let buffers = c.in-VarBinView.buffers.items in
+    let k = dtype_meaning c.in-VarBinView.dtype in
+    let v = valid_of c.in-VarBinView.validity in
+    let w = valid_of c.in_ok-validity.validity in
+    let ps = c.args.selection.now in
+    let same = sym c.layout.ensures.parts ∙ ap tree_of c.in-VarBinView.is in
+    let shared : c.in_ok-buffers.buffers.items ≡ buffers = c.in_ok-buffers.ensures ∙ c.deref.ensures.value in
+    let kind : dtype_meaning c.in_ok-dtype.dtype ≡ k = c.in_ok-dtype.ensures in
+    let rows = selected_rows views c.in_ok-views.views v w ps (rw c.as_slice.ensures at (c.in_ok-views.ensures [])) (rw same at c.requires.within) c.in_ok-validity.ensures in
+    Gives-weaker c.var_bin_view.result _ _ (λ a e. views_selected c.args.self.now a views buffers c.in_ok-views.views k v w ps same (rw (shared, kind) at e) rows) c.var_bin_view.ensures

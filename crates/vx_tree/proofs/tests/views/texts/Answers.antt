@@ -1,0 +1,17 @@
+use Rattle.std.proofs.Common.{ℕ, zero, suc, ◌<◌, ◌≡◌, true, false, List, [], ◌∷◌, replicate, ap, refl, sym, ◌∙◌, arith, rules}
+use Rattle.std.specs.Prelude.{slice_index_or}
+use Rattle.vx_base.specs.Bits.{bool_at}
+use Rattle.vx_tree.specs.Meaning.{tree_len, kind_of}
+use Rattle.vx_tree.proofs.ViewArrays.{empty_is_zeroes}
+use Rattle.vx_tree.proofs.tests.views.texts.Goals as goal
+
+-- the second row alone is null
+second : (a b x y : List ℕ) → b ≡ replicate 16 0 → (i : ℕ) → i < 4 → bool_at (true ∷ false ∷ true ∷ true ∷ []) i ≡ false → slice_index_or (a ∷ b ∷ x ∷ y ∷ []) i [] ≡ replicate 16 0
+second a b x y e zero l h = cc
+second a b x y e (suc zero) l h = e
+second a b x y e (suc (suc zero)) l h = cc
+second a b x y e (suc (suc (suc zero))) l h = cc
+second a b x y e (suc (suc (suc (suc i)))) l h = absurd (omega arith)
+
+pub var_bin_view-requires : goal.var_bin_view-requires
+var_bin_view-requires c = ?

@@ -1,0 +1,280 @@
+// Texts and byte lists, each by its view.
+
+ghost use Rattle.std.specs.Prelude.{◌≡◌, ◌<◌, ◌≤◌, ◌-◌, ℕ, true, false, [], length, map, slice_index_or, Some, MatchOption};
+ghost use Rattle.std.specs.List.{range_with_len};
+ghost use Rattle.vx_base.specs.Refusals.{Gives};
+ghost use Rattle.vx_base.specs.DTypes.{dtype_meaning};
+ghost use Rattle.vx_base.specs.Bytes.{AreBytes};
+ghost use Rattle.vx_views.specs.Views.{IsView, buffer_at};
+ghost use Rattle.vx_tree.specs.Tree.{view_array};
+ghost use Rattle.vx_tree.specs.Layouts.{is_view_array};
+ghost use Rattle.vx_base.specs.Rows.{null};
+ghost use Rattle.vx_base.specs.ValueRows.{option_row, row_under};
+ghost use Rattle.vx_tree.specs.Meaning.{tree_len, kind_of, row_at, is_valid_at, is_texts, value_row};
+ghost use Rattle.vx_tree.specs.Values.{bytes_in};
+ghost use Rattle.vx_tree.specs.Formed.{ValidFits, WellFormed};
+ghost use Rattle.vx_tree.specs.Fitting.{AreViews};
+ghost use Rattle.vx_tree.specs.Parts.{valid_of};
+ghost use Rattle.vx_tree.specs.Operations.{IsSlice, IsSelected, IsNulled, IsNulls, AreBelow, valid_view};
+
+use crate::array::{ArrayRef, Layout, Validity};
+use std::alloc::Global;
+use vx_base::{
+    Buffer, ByteBuffer, DType, Mask, ScalarValue, Selection, VortexError, gather_items,
+    share_buffers,
+};
+use vx_views::BinaryView;
+
+impl ArrayRef {
+    /// Texts or byte lists, null where the validity is false. Asks that the data type is one of
+    /// texts or of byte lists, nullable just where the validity is, that there are as many views
+    /// as the validity has rows, that the view of each valid row is sound, as `check_views` has it,
+    /// and that the view of each null row is 16 zero bytes.
+    pub fn var_bin_view(
+        alloc: Global,
+        views: Buffer<BinaryView>,
+        buffers: Vec<ByteBuffer>,
+        dtype: DType,
+        validity: Validity,
+    ) -> Result<ArrayRef, VortexError>
+        requires { WellFormed (view_array views buffers.items (dtype_meaning dtype) (valid_of validity)) }
+        ensures { Gives result (λ a. a
+            ≡ view_array views buffers.items (dtype_meaning dtype) (valid_of validity)) }
+    {
+        ArrayRef::from_parts(
+            alloc,
+            Layout::VarBinView {
+                views,
+                buffers,
+                dtype,
+                validity,
+            },
+        )
+    }
+
+    #[cycle(slice)]
+    pub(crate) fn slice_views(
+        &self,
+        alloc: Global,
+        start: usize,
+        end: usize,
+    ) -> Result<ArrayRef, VortexError>
+        requires layout { is_view_array self.now ≡ true }
+        requires start_le_end { start ≤ end }
+        requires in_bounds { end ≤ tree_len self.now }
+        ensures { Gives result (IsSlice self.now start (end - start)) }
+    {
+        let Layout::VarBinView {
+            views,
+            buffers,
+            dtype,
+            validity,
+        } = self.layout()
+        else {
+            unreachable!();
+        };
+        let views = views.slice(alloc, start..end)?;
+        let buffers = share_buffers(alloc, buffers)?;
+        let dtype = dtype.try_clone(alloc)?;
+        let validity = validity.slice_within(alloc, start, end)?;
+        ArrayRef::var_bin_view(alloc, views, buffers, dtype, validity)
+    }
+
+    #[cycle(select)]
+    pub(crate) fn select_views(
+        &self,
+        alloc: Global,
+        selection: &Selection,
+    ) -> Result<ArrayRef, VortexError>
+        requires layout { is_view_array self.now ≡ true }
+        requires within { AreBelow (tree_len self.now) selection.now }
+        ensures { Gives result (IsSelected self.now selection.now) }
+    {
+        let Layout::VarBinView {
+            views,
+            buffers,
+            dtype,
+            validity,
+        } = self.layout()
+        else {
+            unreachable!();
+        };
+        let views = gather_items(alloc, views.as_slice(), selection)?;
+        let buffers = share_buffers(alloc, buffers)?;
+        let dtype = dtype.try_clone(alloc)?;
+        let validity = validity.select_within(alloc, selection)?;
+        ArrayRef::var_bin_view(alloc, views, buffers, dtype, validity)
+    }
+
+    pub(crate) fn nulled_views(
+        &self,
+        alloc: Global,
+        nulls: &Validity,
+    ) -> Result<ArrayRef, VortexError>
+        requires layout { is_view_array self.now ≡ true }
+        requires fits { ValidFits (valid_of nulls.now) (tree_len self.now) }
+        ensures { Gives result (IsNulled self.now (valid_of nulls.now)) }
+    {
+        let Layout::VarBinView {
+            views,
+            buffers,
+            dtype,
+            validity,
+        } = self.layout()
+        else {
+            unreachable!();
+        };
+        let len = views.len();
+        let validity = validity.nulled(alloc, nulls, len)?;
+        let mask = validity.mask(alloc, len)?;
+        let views = valid_views(alloc, views, &mask)?;
+        let buffers = share_buffers(alloc, buffers)?;
+        let dtype = dtype
+            .try_clone(alloc)?
+            .union_nullability(nulls.nullability());
+        ArrayRef::var_bin_view(alloc, views, buffers, dtype, validity)
+    }
+
+    pub(crate) fn null_views(
+        &self,
+        alloc: Global,
+        len: usize,
+        nulls: &Validity,
+    ) -> Result<ArrayRef, VortexError>
+        requires layout { is_view_array self.now ≡ true }
+        requires fits { ValidFits (valid_of nulls.now) len }
+        requires none { (i : ℕ) → i < len → is_valid_at (valid_of nulls.now) i ≡ false }
+        ensures { Gives result (IsNulls self.now len (valid_of nulls.now)) }
+    {
+        let Layout::VarBinView {
+            buffers,
+            dtype,
+            validity,
+            ..
+        } = self.layout()
+        else {
+            unreachable!();
+        };
+        let views = Buffer::from_vec(alloc, vec![in alloc; BinaryView::empty_view(); len]?)?;
+        let buffers = share_buffers(alloc, buffers)?;
+        let dtype = dtype
+            .try_clone(alloc)?
+            .union_nullability(nulls.nullability());
+        let validity = validity.nulls(alloc, len, nulls)?;
+        ArrayRef::var_bin_view(alloc, views, buffers, dtype, validity)
+    }
+
+    /// The bytes of row `i`, a text or a byte list, `None` where it is null: those in the view or in
+    /// the buffer, with no copy. Asks an array of views, and a row below the length.
+    #[tactic(auto, using(crate::proofs::ViewArrays::view_reads))]
+    pub fn bytes_at(&self, i: usize) -> Option<&[u8]>
+        requires layout { is_view_array self.now ≡ true }
+        requires in_bounds { i < tree_len self.now }
+        ensures { MatchOption result (row_at self.now i ≡ null) (λ value. bytes_in (row_at self.now i) ≡ Some value.now) }
+    {
+        let Layout::VarBinView {
+            views,
+            buffers,
+            validity,
+            ..
+        } = self.layout()
+        else {
+            unreachable!();
+        };
+        if validity.is_valid_at(i) {
+            Some(views.as_slice()[i].value_in(buffers))
+        } else {
+            None
+        }
+    }
+
+    // The text or the byte list that row `i` is, copied, `None` where it is null.
+    #[tactic(auto, using(crate::proofs::ViewArrays::view_value_found, crate::proofs::ViewArrays::view_value_none))]
+    pub(crate) fn view_value(
+        &self,
+        alloc: Global,
+        i: usize,
+    ) -> Result<Option<ScalarValue>, VortexError>
+        requires layout { is_view_array self.now ≡ true }
+        requires in_bounds { i < tree_len self.now }
+        ensures { Gives result (λ v. row_under (kind_of self.now) v ≡ row_at self.now i) }
+    {
+        self.known();
+        let Some(value) = self.bytes_at(i) else {
+            return Ok(None);
+        };
+        let value = ByteBuffer::copy_from(alloc, value)?;
+        Ok(Some(value_of_kind(self.dtype(), value)))
+    }
+}
+
+// These bytes as a text where texts stand, else as a byte list.
+fn value_of_kind(dtype: &DType, value: ByteBuffer) -> ScalarValue
+    ensures { option_row (Some result) ≡ value_row (is_texts (dtype_meaning dtype.now)) value }
+{
+    match dtype {
+        DType::Utf8(_) => ScalarValue::Text(value),
+        DType::Binary(_) | DType::Bool(_) | DType::Primitive(_, _) => ScalarValue::Bytes(value),
+        DType::List(_, _) | DType::FixedSizeList(_, _, _) => ScalarValue::Bytes(value),
+        DType::Struct(_, _) => ScalarValue::Bytes(value),
+    }
+}
+
+// The views where the mask is true, and 16 zero bytes elsewhere.
+fn valid_views(
+    alloc: Global,
+    views: &Buffer<BinaryView>,
+    mask: &Mask,
+) -> Result<Buffer<BinaryView>, VortexError>
+    requires { length mask.now ≡ length views.now }
+    ensures { Gives result (λ b. b ≡ map (valid_view views.now mask.now) (range_with_len 0 (length views.now))) }
+{
+    if mask.all_true() {
+        return views.try_clone(alloc);
+    }
+    let mut valid = vec![in alloc; BinaryView::empty_view(); views.len()]?;
+    put_valid_views(views.as_slice(), mask, &mut valid);
+    Buffer::from_vec(alloc, valid)
+}
+
+// Writes them.
+#[inline(never)]
+fn put_valid_views(views: &[BinaryView], mask: &Mask, out: &mut [BinaryView])
+    requires masked { length mask.now ≡ length views.now }
+    requires room { length out.old ≡ length views.now }
+    ensures { out.new ≡ map (valid_view views.now mask.now) (range_with_len 0 (length views.now)) }
+{
+    for row in 0..out.len() {
+        out[row] = if mask.value(row) {
+            views[row]
+        } else {
+            BinaryView::empty_view()
+        };
+    }
+}
+
+// Each view has 16 bytes, and each buffer has bytes. It does nothing.
+pub(crate) fn known_views(views: &[BinaryView], buffers: &[ByteBuffer])
+    ensures { AreViews views.now buffers.now }
+{
+    known_sizes(views);
+    known_bytes(buffers);
+}
+
+// Each view has 16 bytes. It does nothing, and so compiles to nothing.
+fn known_sizes(views: &[BinaryView])
+    ensures { (i : ℕ) → i < length views.now → IsView (slice_index_or views.now i []) }
+{
+    for view in views {
+        let _size = view.len();
+    }
+}
+
+// Each buffer has bytes. It does nothing, and so compiles to nothing.
+fn known_bytes(buffers: &[ByteBuffer])
+    ensures { (block : ℕ) → AreBytes (buffer_at buffers.now block) }
+{
+    for buffer in buffers {
+        let _bytes = buffer.as_slice();
+    }
+}
