@@ -16,3 +16,6 @@ pub mod Worked
 pub mod WorkedViews
 pub mod Composed
 pub mod Filtered
+pub mod Validities
+pub mod Patched
+pub mod Compared

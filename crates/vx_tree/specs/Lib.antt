@@ -7,6 +7,8 @@ pub mod Layouts
 pub mod Falls
 pub mod Faults
 pub mod Operations
+pub mod Validities
+pub mod Patches
 pub mod Composed
 pub mod Fitting
 pub mod Worked

@@ -26,3 +26,6 @@ pub use crate::laws::{
     worked_arrays_are_formed,
 };
 pub use crate::typed_array::TypedArray;
+pub use crate::validity::{
+    and_associates, and_commutes, and_has_a_unit, and_repeats, trivial_casts_are_casts,
+};

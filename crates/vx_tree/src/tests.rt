@@ -17,6 +17,7 @@ use vx_base::{BitBuffer, ByteBuffer, Nullability, PType, Scalar, Selection, Vort
 mod fixed_size_lists;
 mod masks;
 mod scalars;
+mod validities;
 mod views;
 
 // ---- arrays

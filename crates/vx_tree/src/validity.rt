@@ -12,7 +12,19 @@ ghost use Rattle.vx_tree.specs.Parts.{valid_of};
 ghost use Rattle.vx_tree.specs.Faults.{valid_type_fault, valid_len, validity_fault};
 ghost use Rattle.vx_tree.specs.Operations.{IsValidSlice, IsValidSelected, IsValidNulled, IsValidNulls, ValidHasAll};
 
+mod bits;
+mod both;
+mod casts;
+mod compare;
+mod laws;
+mod patch;
+mod rows;
+mod states;
+
 use crate::array::{ArrayRef, Validity};
+pub use crate::validity::laws::{
+    and_associates, and_commutes, and_has_a_unit, and_repeats, trivial_casts_are_casts,
+};
 use std::alloc::Global;
 use vx_base::{BitBuffer, Mask, Nullability, Selection, VortexError};
 
@@ -223,7 +235,7 @@ impl Validity {
 }
 
 // Valid where the bit is set.
-fn told_by(alloc: Global, bits: BitBuffer) -> Result<Validity, VortexError>
+pub(crate) fn told_by(alloc: Global, bits: BitBuffer) -> Result<Validity, VortexError>
     ensures { Gives result (λ v. valid_of v ≡ by_array (bools bits.bits non_nullable)) }
 {
     let array = ArrayRef::bools(alloc, bits, Validity::NonNullable)?;
@@ -231,7 +243,7 @@ fn told_by(alloc: Global, bits: BitBuffer) -> Result<Validity, VortexError>
 }
 
 // An array of booleans, none of them true.
-fn nowhere_true(alloc: Global, len: usize) -> Result<Validity, VortexError>
+pub(crate) fn nowhere_true(alloc: Global, len: usize) -> Result<Validity, VortexError>
     ensures { Gives result (λ v. valid_of v ≡ by_array (bools (replicate len false) non_nullable)) }
 {
     told_by(alloc, BitBuffer::new_unset(alloc, len)?)

@@ -1,0 +1,326 @@
+-- What the calls of a validity give.
+use Rattle.std.proofs.Common.{ℕ, zero, suc, ◌+◌, ◌<◌, ◌≡◌, ◌↔◌, Bool, true, false, eqb, List, [], ◌∷◌, length, map, replicate, get_or, set, Option, Some, None, refl, sym, ◌∙◌, ap, subst, zero-add, inl, inr, arith, length-set}
+use Rattle.std.specs.Prelude.{◌&&◌, ◌||◌, ◌==◌, IsTrue, count_by, if◌then◌else◌, slice_index, pos, negsuc}
+use Rattle.std.specs.List.{range_with_len}
+use borrow.Author.Count.{below_more}
+use Rattle.std.proofs.lemmas.Bool.{eq-eqb}
+use Rattle.std.proofs.lemmas.Bool.Decides.{eqb_tells}
+use Rattle.std.proofs.lemmas.List.{get_or-set_same, get_or-set_other, get_or-replicate, length-replicate}
+use Rattle.std.proofs.lemmas.List.FromFn.{fill_by_all, length-map-range_with_len, get_or-map-range_with_len}
+use Rattle.vx_base.specs.Bits.{bool_at, both}
+use Rattle.vx_base.specs.Kinds.{booleans, is_integers}
+use Rattle.vx_base.specs.Refusals.{Refusal, has_nulls, or_else}
+use Rattle.vx_base.specs.Rows.{Row, null, boolean, whole, bytes, text, items, record_of, truth_of, count_in, is_present, position_in}
+use Rattle.vx_base.proofs.ListParts.{map_range_same}
+use Rattle.vx_base.proofs.MaskCounts.{count-all_true, count-all_false, all_true_from_count, all_false_from_count}
+use Rattle.vx_tree.specs.Tree.{Tree, bools, Valid, non_nullable, all_valid, all_invalid, by_array}
+use Rattle.vx_tree.specs.Meaning.{tree_len, kind_of, row_at, is_valid_at, nullable, valid_mask}
+use Rattle.vx_tree.specs.Shapes.{State, never_null, none_null, every_null, told, state_of, taken_state, tree_state}
+use Rattle.vx_tree.specs.Formed.{ValidFits, IsMask}
+use Rattle.vx_tree.specs.Faults.{take_fault, indices_fault}
+use Rattle.vx_tree.specs.Operations.{IsSelected, IsValidityOf, IsValidNulled, ArePositions, or_zero}
+use Rattle.vx_tree.specs.Validities.{pair_of, both_pairs, opposite, has_no_nulls, made_nullable, full_valid, valid_from, IsOpposite, IsValidTaken, nullable_state, trivial_cast, trivial_cast_fault, cast_fault, cast_of, IsTrivialCast, BothCommutes, BothAssociates, BothRepeats, BothHasUnit, TrivialCasts}
+use Rattle.vx_tree.proofs.Masks.{all_true_mask, all_valid_mask, all_invalid_mask}
+use Rattle.vx_tree.proofs.Positions.{mask_long}
+use Rattle.vx_tree.proofs.Nulled.{valid_both}
+use Rattle.vx_tree.proofs.Selected.{booleans_can_be_selected}
+use Rattle.vx_tree.proofs.Taken.{take_fault-of, positions_none}
+
+-- ---- whether a row is null
+
+-- a test of the mask decides it
+pub none_false : (b : Bool) (v : Valid) (n : ℕ) (mask : List Bool) → mask ≡ valid_mask v n → (IsTrue b ↔ (count_by (λ x. x) mask ≡ length mask)) → b ≡ has_no_nulls v n
+none_false true v n mask e h =
+    sym (eq-eqb (count_by (λ x. x) (valid_mask v n)) n (sym (ap (count_by (λ x. x)) e) ∙ h.0 refl ∙ mask_long v mask n e))
+none_false false v n mask e h = elim (eqb_tells (count_by (λ x. x) (valid_mask v n)) n) [
+  | inl alike ↦ let all = h.1 (ap (count_by (λ x. x)) e ∙ alike.1 ∙ sym (mask_long v mask n e)) in absurd (cc)
+  | inr apart ↦ sym apart.0
+]
+
+-- none of no rows is
+pub no_rows : (v : Valid) (n : ℕ) → n ≡ 0 → has_no_nulls v n ≡ true
+no_rows v n e = rw e refl
+
+full_has_none : (v : Valid) (n : ℕ) → replicate n true ≡ valid_mask v n → has_no_nulls v n ≡ true
+full_has_none v n e = eq-eqb (count_by (λ x. x) (valid_mask v n)) n (ap (count_by (λ x. x)) (sym e) ∙ count-all_true n)
+
+-- ---- booleans
+
+-- a validity of booleans has them as its mask
+pub valid_from-mask : (bits : List Bool) (b : Bool) → valid_mask (valid_from bits (full_valid b)) (length bits) ≡ bits
+valid_from-mask bits b = elim (eqb_tells (count_by (λ x. x) bits) (length bits)) [
+  | inl alike ↦ rw alike.0 (sym (full b (length bits)) ∙ sym (all_true_from_count bits alike.1))
+  | inr apart ↦ rw apart.0 (elim (eqb_tells (count_by (λ x. x) bits) 0) [
+    | inl none ↦ rw none.0 (sym (all_invalid_mask all_invalid (length bits) refl) ∙ sym (all_false_from_count bits none.1))
+    | inr some ↦ rw some.0 (sym (fill_by_all (bool_at bits) bits (length bits) false refl (λ i l. refl)))
+  ])
+]
+  where
+    full : (b : Bool) (n : ℕ) → replicate n true ≡ valid_mask (full_valid b) n
+    full true n = all_valid_mask all_valid n refl
+    full false n = all_true_mask non_nullable n refl
+
+-- ---- valid in both
+
+pub both_of : (f g : ℕ → Bool) (ks : List ℕ) → both (map f ks) (map g ks) ≡ map (λ k. f k && g k) ks
+both_of f g [] = refl
+both_of f g (k ∷ ks) = ap (λ bs. (f k && g k) ∷ bs) (both_of f g ks)
+
+pub pair_joined : (v u w : Valid) (n : ℕ) → nullable w ≡ (nullable v || nullable u) → ((i : ℕ) → i < n → is_valid_at w i ≡ (is_valid_at v i && is_valid_at u i)) → pair_of w n ≡ both_pairs (pair_of v n) (pair_of u n)
+pair_joined v u w n e h =
+    let masks : valid_mask w n ≡ both (valid_mask v n) (valid_mask u n) =
+    map_range_same (is_valid_at w) (λ k. is_valid_at v k && is_valid_at u k) 0 0 n (λ j l. rw zero-add (h j l)) ∙ sym (both_of (is_valid_at v) (is_valid_at u) (range_with_len 0 n)) in
+    λ i. (e i, masks i)
+
+pub and_true : (b : Bool) → b ≡ (b && true)
+and_true true = refl
+and_true false = refl
+
+pub and_false : (b : Bool) → false ≡ (b && false)
+and_false true = refl
+and_false false = refl
+
+nullable_made : (u : Valid) → nullable (made_nullable u) ≡ true
+nullable_made non_nullable = refl
+nullable_made all_valid = refl
+nullable_made all_invalid = refl
+nullable_made (by_array t) = refl
+
+valid_made : (u : Valid) (i : ℕ) → is_valid_at (made_nullable u) i ≡ is_valid_at u i
+valid_made non_nullable i = refl
+valid_made all_valid i = refl
+valid_made all_invalid i = refl
+valid_made (by_array t) i = refl
+
+pub state_made : (u : Valid) → state_of (made_nullable u) ≡ nullable_state (state_of u)
+state_made non_nullable = refl
+state_made all_valid = refl
+state_made all_invalid = refl
+state_made (by_array t) = refl
+
+pub pair_all_valid : (u : Valid) (n : ℕ) → pair_of (made_nullable u) n ≡ both_pairs (pair_of all_valid n) (pair_of u n)
+pair_all_valid u n = pair_joined all_valid u (made_nullable u) n (nullable_made u) (λ i h. valid_made u i)
+
+-- two arrays
+pub arrays_joined : (m o : Tree) (w : Valid) (xs ys bits : List Bool) (n : ℕ) → kind_of m ≡ booleans false → kind_of o ≡ booleans false → tree_len o ≡ tree_len m → w ≡ by_array (bools bits non_nullable)
+    → xs ≡ map (λ i. truth_of (row_at m i)) (range_with_len 0 (tree_len m)) → ys ≡ map (λ i. truth_of (row_at o i)) (range_with_len 0 (tree_len o)) → bits ≡ both xs ys → tree_len m ≡ n
+    → pair_of w n ≡ both_pairs (pair_of (by_array m) n) (pair_of (by_array o) n)
+arrays_joined m o w xs ys bits n k l same a d e f long =
+    let joined : IsValidNulled (by_array m) (by_array o) (tree_len m) w =
+    valid_both (by_array m) (by_array o) w m o xs ys bits (tree_len m) refl refl a d e f (record { len = refl; kind = k }) (record { len = same; kind = l }) in
+    pair_joined (by_array m) (by_array o) w n (ap nullable a) (λ i h. joined.bits i (rw long h))
+
+-- ---- the other way
+
+-- the first n booleans are turned
+pub record AreTurned (xs : List Bool) (n : ℕ) (out : List Bool) : Type 0 where
+  pub long : length out ≡ length xs
+  pub each : (i : ℕ) → i < n → get_or out i false ≡ opposite (bool_at xs i)
+
+pub AreTurned-more : (xs out : List Bool) (n : ℕ) (b : Bool) → n < length out → AreTurned xs n out → b ≡ opposite (bool_at xs n) → AreTurned xs (n + 1) (set out n b)
+AreTurned-more xs out n b inside h here =
+    record {
+      long = length-set out n b ∙ h.long;
+      each = below_more (λ i. get_or (set out n b) i false ≡ opposite (bool_at xs i)) n (λ i l. get_or-set_other out n i b false (omega arith) ∙ h.each i l) (get_or-set_same out n b false inside ∙ here);
+    }
+
+pub AreTurned-all : (xs out : List Bool) (n : ℕ) → n ≡ length out → AreTurned xs n out → out ≡ map (λ i. opposite (bool_at xs i)) (range_with_len 0 (length xs))
+AreTurned-all xs out n e h = fill_by_all (λ i. opposite (bool_at xs i)) out (length xs) false h.long (λ i l. h.each i (omega (arith, h.long)))
+
+pub array_turned : (t : Tree) (w : Valid) (xs bits : List Bool) (n : ℕ) → w ≡ by_array (bools bits non_nullable) → bits ≡ map (λ i. opposite (bool_at xs i)) (range_with_len 0 (length xs))
+    → xs ≡ map (λ i. truth_of (row_at t i)) (range_with_len 0 (tree_len t)) → ValidFits (by_array t) n → IsOpposite (by_array t) n w
+array_turned t w xs bits n a b c h =
+    let long : length xs ≡ tree_len t = ap length c ∙ length-map-range_with_len (λ i. truth_of (row_at t i)) 0 (tree_len t) in
+    rw a (record {
+      fits = record { len = ap length b ∙ length-map-range_with_len (λ i. opposite (bool_at xs i)) 0 (length xs) ∙ long ∙ h.len; kind = refl };
+      state = refl;
+      bits = λ i l.
+          let inside : i < tree_len t = rw h.len l in
+          ap (λ bs. bool_at bs i) b ∙ get_or-map-range_with_len (λ k. opposite (bool_at xs k)) 0 (length xs) i i false (rw long inside) (zero-add i)
+          ∙ ap opposite (ap (λ bs. bool_at bs i) c ∙ get_or-map-range_with_len (λ k. truth_of (row_at t k)) 0 (tree_len t) i i false inside (zero-add i));
+    })
+
+-- ---- at indices
+
+told_taken : (s : State) → taken_state told s ≡ told
+told_taken never_null = refl
+told_taken none_null = refl
+told_taken every_null = refl
+told_taken told = refl
+
+none_taken : (s : State) → taken_state none_null s ≡ nullable_state s
+none_taken never_null = refl
+none_taken none_null = refl
+none_taken every_null = refl
+none_taken told = refl
+
+fits_made : (v : Valid) (n : ℕ) → ValidFits v n → ValidFits (made_nullable v) n
+fits_made non_nullable n h = tt
+fits_made all_valid n h = tt
+fits_made all_invalid n h = tt
+fits_made (by_array t) n h = h
+
+count-or_zero : (r : Row) → or_zero (position_in r) ≡ count_in r
+count-or_zero null = refl
+count-or_zero (boolean b) = refl
+count-or_zero (whole (pos k)) = refl
+count-or_zero (whole (negsuc k)) = refl
+count-or_zero (bytes b) = refl
+count-or_zero (text b) = refl
+count-or_zero (items rs) = refl
+count-or_zero (record_of fs) = refl
+
+pub truths_taken : (t indices s : Tree) (x w : Valid) (ps : List ℕ) → IsValidityOf indices x → ArePositions indices (tree_len t) ps → IsSelected t ps s → IsValidNulled (by_array s) x (tree_len indices) w → IsValidTaken (by_array t) indices w
+truths_taken t indices s x w ps valid are selected n =
+    record {
+      fits = n.fits;
+      state = n.state ∙ told_taken (state_of x) ∙ sym (told_taken (tree_state indices));
+      bits = λ i l.
+          let inside : i < length ps = rw are.len l in
+          let p = are.each i l in
+          n.bits i l ∙ ap (λ b. truth_of (row_at s i) && b) (valid.bits i l)
+          ∙ ap (λ r. truth_of r && is_present (row_at indices i)) (selected.rows i inside ∙ ap (row_at t) (p.told ∙ count-or_zero (row_at indices i)));
+    }
+
+-- of no rows nothing is taken
+pub truths_of_none : (t indices : Tree) (x w : Valid) (ps : List ℕ) → tree_len t ≡ 0 → IsValidityOf indices x → ArePositions indices (tree_len t) ps → w ≡ by_array (bools (replicate (tree_len indices) false) non_nullable)
+    → IsValidTaken (by_array t) indices w
+truths_of_none t indices x w ps none valid are a =
+    rw a (record {
+      fits = record { len = length-replicate (tree_len indices) false; kind = refl };
+      state = sym (told_taken (tree_state indices));
+      bits = λ i l.
+          let absent : false ≡ is_present (row_at indices i) = sym (positions_none indices (tree_len t) ps x none are valid i (rw are.len l)) ∙ valid.bits i l in
+          get_or-replicate (tree_len indices) i false false l ∙ and_false (truth_of (row_at t (count_in (row_at indices i)))) ∙ ap (λ b. truth_of (row_at t (count_in (row_at indices i))) && b) absent;
+    })
+
+pub take_fault-none : (t indices : Tree) → kind_of t ≡ booleans false → is_integers (kind_of indices) ≡ true → indices_fault (tree_len t) indices ≡ None → take_fault t indices ≡ None
+take_fault-none t indices k ints none = take_fault-of t indices (tree_len indices) ints none refl ∙ booleans_can_be_selected t (tree_len indices) false k
+
+-- a constant state takes the nulls of the indices
+pub full_taken : (indices : Tree) (v : Valid) → IsValidityOf indices v → IsValidTaken non_nullable indices v
+full_taken indices v h = record { fits = h.fits; state = h.state; bits = h.bits }
+
+pub nullable_taken : (indices : Tree) (v : Valid) → IsValidityOf indices v → IsValidTaken all_valid indices (made_nullable v)
+nullable_taken indices v h =
+    record {
+      fits = fits_made v (tree_len indices) h.fits;
+      state = state_made v ∙ ap nullable_state h.state ∙ sym (none_taken (tree_state indices));
+      bits = λ i l. valid_made v i ∙ h.bits i l;
+    }
+
+-- ---- laws
+
+or_commutes : (a b : Bool) → (a || b) ≡ (b || a)
+or_commutes true true = refl
+or_commutes true false = refl
+or_commutes false true = refl
+or_commutes false false = refl
+
+or_associates : (a b c : Bool) → ((a || b) || c) ≡ (a || (b || c))
+or_associates true b c = refl
+or_associates false b c = refl
+
+or_repeats : (a : Bool) → (a || a) ≡ a
+or_repeats true = refl
+or_repeats false = refl
+
+or_false : (a : Bool) → (a || false) ≡ a
+or_false true = refl
+or_false false = refl
+
+and_commutes : (a b : Bool) → (a && b) ≡ (b && a)
+and_commutes true true = refl
+and_commutes true false = refl
+and_commutes false true = refl
+and_commutes false false = refl
+
+and_associates : (a b c : Bool) → ((a && b) && c) ≡ (a && (b && c))
+and_associates true b c = refl
+and_associates false b c = refl
+
+and_repeats : (a : Bool) → (a && a) ≡ a
+and_repeats true = refl
+and_repeats false = refl
+
+masks_commute : (xs ys : List Bool) → both xs ys ≡ both ys xs
+masks_commute [] [] = refl
+masks_commute [] (y ∷ ys) = refl
+masks_commute (x ∷ xs) [] = refl
+masks_commute (x ∷ xs) (y ∷ ys) = λ i. and_commutes x y i ∷ masks_commute xs ys i
+
+masks_associate : (xs ys zs : List Bool) → both (both xs ys) zs ≡ both xs (both ys zs)
+masks_associate [] [] zs = refl
+masks_associate [] (y ∷ ys) [] = refl
+masks_associate [] (y ∷ ys) (z ∷ zs) = refl
+masks_associate (x ∷ xs) [] zs = refl
+masks_associate (x ∷ xs) (y ∷ ys) [] = refl
+masks_associate (x ∷ xs) (y ∷ ys) (z ∷ zs) = λ i. and_associates x y z i ∷ masks_associate xs ys zs i
+
+masks_repeat : (xs : List Bool) → both xs xs ≡ xs
+masks_repeat [] = refl
+masks_repeat (x ∷ xs) = λ i. and_repeats x i ∷ masks_repeat xs i
+
+masks_unit : (xs : List Bool) (start : ℕ) → both xs (map (is_valid_at non_nullable) (range_with_len start (length xs))) ≡ xs
+masks_unit [] start = refl
+masks_unit (x ∷ xs) start = λ i. sym (and_true x) i ∷ masks_unit xs (start + 1) i
+
+pub pairs_commute : BothCommutes
+pairs_commute p q = λ i. (or_commutes p.0 q.0 i, masks_commute p.1 q.1 i)
+
+pub pairs_associate : BothAssociates
+pairs_associate p q r = λ i. (or_associates p.0 q.0 r.0 i, masks_associate p.1 q.1 r.1 i)
+
+pub pairs_repeat : BothRepeats
+pairs_repeat p = λ i. (or_repeats p.0 i, masks_repeat p.1 i)
+
+pub pairs_have_unit : BothHasUnit
+pairs_have_unit p = λ i. (or_false p.0 i, masks_unit p.1 0 i)
+
+some_same : {A : Type 0} (x y : A) → Some x ≡ Some y → x ≡ y
+some_same x y e = cc
+
+-- a cast where there are no rows
+cast_of_none : (v : Valid) → IsTrivialCast v false 0
+cast_of_none v = record {
+  given = λ w none some. (refl, some_same non_nullable w some);
+  refused = λ r fault. absurd (cc);
+}
+
+invalid_has_some : (n : ℕ) → eqb n 0 ≡ false → has_no_nulls all_invalid n ≡ false
+invalid_has_some n ne = elim (eqb_tells (count_by (λ x. x) (valid_mask all_invalid n)) n) [
+  | inl alike ↦
+      let none : n ≡ 0 = sym alike.1 ∙ ap (count_by (λ x. x)) (sym (all_invalid_mask all_invalid n refl)) ∙ count-all_false n in
+      let same = eq-eqb n 0 none in
+      absurd (cc)
+  | inr other ↦ other.0
+]
+
+-- and where there are
+cast_of_some : (v : Valid) (n : ℕ) → eqb n 0 ≡ false → IsTrivialCast v false n
+cast_of_some non_nullable n ne = record {
+  given = λ w none some. (rw (ne, full_has_none non_nullable n (all_true_mask non_nullable n refl)) refl, some_same non_nullable w (rw ne at some));
+  refused = λ r fault. let f = rw ne at fault in absurd (cc);
+}
+cast_of_some all_valid n ne = record {
+  given = λ w none some. (rw (ne, full_has_none all_valid n (all_valid_mask all_valid n refl)) refl, some_same non_nullable w (rw ne at some));
+  refused = λ r fault. let f = rw ne at fault in absurd (cc);
+}
+cast_of_some all_invalid n ne = record {
+  given = λ w none some. let f = rw ne at none in absurd (cc);
+  refused = λ r fault. let f = rw ne at fault in rw (ne, invalid_has_some n ne) f;
+}
+cast_of_some (by_array t) n ne = record {
+  given = λ w none some. let f = rw ne at some in absurd (cc);
+  refused = λ r fault. let f = rw ne at fault in absurd (cc);
+}
+
+pub trivial_casts : TrivialCasts
+trivial_casts v true n = record {
+  given = λ w none some. (refl, some_same (made_nullable v) w some);
+  refused = λ r fault. absurd (cc);
+}
+trivial_casts v false n = elim (eqb_tells n 0) [
+  | inl alike ↦ subst (IsTrivialCast v false) (sym alike.1) (cast_of_none v)
+  | inr apart ↦ cast_of_some v n apart.0
+]

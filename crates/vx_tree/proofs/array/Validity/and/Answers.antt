@@ -1,0 +1,17 @@
+use Rattle.std.proofs.Common.{refl}
+use Rattle.vx_tree.specs.Tree.{non_nullable, all_invalid}
+use Rattle.vx_tree.specs.Parts.{valid_of}
+use Rattle.vx_tree.proofs.Validities.{pair_joined, pair_all_valid, state_made}
+use Rattle.vx_tree.proofs.array.Validity.and.Goals as goal
+
+pub returns-in-NonNullable-clause-pair : goal.returns-in-NonNullable-clause-pair
+returns-in-NonNullable-clause-pair c = λ n l m. rw c.in-NonNullable.is (pair_joined non_nullable (valid_of c.args.rhs) (valid_of c.args.rhs) n refl (λ i h. refl))
+
+pub returns-in-AllValid-clause-pair : goal.returns-in-AllValid-clause-pair
+returns-in-AllValid-clause-pair c = λ n l m. rw (c.in-AllValid.is, c.into_nullable.ensures) (pair_all_valid (valid_of c.args.rhs) n)
+
+pub returns-in-AllValid-clause-state : goal.returns-in-AllValid-clause-state
+returns-in-AllValid-clause-state c = rw (c.in-AllValid.is, c.into_nullable.ensures) (state_made (valid_of c.args.rhs))
+
+pub returns-in-AllInvalid-clause-pair : goal.returns-in-AllInvalid-clause-pair
+returns-in-AllInvalid-clause-pair c = λ n l m. rw c.in-AllInvalid.is (pair_joined all_invalid (valid_of c.args.rhs) all_invalid n refl (λ i h. refl))

@@ -1,0 +1,101 @@
+// A validity as booleans, and of booleans.
+
+ghost use Rattle.std.specs.Prelude.{◌≡◌, false, length, IfOk};
+ghost use Rattle.vx_base.specs.DTypes.{is_nullable};
+ghost use Rattle.vx_base.specs.Refusals.{Gives, Refuses};
+ghost use Rattle.vx_base.specs.Kinds.{booleans};
+ghost use Rattle.vx_base.specs.Rows.{boolean};
+ghost use Rattle.vx_tree.specs.Tree.{all_valid, constant};
+ghost use Rattle.vx_tree.specs.Meaning.{valid_mask};
+ghost use Rattle.vx_tree.specs.Formed.{IsLenOf};
+ghost use Rattle.vx_tree.specs.Parts.{valid_of};
+ghost use Rattle.vx_tree.specs.Faults.{valid_type_fault};
+ghost use Rattle.vx_tree.specs.Validities.{array_of, full_valid, has_no_nulls, valid_from};
+
+use crate::array::{ArrayRef, Validity};
+use crate::validity::told_by;
+use std::alloc::Global;
+use vx_base::{BitBuffer, Mask, Nullability, Scalar, VortexError};
+
+impl Validity {
+    /// `len` rows of booleans that tell which rows are valid: a constant true, a constant false, or
+    /// the array. Fails only for want of memory.
+    pub fn to_array(&self, alloc: Global, len: usize) -> Result<ArrayRef, VortexError>
+        ensures { Gives result (λ a. a ≡ array_of (valid_of self.now) len) }
+    {
+        match self {
+            Validity::NonNullable => constant_truth(alloc, true, len),
+            Validity::AllValid => constant_truth(alloc, true, len),
+            Validity::AllInvalid => constant_truth(alloc, false, len),
+            Validity::Array(array) => array.try_clone(alloc),
+        }
+    }
+
+    /// One boolean for each of `len` rows, as `execute_mask` gives them.
+    pub fn to_mask(&self, alloc: Global, len: usize) -> Result<Mask, VortexError>
+        requires { IsLenOf (valid_of self.now) len }
+        ensures mask { IfOk result (λ m. m ≡ valid_mask (valid_of self.now) len) }
+        ensures refuses { Refuses result (valid_type_fault (valid_of self.now)) }
+    {
+        self.execute_mask(alloc, len)
+    }
+
+    /// Whether none of `len` rows is null. Asks that an array has `len` rows. Refuses
+    /// `MismatchedTypes` where the array is not one of plain booleans.
+    pub fn execute_no_nulls(&self, alloc: Global, len: usize) -> Result<bool, VortexError>
+        requires { IsLenOf (valid_of self.now) len }
+        ensures ok { IfOk result (λ b. b ≡ has_no_nulls (valid_of self.now) len) }
+        ensures refuses { Refuses result (valid_type_fault (valid_of self.now)) }
+    {
+        let mask = self.execute_mask(alloc, len)?;
+        Ok(mask.all_true())
+    }
+
+    /// Valid where the boolean is true: `AllValid` where all are, `AllInvalid` where none is, else an
+    /// array of them. Fails only for want of memory.
+    pub fn from_buffer(alloc: Global, bits: BitBuffer) -> Result<Validity, VortexError>
+        ensures given { Gives result (λ v. valid_of v ≡ valid_from bits.bits all_valid) }
+        ensures mask { IfOk result (λ v. valid_mask (valid_of v) (length bits.bits) ≡ bits.bits) }
+    {
+        Validity::from_bit_buffer(alloc, bits, Nullability::Nullable)
+    }
+
+    /// Valid where the boolean is true: by the nullability where all are, `AllInvalid` where none is,
+    /// else an array of them. Fails only for want of memory.
+    pub fn from_bit_buffer(
+        alloc: Global,
+        bits: BitBuffer,
+        nullability: Nullability,
+    ) -> Result<Validity, VortexError>
+        ensures given { Gives result (λ v. valid_of v ≡ valid_from bits.bits (full_valid (is_nullable nullability))) }
+        ensures mask { IfOk result (λ v. valid_mask (valid_of v) (length bits.bits) ≡ bits.bits) }
+    {
+        let validity = of_bits(alloc, bits, nullability)?;
+        Ok(validity)
+    }
+}
+
+// Valid where the boolean is true.
+fn of_bits(
+    alloc: Global,
+    bits: BitBuffer,
+    nullability: Nullability,
+) -> Result<Validity, VortexError>
+    ensures { Gives result (λ v. valid_of v ≡ valid_from bits.bits (full_valid (is_nullable nullability))) }
+{
+    let true_count = bits.true_count();
+    if true_count == bits.len() {
+        return Ok(Validity::full(nullability));
+    }
+    if true_count == 0 {
+        return Ok(Validity::AllInvalid);
+    }
+    told_by(alloc, bits)
+}
+
+// One truth value, `len` times.
+fn constant_truth(alloc: Global, value: bool, len: usize) -> Result<ArrayRef, VortexError>
+    ensures { Gives result (λ a. a ≡ constant (booleans false) (boolean value) len) }
+{
+    ArrayRef::constant(alloc, Scalar::bool(value, Nullability::NonNullable), len)
+}

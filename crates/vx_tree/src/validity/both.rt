@@ -1,0 +1,90 @@
+// Rows that are valid in both of two validities.
+
+ghost use Rattle.std.specs.Prelude.{◌≡◌, ℕ, false, IfOk};
+ghost use Rattle.vx_base.specs.Kinds.{booleans};
+ghost use Rattle.vx_base.specs.Refusals.{Gives, Refuses};
+ghost use Rattle.vx_tree.specs.Tree.{by_array};
+ghost use Rattle.vx_tree.specs.Shapes.{state_of, told};
+ghost use Rattle.vx_tree.specs.Meaning.{tree_len, kind_of};
+ghost use Rattle.vx_tree.specs.Formed.{IsLenOf};
+ghost use Rattle.vx_tree.specs.Parts.{valid_of};
+ghost use Rattle.vx_tree.specs.Validities.{pair_of, both_pairs, both_states, and_fault};
+
+use crate::array::{ArrayRef, Validity};
+use crate::validity::told_by;
+use std::alloc::Global;
+use vx_base::VortexError;
+
+impl Validity {
+    /// Valid where both are, nullable where either is: `NonNullable` of two of them, `AllInvalid`
+    /// where either is, the array of an array and a state without nulls, `AllValid` of other states,
+    /// and of two arrays an array. Refuses, of two arrays, `MismatchedTypes` where either is not one
+    /// of plain booleans, then `LengthMismatch`.
+    pub fn and(self, alloc: Global, rhs: Validity) -> Result<Validity, VortexError>
+        ensures pair { IfOk result (λ w. (n : ℕ) → IsLenOf (valid_of self) n → IsLenOf (valid_of rhs) n
+            → pair_of (valid_of w) n ≡ both_pairs (pair_of (valid_of self) n) (pair_of (valid_of rhs) n)) }
+        ensures state { IfOk result (λ w. state_of (valid_of w) ≡ both_states (state_of (valid_of self)) (state_of (valid_of rhs))) }
+        ensures refuses { Refuses result (and_fault (valid_of self) (valid_of rhs)) }
+    {
+        match self {
+            Validity::NonNullable => Ok(rhs),
+            Validity::AllValid => Ok(rhs.into_nullable()),
+            Validity::AllInvalid => Ok(Validity::AllInvalid),
+            Validity::Array(array) => array_and(alloc, array, rhs),
+        }
+    }
+}
+
+// The same of an array.
+fn array_and(alloc: Global, array: ArrayRef, rhs: Validity) -> Result<Validity, VortexError>
+    ensures pair { IfOk result (λ w. (n : ℕ) → IsLenOf (by_array array) n → IsLenOf (valid_of rhs) n
+        → pair_of (valid_of w) n ≡ both_pairs (pair_of (by_array array) n) (pair_of (valid_of rhs) n)) }
+    ensures state { IfOk result (λ w. state_of (valid_of w) ≡ both_states (state_of (by_array array)) (state_of (valid_of rhs))) }
+    ensures refuses { Refuses result (and_fault (by_array array) (valid_of rhs)) }
+{
+    match rhs {
+        Validity::NonNullable => Ok(Validity::Array(array)),
+        Validity::AllValid => Ok(Validity::Array(array)),
+        Validity::AllInvalid => Ok(Validity::AllInvalid),
+        Validity::Array(other) => arrays_and(alloc, &array, &other),
+    }
+}
+
+// The same of two arrays.
+#[tactic(auto, using(crate::proofs::Masks::plain_booleans))]
+fn arrays_and(alloc: Global, array: &ArrayRef, other: &ArrayRef) -> Result<Validity, VortexError>
+    ensures pair { IfOk result (λ w. (n : ℕ) → IsLenOf (by_array array.now) n → IsLenOf (by_array other.now) n
+        → pair_of (valid_of w) n ≡ both_pairs (pair_of (by_array array.now) n) (pair_of (by_array other.now) n)) }
+    ensures state { IfOk result (λ w. state_of (valid_of w) ≡ both_states (state_of (by_array array.now)) (state_of (by_array other.now))) }
+    ensures refuses { Refuses result (and_fault (by_array array.now) (by_array other.now)) }
+{
+    if !array.dtype().is_plain_bool() {
+        return Err(VortexError::MismatchedTypes);
+    }
+    if !other.dtype().is_plain_bool() {
+        return Err(VortexError::MismatchedTypes);
+    }
+    let expected = array.len();
+    let found = other.len();
+    if found != expected {
+        return Err(VortexError::LengthMismatch { expected, found });
+    }
+    let validity = plain_and(alloc, array, other)?;
+    Ok(validity)
+}
+
+// The same of two arrays of plain booleans that are as long.
+fn plain_and(alloc: Global, array: &ArrayRef, other: &ArrayRef) -> Result<Validity, VortexError>
+    requires mine { kind_of array.now ≡ booleans false }
+    requires theirs { kind_of other.now ≡ booleans false }
+    requires same_len { tree_len other.now ≡ tree_len array.now }
+    ensures pair { Gives result (λ w. (n : ℕ) → IsLenOf (by_array array.now) n → IsLenOf (by_array other.now) n
+        → pair_of (valid_of w) n ≡ both_pairs (pair_of (by_array array.now) n) (pair_of (by_array other.now) n)) }
+    ensures state { IfOk result (λ w. state_of (valid_of w) ≡ told) }
+{
+    let mine = array.plain_bits(alloc)?;
+    let theirs = other.plain_bits(alloc)?;
+    let bits = mine.and(alloc, &theirs)?;
+    let validity = told_by(alloc, bits)?;
+    Ok(validity)
+}

@@ -1,0 +1,104 @@
+// Whether two validities have the same rows, and masks as validities.
+
+ghost use Rattle.std.specs.Prelude.{◌≡◌, ◌↔◌, false, length, count_by, IsTrue, IfOk};
+ghost use Rattle.vx_base.specs.DTypes.{is_nullable};
+ghost use Rattle.vx_base.specs.Refusals.{Gives, Refuses, or_else};
+ghost use Rattle.vx_tree.specs.Meaning.{valid_mask};
+ghost use Rattle.vx_tree.specs.Formed.{IsLenOf};
+ghost use Rattle.vx_tree.specs.Parts.{valid_of};
+ghost use Rattle.vx_tree.specs.Faults.{valid_type_fault};
+ghost use Rattle.vx_tree.specs.Validities.{full_valid, valid_from};
+
+use crate::array::Validity;
+use crate::validity::patch::copy_mask;
+use crate::validity::told_by;
+use std::alloc::Global;
+use vx_base::{BitBuffer, Mask, Nullability, VortexError};
+
+impl Validity {
+    /// Whether the same of `len` rows are valid in both. Asks that an array has `len` rows. Refuses
+    /// `MismatchedTypes` where either array is not one of plain booleans.
+    pub fn mask_eq(
+        &self,
+        alloc: Global,
+        other: &Validity,
+        len: usize,
+    ) -> Result<bool, VortexError>
+        requires mine { IsLenOf (valid_of self.now) len }
+        requires theirs { IsLenOf (valid_of other.now) len }
+        ensures ok { IfOk result (λ b. IsTrue b ↔ (valid_mask (valid_of self.now) len ≡ valid_mask (valid_of other.now) len)) }
+        ensures refuses { Refuses result (or_else (valid_type_fault (valid_of self.now)) (valid_type_fault (valid_of other.now))) }
+    {
+        let mine = self.execute_mask(alloc, len)?;
+        let theirs = other.execute_mask(alloc, len)?;
+        Ok(same_masks(&mine, &theirs))
+    }
+
+    /// Valid where the mask is true: by the nullability where all rows are, `AllInvalid` where none
+    /// is, else an array. Asks that the nullability is `Nullable`, or the mask all true. Fails only
+    /// for want of memory.
+    pub fn from_mask(
+        alloc: Global,
+        mask: Mask,
+        nullability: Nullability,
+    ) -> Result<Validity, VortexError>
+        requires { is_nullable nullability ≡ false → count_by (λ b. b) mask ≡ length mask }
+        ensures given { Gives result (λ v. valid_of v ≡ valid_from mask (full_valid (is_nullable nullability))) }
+        ensures mask { IfOk result (λ v. valid_mask (valid_of v) (length mask) ≡ mask) }
+    {
+        let validity = of_mask(alloc, &mask, nullability)?;
+        Ok(validity)
+    }
+}
+
+// Valid where the mask is true.
+fn of_mask(
+    alloc: Global,
+    mask: &Mask,
+    nullability: Nullability,
+) -> Result<Validity, VortexError>
+    ensures { Gives result (λ v. valid_of v ≡ valid_from mask.now (full_valid (is_nullable nullability))) }
+{
+    let true_count = mask.true_count();
+    if true_count == mask.len() {
+        return Ok(Validity::full(nullability));
+    }
+    if true_count == 0 {
+        return Ok(Validity::AllInvalid);
+    }
+    let mut truths = vec![in alloc; false; mask.len()]?;
+    copy_mask(mask, &mut truths);
+    told_by(alloc, BitBuffer::from_bools(alloc, &truths)?)
+}
+
+// Whether two masks have the same booleans. Asks that both are as long.
+#[tactic(auto, using(crate::proofs::Compared::compared))]
+fn same_masks(mine: &Mask, theirs: &Mask) -> bool
+    requires { length mine.now ≡ length theirs.now }
+    ensures { IsTrue result ↔ (mine.now ≡ theirs.now) }
+{
+    if mine.true_count() != theirs.true_count() {
+        return false;
+    }
+    if mine.all_true() {
+        return true;
+    }
+    if mine.all_false() {
+        return true;
+    }
+    same_rows(mine, theirs)
+}
+
+// The same, row by row.
+#[tactic(auto, using(crate::proofs::Compared::compared_rows))]
+fn same_rows(mine: &Mask, theirs: &Mask) -> bool
+    requires { length mine.now ≡ length theirs.now }
+    ensures { IsTrue result ↔ (mine.now ≡ theirs.now) }
+{
+    for row in 0..mine.len() {
+        if mine.value(row) != theirs.value(row) {
+            return false;
+        }
+    }
+    true
+}
