@@ -15,7 +15,7 @@ class Fault(Exception):
 
 class Array(NamedTuple):
     layout: str  # bool, primitive, constant, dict or listview
-    kind: str  # bool, list or an integer type
+    kind: str  # bool, utf8, binary, list or an integer type
     nullable: bool
     rows: List[Any]  # None where a row is null
     elements: Optional["Array"] = None
@@ -40,7 +40,7 @@ def want(condition, fault: str):
 
 def read_type(word: str):
     kind = word[:-1] if word.endswith("?") else word
-    want(kind == "bool" or kind in RANGES, "Syntax")
+    want(kind in ("bool", "utf8", "binary") or kind in RANGES, "Syntax")
     return kind, word.endswith("?")
 
 
@@ -50,9 +50,20 @@ def read_item(kind: str, word: str):
     if kind == "bool":
         want(word in ("true", "false"), "Syntax")
         return word == "true"
+    if kind in ("utf8", "binary"):
+        want(re.fullmatch(r"x([0-9a-fA-F]{2})*", word), "Syntax")
+        return bytes.fromhex(word[1:])
     want(re.fullmatch(r"-?[0-9]{1,20}", word), "Syntax")
     want(abs(int(word)) < 2**64 and int(word) in RANGES[kind], "Syntax")
     return int(word)
+
+
+def fits(kind: str, item) -> bool:
+    """Whether the item of a constant fits its type: a text is UTF-8."""
+    try:
+        return kind != "utf8" or item is None or item.decode("utf-8") is not None
+    except UnicodeDecodeError:
+        return False
 
 
 def read_number(word: str, limit: Optional[int] = 2**64) -> int:
@@ -149,12 +160,35 @@ def take(array: Array, indices: Array) -> Array:
     return taken
 
 
+def kept(array: Array, mask: Array) -> List[int]:
+    """The rows at which a mask of plain booleans is true."""
+    want(mask.kind == "bool" and not mask.nullable, "MismatchedTypes")
+    want(len(mask.rows) == len(array.rows), "LengthMismatch")
+    return [row for row, is_kept in enumerate(mask.rows) if is_kept]
+
+
+def filter_array(array: Array, mask: Array) -> Array:
+    return take(array, Array("primitive", "u64", False, kept(array, mask)))
+
+
+def mask_array(array: Array, mask: Array) -> Array:
+    there = set(kept(array, mask))
+    places = [row if row in there else None for row in range(len(array.rows))]
+    rows = [None if place is None else array.rows[place] for place in places]
+    masked = array._replace(rows=rows, nullable=True)
+    if array.layout in ("dict", "constant"):
+        return take(array, Array("primitive", "u64", True, places))
+    return masked
+
+
 # ---- text
 
 
 def row_text(row) -> str:
     if isinstance(row, list):
         return "[" + ",".join(map(row_text, row)) + "]"
+    if isinstance(row, bytes):
+        return "x" + row.hex()
     return "null" if row is None else str(row).lower()
 
 
@@ -181,11 +215,12 @@ def run_line(arrays: List[Array], words: List[str]) -> Optional[str]:
         want(register < len(arrays), "NoRegister")
         return arrays[register]
 
-    counts = {"ints": 2, "bools": 2, "const": 3, "listview": 4, "slice": 3, "take": 2, "rebuild": 2}
+    counts = {"ints": 2, "bools": 2, "const": 3, "listview": 4, "slice": 3, "take": 2}
+    counts.update({"filter": 2, "mask": 2, "rebuild": 2})
     want(len(operands) == counts.get(name, 1), "Syntax")
     if name in ("ints", "bools"):
         kind, nullable = read_type(operands[0])
-        want((kind == "bool") == (name == "bools"), "Syntax")
+        want(kind == "bool" if name == "bools" else kind in RANGES, "Syntax")
         items = [] if operands[1] == "-" else operands[1].split(",")
         rows = [read_item(kind, item) for item in items]
         arrays.append(literal("bool" if kind == "bool" else "primitive", kind, nullable, rows))
@@ -194,6 +229,7 @@ def run_line(arrays: List[Array], words: List[str]) -> Optional[str]:
         item = read_item(kind, operands[1])
         count = read_number(operands[2])
         want(nullable or item is not None, "HasNulls")
+        want(fits(kind, item), "MismatchedTypes")
         arrays.append(literal("constant", kind, nullable, [item] * count))
     elif name == "listview":
         registers = [read_register(word) for word in operands[:3]]
@@ -203,9 +239,10 @@ def run_line(arrays: List[Array], words: List[str]) -> Optional[str]:
     elif name == "slice":
         register, start, end = read_register(operands[0]), *map(read_number, operands[1:])
         arrays.append(slice_array(get(register), start, end))
-    elif name == "take":
+    elif name in ("take", "filter", "mask"):
         registers = [read_register(word) for word in operands]
-        arrays.append(take(*[get(register) for register in registers]))
+        call = {"take": take, "filter": filter_array, "mask": mask_array}[name]
+        arrays.append(call(*[get(register) for register in registers]))
     elif name == "rebuild":
         register = read_register(operands[0])
         want(operands[1] == "zctl", "Syntax")

@@ -1,20 +1,19 @@
 // The commands of the script language.
 
 use crate::faults::LineFault;
-use crate::literals::{boolean_array, constant_array, integer_array};
+use crate::literals::{Literal, boolean_array, constant_array, integer_array};
 use crate::operands::{RegisterWord, ValidityWord, dtype_named, whole_number};
 use crate::words::Words;
 use std::alloc::Global;
 use vx_base::DType;
 use vx_lists::ListViewRebuildMode;
-use vx_tree::ArrayRef;
 
 // A line that is in the grammar, with its operands.
 #[derive(Drop)]
 pub(crate) enum Command {
-    // `ints T LIST`, `bools T LIST`, `const T ITEM N`: the array that the line spells out, `None`
-    // where it has a null that may not be.
-    Literal(Option<ArrayRef>),
+    // `ints T LIST`, `bools T LIST`, `const T ITEM N`: the array that the line spells out, or why it
+    // is refused.
+    Literal(Literal),
     // `listview R R R V`: a list view.
     ListView {
         elements: RegisterWord,
@@ -32,6 +31,16 @@ pub(crate) enum Command {
     Take {
         array: RegisterWord,
         indices: RegisterWord,
+    },
+    // `filter R R`: the rows at which truth values are true.
+    Filter {
+        array: RegisterWord,
+        mask: RegisterWord,
+    },
+    // `mask R R`: the rows, null where truth values are false.
+    Mask {
+        array: RegisterWord,
+        mask: RegisterWord,
     },
     // `rebuild R MODE`: a list view rebuilt.
     Rebuild {
@@ -62,6 +71,8 @@ pub(crate) fn parse_command(alloc: Global, line: &[u8]) -> Result<Option<Command
         b"listview" => list_view(&mut words)?,
         b"slice" => slice(&mut words)?,
         b"take" => take(&mut words)?,
+        b"filter" => filter(&mut words)?,
+        b"mask" => mask(&mut words)?,
         b"rebuild" => rebuild(&mut words)?,
         b"show" => Command::Show {
             array: register(&mut words)?,
@@ -121,6 +132,20 @@ fn take(words: &mut Words<'_>) -> Result<Command, LineFault> {
     Ok(Command::Take {
         array: register(words)?,
         indices: register(words)?,
+    })
+}
+
+fn filter(words: &mut Words<'_>) -> Result<Command, LineFault> {
+    Ok(Command::Filter {
+        array: register(words)?,
+        mask: register(words)?,
+    })
+}
+
+fn mask(words: &mut Words<'_>) -> Result<Command, LineFault> {
+    Ok(Command::Mask {
+        array: register(words)?,
+        mask: register(words)?,
     })
 }
 

@@ -3,6 +3,7 @@
 
 mod command;
 mod faults;
+mod hexadecimal;
 mod line_buffer;
 mod literals;
 mod operands;
@@ -10,6 +11,7 @@ mod parts;
 mod registers;
 mod run;
 mod show;
+mod show_scalar;
 mod words;
 
 pub use crate::run::run_script;

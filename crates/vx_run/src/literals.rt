@@ -1,14 +1,19 @@
-// Arrays that a line spells out. Each is `None` where it has a null that may not be.
+// Arrays that a line spells out. Each is the refusal `HasNulls` where it has a null that may not be.
 
 use crate::faults::LineFault;
+use crate::hexadecimal::read_bytes;
 use crate::operands::{integer_of, integer_within, truth_value};
 use num_traits::Zero;
 use std::alloc::Global;
 use vx_base::{
-    BitBufferMut, BufferMut, DType, NativePType, Nullability, PType, Scalar, VortexError,
+    BitBufferMut, BufferMut, DType, NativePType, Nullability, PType, Scalar, ScalarValue,
+    VortexError,
 };
 use vx_leaves::{BoolArray, PrimitiveArray};
 use vx_tree::{ArrayRef, TypedArray, Validity};
+
+// The array that a line spells out, or why it is refused once the whole line was read.
+pub(crate) type Literal = Result<ArrayRef, VortexError>;
 
 // The integers of a list. Refuses `Syntax` where an item is none of the type.
 pub(crate) fn integer_array(
@@ -16,7 +21,7 @@ pub(crate) fn integer_array(
     ptype: PType,
     nullability: Nullability,
     list: &[u8],
-) -> Result<Option<ArrayRef>, LineFault> {
+) -> Result<Literal, LineFault> {
     match ptype {
         PType::U8 => primitive_array(
             alloc,
@@ -66,16 +71,16 @@ fn primitive_array<T: NativePType + Drop>(
     alloc: Global,
     nullability: Nullability,
     items: &[Option<T>],
-) -> Result<Option<ArrayRef>, LineFault> {
+) -> Result<Literal, LineFault> {
     let Some(validity) = validity_of(alloc, nullability, items)? else {
-        return Ok(None);
+        return Ok(Err(VortexError::HasNulls));
     };
     let mut values = BufferMut::with_capacity(alloc, items.len())?;
     for item in items {
         values.push(item.unwrap_or(T::zero()))?;
     }
     let array = PrimitiveArray::try_new(alloc, values.freeze()?, validity)?;
-    Ok(Some(array.into_array()))
+    Ok(Ok(array.into_array()))
 }
 
 // The truth values of a list, with false where an item is null. Refuses `Syntax` where an item is
@@ -84,44 +89,50 @@ pub(crate) fn boolean_array(
     alloc: Global,
     nullability: Nullability,
     list: &[u8],
-) -> Result<Option<ArrayRef>, LineFault> {
+) -> Result<Literal, LineFault> {
     let items = items(alloc, list, truth_value)?;
     let Some(validity) = validity_of(alloc, nullability, &items)? else {
-        return Ok(None);
+        return Ok(Err(VortexError::HasNulls));
     };
     let mut bits = BitBufferMut::with_capacity(alloc, items.len())?;
     for item in &items {
         bits.append(item.unwrap_or(false))?;
     }
     let array = BoolArray::try_new(alloc, bits.freeze()?, validity)?;
-    Ok(Some(array.into_array()))
+    Ok(Ok(array.into_array()))
 }
 
-// One item, `len` times. Refuses `Syntax` where the item is none of the data type.
+// One item, `len` times; `MismatchedTypes` where it is a text that is not UTF-8. Refuses `Syntax`
+// where the item is none of the data type.
 pub(crate) fn constant_array(
     alloc: Global,
     dtype: DType,
     item: &[u8],
     len: usize,
-) -> Result<Option<ArrayRef>, LineFault> {
-    let scalar = match dtype {
-        dtype if item == b"null".as_slice() => {
-            if !dtype.is_nullable() {
-                return Ok(None);
-            }
-            Scalar::null(dtype)
-        }
-        DType::Primitive(ptype, nullability) => {
-            let number = integer_of(ptype, item).ok_or(LineFault::Syntax)?;
-            Scalar::int(number, ptype, nullability)
-        }
-        DType::Bool(nullability) => {
-            let truth = truth_value(item).ok_or(LineFault::Syntax)?;
-            Scalar::bool(truth, nullability)
-        }
-        _ => return Err(LineFault::Syntax),
+) -> Result<Literal, LineFault> {
+    let value = match item {
+        b"null" => None,
+        item => Some(scalar_value(alloc, &dtype, item)?),
     };
-    Ok(Some(ArrayRef::constant(alloc, scalar, len)?))
+    if value.is_none() && !dtype.is_nullable() {
+        return Ok(Err(VortexError::HasNulls));
+    }
+    match Scalar::try_new(dtype, value) {
+        Ok(scalar) => Ok(Ok(ArrayRef::constant(alloc, scalar, len)?)),
+        Err(refusal) => Ok(Err(refusal)),
+    }
+}
+
+// The value that an item writes. Refuses `Syntax` where it writes none of the data type.
+fn scalar_value(alloc: Global, dtype: &DType, item: &[u8]) -> Result<ScalarValue, LineFault> {
+    match dtype {
+        DType::Primitive(ptype, _) => integer_of(*ptype, item).map(ScalarValue::Int),
+        DType::Bool(_) => truth_value(item).map(ScalarValue::Bool),
+        DType::Utf8(_) => Some(ScalarValue::Text(read_bytes(alloc, item)?)),
+        DType::Binary(_) => Some(ScalarValue::Bytes(read_bytes(alloc, item)?)),
+        _ => None,
+    }
+    .ok_or(LineFault::Syntax)
 }
 
 // The items of a list, `None` for a null: none for `-`, else those that commas join, each read by

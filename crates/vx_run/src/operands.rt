@@ -10,8 +10,8 @@ use vx_base::{DType, NativePType, Nullability, PType};
 // The most digits that a number of a type may have.
 const MOST_DIGITS: usize = 20;
 
-// The data type that a word names, or `None` where it names none: an integer type or `bool`,
-// followed by `?` where a row may be null.
+// The data type that a word names, or `None` where it names none: an integer type, `bool`, `utf8`
+// or `binary`, followed by `?` where a row may be null.
 pub(crate) fn dtype_named(word: &[u8]) -> Option<DType> {
     let (name, nullability) = match word {
         [name @ .., b'?'] => (name, Nullability::Nullable),
@@ -27,6 +27,8 @@ pub(crate) fn dtype_named(word: &[u8]) -> Option<DType> {
         b"i32" => PType::I32,
         b"i64" => PType::I64,
         b"bool" => return Some(DType::Bool(nullability)),
+        b"utf8" => return Some(DType::Utf8(nullability)),
+        b"binary" => return Some(DType::Binary(nullability)),
         _ => return None,
     };
     Some(DType::Primitive(ptype, nullability))

@@ -44,7 +44,7 @@ impl Registers {
         command: Command,
     ) -> Result<Option<String>, LineFault> {
         let array = match command {
-            Command::Literal(array) => array.ok_or(VortexError::HasNulls)?,
+            Command::Literal(array) => array?,
             Command::ListView {
                 elements,
                 offsets,
@@ -53,6 +53,8 @@ impl Registers {
             } => self.list_view(alloc, elements, offsets, sizes, validity)?,
             Command::Slice { array, start, end } => self.get(array)?.slice(alloc, start..end)?,
             Command::Take { array, indices } => self.get(array)?.take(alloc, self.get(indices)?)?,
+            Command::Filter { array, mask } => self.filter(alloc, array, mask)?,
+            Command::Mask { array, mask } => self.get(array)?.mask(alloc, self.get(mask)?)?,
             Command::Rebuild { array, mode } => self.rebuild(alloc, array, mode)?,
             Command::Show { array } => return Ok(Some(self.show(alloc, array)?)),
             Command::Parts { array } => return Ok(Some(self.parts(alloc, array)?)),
@@ -102,6 +104,21 @@ impl Registers {
                 Validity::Array(self.get(register)?.try_clone(alloc)?)
             }
         })
+    }
+
+    // The rows at which a register of truth values is true. Refuses `MismatchedTypes` where that is
+    // not one of plain truth values, then what the call refuses.
+    fn filter(
+        &self,
+        alloc: Global,
+        array: RegisterWord,
+        mask: RegisterWord,
+    ) -> Result<ArrayRef, LineFault> {
+        let array = self.get(array)?;
+        let mask = self.get(mask)?;
+        let truths = Validity::Array(mask.try_clone(alloc)?);
+        let mask = truths.execute_mask(alloc, mask.len())?;
+        Ok(array.filter(alloc, &mask)?)
     }
 
     // A list view rebuilt. Refuses `MismatchedTypes` where the register is no list view.

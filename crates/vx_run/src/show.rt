@@ -10,10 +10,12 @@ ghost use Rattle.vx_tree.specs.Meaning.{tree_len, kind_of, row_at};
 ghost use Rattle.vx_tree.specs.Parts.{valid_of};
 ghost use Rattle.vx_run.specs.Shown.{AreCountsFrom};
 
+use crate::hexadecimal::write_bytes;
+use crate::show_scalar::show_value;
 use std::alloc::Global;
 use vx_base::{
-    BitBuffer, Buffer, ByteBuffer, Mask, NativePType, PType, Scalar, ScalarValue, VortexError,
-    call_native, read_counts, slice_numbers,
+    BitBuffer, Buffer, ByteBuffer, Mask, NativePType, PType, Scalar, VortexError, call_native,
+    read_counts, slice_numbers,
 };
 use vx_tree::{ArrayRef, Layout, Validity};
 
@@ -98,19 +100,9 @@ fn show_values(
     for row in start..end {
         separate(row - start, text)?;
         match array.bytes_at(row) {
-            Some(value) => show_bytes(value, text)?,
+            Some(value) => write_bytes(value, text)?,
             None => text.push_str("null")?,
         }
-    }
-    Ok(())
-}
-
-// Adds bytes as `x` and two lower case hexadecimal digits for each.
-fn show_bytes(value: &[u8], text: &mut String) -> Result<(), VortexError> {
-    text.push('x')?;
-    for byte in value {
-        let byte = *byte;
-        write!(text, "{byte:02x}")?;
     }
     Ok(())
 }
@@ -173,16 +165,7 @@ fn show_constant(
     text: &mut String,
 ) -> Result<(), VortexError> {
     let mut word = String::new(alloc);
-    match scalar.value() {
-        None => word.push_str("null")?,
-        Some(ScalarValue::Int(number)) => write!(word, "{number}")?,
-        Some(ScalarValue::Text(value)) => show_bytes(value.as_slice(), &mut word)?,
-        Some(ScalarValue::Bytes(value)) => show_bytes(value.as_slice(), &mut word)?,
-        Some(_) => {
-            let truth = scalar.as_bool();
-            write!(word, "{truth}")?;
-        }
-    }
+    show_value(scalar.dtype(), scalar.value(), &mut word)?;
     for row in 0..count {
         separate(row, text)?;
         text.push_str(word.as_str())?;
@@ -288,7 +271,7 @@ fn show_dictionary(
 }
 
 // Adds the comma before each row but the first.
-fn separate(row: usize, text: &mut String) -> Result<(), VortexError> {
+pub(crate) fn separate(row: usize, text: &mut String) -> Result<(), VortexError> {
     if row > 0 {
         text.push(',')?;
     }

@@ -1,6 +1,6 @@
 // Rows that are read one at a time, or as bits.
 
-ghost use Rattle.std.specs.Prelude.{◌≡◌, ◌<◌, ◌≤ℤ◌, ◌^◌, ◌-◌, pos, true, false, map, None, length, IfOk, IfSome, IsSome, is_some};
+ghost use Rattle.std.specs.Prelude.{◌≡◌, ◌<◌, ◌≤ℤ◌, ◌^◌, ◌-◌, pos, true, false, map, replicate, None, length, IfOk, IfSome, IsSome, is_some};
 ghost use Rattle.std.specs.List.{range_with_len};
 ghost use Rattle.vx_base.specs.Refusals.{Gives, Refuses};
 ghost use Rattle.vx_base.specs.Integers.{Holds};
@@ -14,7 +14,7 @@ ghost use Rattle.vx_tree.specs.Operations.{IsValidityOf};
 use crate::array::{ArrayRef, Layout, Validity};
 use crate::layouts::constant::scalar_validity;
 use std::alloc::Global;
-use vx_base::{BitBuffer, VortexError, int_at};
+use vx_base::{BitBuffer, Mask, VortexError, int_at};
 
 #[tactic(auto, using(crate::specs::Formed::valid_reads))]
 impl ArrayRef {
@@ -113,6 +113,17 @@ impl ArrayRef {
         }
     }
 
+    // The rows of an array of plain booleans, as a mask. A constant's takes no memory.
+    pub(crate) fn plain_mask(&self, alloc: Global) -> Result<Mask, VortexError>
+        requires { kind_of self.now ≡ booleans false }
+        ensures { Gives result (λ m. m ≡ map (λ i. truth_of (row_at self.now i)) (range_with_len 0 (tree_len self.now))) }
+    {
+        match self.layout() {
+            Layout::Constant { scalar, len } => Ok(mask_of_one(scalar.as_bool(), *len)),
+            _ => Mask::from_buffer(alloc, self.plain_bits(alloc)?),
+        }
+    }
+
     // The same in any layout, row by row.
     fn truths(&self, alloc: Global) -> Result<BitBuffer, VortexError>
         requires { kind_of self.now ≡ booleans false }
@@ -150,5 +161,16 @@ impl ArrayRef {
             Layout::ListView { validity, .. } => validity.try_clone(alloc),
             Layout::VarBinView { validity, .. } => validity.try_clone(alloc),
         }
+    }
+}
+
+// The same boolean for every row.
+fn mask_of_one(value: bool, len: usize) -> Mask
+    ensures { result ≡ replicate len value }
+{
+    if value {
+        Mask::new_true(len)
+    } else {
+        Mask::new_false(len)
     }
 }

@@ -99,7 +99,7 @@ impl Validity {
                 if !array.dtype().is_plain_bool() {
                     return Err(VortexError::MismatchedTypes);
                 }
-                Ok(Mask::from_buffer(alloc, array.plain_bits(alloc)?)?)
+                Ok(array.plain_mask(alloc)?)
             }
         }
     }
