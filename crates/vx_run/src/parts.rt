@@ -2,9 +2,9 @@
 
 ghost use Rattle.vx_tree.specs.Formed.{IsCounts};
 
-use crate::show::show_array;
+use crate::show::{separate, show_array};
 use std::alloc::Global;
-use vx_base::VortexError;
+use vx_base::{FieldNames, VortexError};
 use vx_tree::{ArrayRef, Layout};
 
 // Adds the parts of an array to a text, by its layout.
@@ -56,6 +56,22 @@ pub(crate) fn show_parts(
             let count = buffers.len();
             write!(text, "views {len} buffers {count}")?;
         }
+        Layout::Struct { names, .. } => {
+            write!(text, "struct {len} ")?;
+            show_names(names, text)?;
+        }
+    }
+    Ok(())
+}
+
+// Adds names, a comma between them, or a dash where there is none.
+fn show_names(names: &FieldNames, text: &mut String) -> Result<(), VortexError> {
+    if names.len() == 0 {
+        text.push('-')?;
+    }
+    for field in 0..names.len() {
+        separate(field, text)?;
+        text.push_str(names.get(field).as_str())?;
     }
     Ok(())
 }

@@ -4,9 +4,10 @@ ghost use Rattle.std.specs.Prelude.{ℕ, true, ◌≡◌, ◌+◌, ◌-◌, ◌*
 ghost use Rattle.vx_base.specs.Integers.{numbers};
 ghost use Rattle.vx_base.specs.Kinds.{is_integers};
 ghost use Rattle.vx_base.specs.Rows.{count_in};
-ghost use Rattle.vx_tree.specs.Formed.{IsCounts, ValidCovers};
+ghost use Rattle.vx_tree.specs.Columns.{AllReach};
+ghost use Rattle.vx_tree.specs.Formed.{IsCounts, ValidCovers, column_count};
 ghost use Rattle.vx_tree.specs.Layouts.{is_view_array};
-ghost use Rattle.vx_tree.specs.Meaning.{tree_len, kind_of, row_at};
+ghost use Rattle.vx_tree.specs.Meaning.{tree_len, kind_of, row_at, trees_from};
 ghost use Rattle.vx_tree.specs.Parts.{valid_of};
 ghost use Rattle.vx_run.specs.Shown.{AreCountsFrom};
 
@@ -14,8 +15,8 @@ use crate::hexadecimal::write_bytes;
 use crate::show_scalar::show_value;
 use std::alloc::Global;
 use vx_base::{
-    BitBuffer, Buffer, ByteBuffer, Mask, NativePType, PType, Scalar, VortexError, call_native,
-    read_counts, slice_numbers,
+    BitBuffer, Buffer, ByteBuffer, FieldNames, Mask, NativePType, PType, Scalar, VortexError,
+    call_native, read_counts, slice_numbers,
 };
 use vx_tree::{ArrayRef, Layout, Validity};
 
@@ -81,6 +82,15 @@ fn show_rows(
             let offsets = counts_of(alloc, offsets, start, end)?;
             let sizes = counts_of(alloc, sizes, start, end)?;
             show_lists(alloc, elements, &offsets, &sizes, &mask, text)?;
+        }
+        Layout::Struct {
+            names,
+            columns,
+            validity,
+            ..
+        } => {
+            let mask = mask_of(alloc, validity, start, end)?;
+            show_records(alloc, names, columns, start, end, &mask, text)?;
         }
         Layout::VarBinView { .. } => show_values(array, start, end, text)?,
     }
@@ -241,6 +251,59 @@ fn list_range(elements: &ArrayRef, size: usize, row: usize) -> (usize, usize)
     let _len = elements.len();
     let start = row * size;
     (start, start + size)
+}
+
+// Adds the records from `start` up to `end`, null where the mask is false.
+#[cycle(show)]
+fn show_records(
+    alloc: Global,
+    names: &FieldNames,
+    columns: &[ArrayRef],
+    start: usize,
+    end: usize,
+    mask: &Mask,
+    text: &mut String,
+) -> Result<(), VortexError>
+    requires named { length names.now ≡ column_count (trees_from columns.now) }
+    requires ordered { start ≤ end }
+    requires mask { length mask.now ≡ end - start }
+    requires in_bounds { AllReach end (trees_from columns.now) }
+{
+    for row in start..end {
+        separate(row - start, text)?;
+        if mask.value(row - start) {
+            text.push('{')?;
+            show_record(alloc, names, columns, row, row + 1, text)?;
+            text.push('}')?;
+        } else {
+            text.push_str("null")?;
+        }
+    }
+    Ok(())
+}
+
+// Adds the rows of each column from `start` up to `end`, which is one row, after its name and a
+// colon.
+#[cycle(show)]
+fn show_record(
+    alloc: Global,
+    names: &FieldNames,
+    columns: &[ArrayRef],
+    start: usize,
+    end: usize,
+    text: &mut String,
+) -> Result<(), VortexError>
+    requires named { length names.now ≡ column_count (trees_from columns.now) }
+    requires ordered { start ≤ end }
+    requires in_bounds { AllReach end (trees_from columns.now) }
+{
+    for (field, column) in columns.iter().enumerate() {
+        separate(field, text)?;
+        text.push_str(names.get(field).as_str())?;
+        text.push(':')?;
+        show_rows(alloc, column, start, end, text)?;
+    }
+    Ok(())
 }
 
 // Adds the values that the codes from `start` up to `end` refer to, null where a code is null.

@@ -4,6 +4,7 @@ pub mod Positions
 pub mod Sliced
 pub mod Selected
 pub mod Nulled
+pub mod Columns
 pub mod Taken
 pub mod Dictionaries
 pub mod FixedLists

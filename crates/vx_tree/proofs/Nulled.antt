@@ -41,7 +41,7 @@ pub nullable_nulled : (v u w : Valid) → state_of w ≡ taken_state (state_of v
 nullable_nulled v u w e = rw (nullable-state v, nullable-state u) (nullable-state w ∙ ap is_nullable_state e ∙ nullable-taken_state (state_of v) (state_of u))
 
 -- a row under two validities
-two : (a b c : Bool) (r : Row) → a ≡ (b && c) → (if a then r else null) ≡ (if c then (if b then r else null) else null)
+pub two : (a b c : Bool) (r : Row) → a ≡ (b && c) → (if a then r else null) ≡ (if c then (if b then r else null) else null)
 two a true true r e = rw e refl
 two a true false r e = rw e refl
 two a false true r e = rw e refl
@@ -126,7 +126,7 @@ valid_both v u w m n xs ys bits len a b c d e f mine theirs =
 
 -- ---- rows of null
 
-null_row : (b : Bool) (r : Row) → b ≡ false → (if b then r else null) ≡ null
+pub null_row : (b : Bool) (r : Row) → b ≡ false → (if b then r else null) ≡ null
 null_row b r e = rw e refl
 
 pub bools_nulls : (t r : Tree) (bits new : List Bool) (v u w : Valid) (n : ℕ) → t ≡ bools bits v → r ≡ bools new w → length new ≡ n → IsValidNulls v u n w → IsNulls t n u r

@@ -1,6 +1,6 @@
 -- The layout of an array.
 use Rattle.std.specs.Prelude.{Bool, true, false}
-use Rattle.vx_tree.specs.Tree.{Tree, bools, primitive, constant, dictionary, fixed_list, list_view, view_array}
+use Rattle.vx_tree.specs.Tree.{Tree, bools, primitive, constant, dictionary, fixed_list, list_view, view_array, structure}
 
 abbrev pub is_bools : Tree → Bool
 is_bools (bools bits v) = true
@@ -29,3 +29,7 @@ is_list_view _ = false
 abbrev pub is_view_array : Tree → Bool
 is_view_array (view_array vs bs k v) = true
 is_view_array _ = false
+
+abbrev pub is_struct : Tree → Bool
+is_struct (structure ns ts v n) = true
+is_struct _ = false

@@ -9,6 +9,7 @@ pub mod Faults
 pub mod Operations
 pub mod Validities
 pub mod Patches
+pub mod Columns
 pub mod Composed
 pub mod Fitting
 pub mod Worked

@@ -4,7 +4,8 @@ use Rattle.vx_tree.specs.declared.array.Layout.{Layout}
 use Rattle.vx_tree.specs.declared.array.Validity.{Validity}
 use Rattle.vx_tree.specs.declared.array.Validity.TheVariants as validity
 use Rattle.vx_tree.specs.declared.array.Layout.TheVariants as layout
-use Rattle.vx_tree.specs.Tree.{Tree, bools, primitive, constant, dictionary, fixed_list, list_view, Valid, non_nullable, all_valid, all_invalid, by_array, view_array}
+use Rattle.vx_tree.specs.Tree.{Tree, bools, primitive, constant, dictionary, fixed_list, list_view, Valid, non_nullable, all_valid, all_invalid, by_array, view_array, structure}
+use Rattle.vx_tree.specs.Meaning.{trees_from}
 
 abbrev pub valid_of : Validity → Valid
 valid_of validity.NonNullable = non_nullable
@@ -20,3 +21,4 @@ tree_of (layout.Dict c v f) = dictionary c v f
 tree_of (layout.FixedSizeList e k v n) = fixed_list e k (valid_of v) n
 tree_of (layout.ListView e o s v f) = list_view e o s (valid_of v) f
 tree_of (layout.VarBinView vs bs d v) = view_array vs bs.items (dtype_meaning d) (valid_of v)
+tree_of (layout.Struct ns cs v n) = structure ns (trees_from cs.items) (valid_of v) n

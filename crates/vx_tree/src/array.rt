@@ -8,11 +8,14 @@ ghost use Rattle.vx_tree.specs.Formed.{WellFormed};
 ghost use Rattle.vx_tree.specs.Fitting.{AllFormed};
 ghost use Rattle.vx_tree.specs.Parts.{tree_of};
 
+use crate::layouts::structure::{all_known, record_dtype};
 use crate::layouts::var_bin_view::known_views;
 use std::alloc::Global;
 use std::marker::Model;
 use std::rc::Rc;
-use vx_base::{BitBuffer, Buffer, ByteBuffer, DType, PType, Scalar, VortexError, number_count};
+use vx_base::{
+    BitBuffer, Buffer, ByteBuffer, DType, FieldNames, PType, Scalar, VortexError, number_count,
+};
 use vx_views::BinaryView;
 
 /// A column of rows: a layout whose parts are shared, with the data type and the number of its
@@ -96,6 +99,13 @@ pub enum Layout {
         dtype: DType,
         validity: Validity,
     },
+    /// Row `i` is the record of the rows `i` of the columns, in order, each under its name.
+    Struct {
+        names: FieldNames,
+        columns: Vec<ArrayRef>,
+        validity: Validity,
+        len: usize,
+    },
 }
 
 impl Model for ArrayRef {
@@ -153,9 +163,10 @@ impl ArrayRef {
     /// An array of these parts. Asks that they are well formed: that the validity has as many
     /// rows, that a dictionary's codes are integers and each valid one the position of a value,
     /// that lists of a fixed size have all their elements and no more, that a list view's offsets and
-    /// sizes are counts, that its lists end within the elements, that a set flag holds, that each
-    /// view of a valid row is sound and that of a null row 16 zero bytes, and that texts and byte
-    /// lists are nullable just where their validity is.
+    /// sizes are counts, that its lists end within the elements, that a struct has one column a name,
+    /// each of its length, that a set flag holds, that each view of a valid row is sound and that of
+    /// a null row 16 zero bytes, and that texts and byte lists are nullable just where their validity
+    /// is.
     #[inline(always)]
     pub fn from_parts(alloc: Global, layout: Layout) -> Result<ArrayRef, VortexError>
         requires { WellFormed (tree_of layout) }
@@ -264,6 +275,14 @@ impl Layout {
                 known_views(views.as_slice(), buffers);
                 validity.known();
             }
+            Layout::Struct {
+                columns,
+                validity,
+                ..
+            } => {
+                all_known(columns);
+                validity.known();
+            }
         }
     }
 
@@ -279,11 +298,13 @@ impl Layout {
             Layout::FixedSizeList { len, .. } => *len,
             Layout::ListView { offsets, .. } => offsets.len(),
             Layout::VarBinView { views, .. } => views.len(),
+            Layout::Struct { len, .. } => *len,
         }
     }
 
     // The data type of the rows.
     fn dtype(&self, alloc: Global) -> Result<DType, VortexError>
+        requires { WellFormed (tree_of self.now) }
         ensures { Gives result (λ d. dtype_meaning d ≡ kind_of (tree_of self.now)) }
     {
         match self {
@@ -316,6 +337,12 @@ impl Layout {
                 Ok(DType::List(items, validity.nullability()))
             }
             Layout::VarBinView { dtype, .. } => dtype.try_clone(alloc),
+            Layout::Struct {
+                names,
+                columns,
+                validity,
+                ..
+            } => record_dtype(alloc, names, columns, validity.nullability()),
         }
     }
 }

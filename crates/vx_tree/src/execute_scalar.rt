@@ -48,6 +48,7 @@ impl ArrayRef {
             Layout::FixedSizeList { .. } => self.fixed_list_value(alloc, i),
             Layout::ListView { .. } => self.list_value(alloc, i),
             Layout::VarBinView { .. } => self.view_value(alloc, i),
+            Layout::Struct { .. } => self.record_value(alloc, i),
         }
     }
 

@@ -6,4 +6,5 @@ mod dict;
 mod fixed_size_list;
 mod list_view;
 mod primitive;
+pub(crate) mod structure;
 pub(crate) mod var_bin_view;

@@ -28,12 +28,13 @@ impl ArrayRef {
             Layout::FixedSizeList { .. } => self.nulled_fixed_lists(alloc, nulls),
             Layout::ListView { .. } => self.nulled_list_view(alloc, nulls),
             Layout::VarBinView { .. } => self.nulled_views(alloc, nulls),
+            Layout::Struct { .. } => self.nulled_struct(alloc, nulls),
         }
     }
 
     // `len` rows of null in the same layout, by a validity that is nowhere true. The parts are made
-    // of zeroes; a list view keeps its elements, a dictionary its values. Asks that the elements of
-    // so many lists of a fixed size can be counted.
+    // of zeroes; a list view keeps its elements, a dictionary its values, and a column becomes a
+    // constant. Asks that the elements of so many lists of a fixed size can be counted.
     #[cycle(null_rows)]
     pub(crate) fn nulls(
         &self,
@@ -54,6 +55,7 @@ impl ArrayRef {
             Layout::FixedSizeList { .. } => self.null_fixed_lists(alloc, len, nulls),
             Layout::ListView { .. } => self.null_lists(alloc, len, nulls),
             Layout::VarBinView { .. } => self.null_views(alloc, len, nulls),
+            Layout::Struct { .. } => self.null_records(alloc, len, nulls),
         }
     }
 }

@@ -46,6 +46,7 @@ impl ArrayRef {
             Layout::FixedSizeList { validity, .. } => validity.is_valid_at(i),
             Layout::ListView { validity, .. } => validity.is_valid_at(i),
             Layout::VarBinView { validity, .. } => validity.is_valid_at(i),
+            Layout::Struct { validity, .. } => validity.is_valid_at(i),
         }
     }
 
@@ -160,6 +161,7 @@ impl ArrayRef {
             Layout::FixedSizeList { validity, .. } => validity.try_clone(alloc),
             Layout::ListView { validity, .. } => validity.try_clone(alloc),
             Layout::VarBinView { validity, .. } => validity.try_clone(alloc),
+            Layout::Struct { validity, .. } => validity.try_clone(alloc),
         }
     }
 }

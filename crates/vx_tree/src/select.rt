@@ -44,6 +44,7 @@ impl ArrayRef {
             }
             Layout::ListView { .. } => true,
             Layout::VarBinView { .. } => true,
+            Layout::Struct { columns, .. } => ArrayRef::can_select_columns(columns, count),
         }
     }
 
@@ -66,6 +67,7 @@ impl ArrayRef {
             Layout::FixedSizeList { .. } => self.select_fixed_lists(alloc, selection),
             Layout::ListView { .. } => self.select_list_view(alloc, selection),
             Layout::VarBinView { .. } => self.select_views(alloc, selection),
+            Layout::Struct { .. } => self.select_struct(alloc, selection),
         }
     }
 }

@@ -61,6 +61,7 @@ impl ArrayRef {
             Layout::FixedSizeList { .. } => self.slice_fixed_lists(alloc, start, end),
             Layout::ListView { .. } => self.slice_list_view(alloc, start, end),
             Layout::VarBinView { .. } => self.slice_views(alloc, start, end),
+            Layout::Struct { .. } => self.slice_struct(alloc, start, end),
         }
     }
 }

@@ -16,6 +16,7 @@ use vx_base::{BitBuffer, ByteBuffer, Nullability, PType, Scalar, Selection, Vort
 
 mod fixed_size_lists;
 mod masks;
+mod records;
 mod scalars;
 mod validities;
 mod views;

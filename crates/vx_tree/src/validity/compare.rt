@@ -18,12 +18,7 @@ use vx_base::{BitBuffer, Mask, Nullability, VortexError};
 impl Validity {
     /// Whether the same of `len` rows are valid in both. Asks that an array has `len` rows. Refuses
     /// `MismatchedTypes` where either array is not one of plain booleans.
-    pub fn mask_eq(
-        &self,
-        alloc: Global,
-        other: &Validity,
-        len: usize,
-    ) -> Result<bool, VortexError>
+    pub fn mask_eq(&self, alloc: Global, other: &Validity, len: usize) -> Result<bool, VortexError>
         requires mine { IsLenOf (valid_of self.now) len }
         requires theirs { IsLenOf (valid_of other.now) len }
         ensures ok { IfOk result (λ b. IsTrue b ↔ (valid_mask (valid_of self.now) len ≡ valid_mask (valid_of other.now) len)) }
@@ -52,11 +47,7 @@ impl Validity {
 }
 
 // Valid where the mask is true.
-fn of_mask(
-    alloc: Global,
-    mask: &Mask,
-    nullability: Nullability,
-) -> Result<Validity, VortexError>
+fn of_mask(alloc: Global, mask: &Mask, nullability: Nullability) -> Result<Validity, VortexError>
     ensures { Gives result (λ v. valid_of v ≡ valid_from mask.now (full_valid (is_nullable nullability))) }
 {
     let true_count = mask.true_count();

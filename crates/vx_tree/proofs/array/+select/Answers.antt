@@ -1,17 +1,22 @@
-use Rattle.std.proofs.Common.{ℕ, List, length, ◌*◌, rules, ap, subst, sym, ◌∙◌, ◌≡◌, []}
+use Rattle.std.proofs.Common.{ℕ, List, length, ◌*◌, rules, ap, subst, sym, ◌∙◌, ◌≡◌, [], None, arith}
 use Rattle.std.specs.List.{flat_map}
 use Rattle.vx_base.specs.Selections.{run_positions}
+use Rattle.std.specs.Prelude.{slice_index}
+use denote.Param.Weighed.{at_most}
+use Rattle.vx_tree.specs.declared.array.ArrayRef.TheDeep.{size-ArrayRef}
 use Rattle.vx_tree.specs.Parts.{tree_of, valid_of}
 use Rattle.vx_base.proofs.Refused.{Gives-weaker}
-use Rattle.vx_tree.specs.Meaning.{tree_len}
+use Rattle.vx_tree.specs.Meaning.{tree_len, trees_from}
 use Rattle.vx_tree.specs.Formed.{WellFormed}
-use Rattle.vx_tree.specs.Tree.{fixed_list, list_view, view_array}
-use Rattle.vx_tree.specs.Operations.{IsSelected}
+use Rattle.vx_tree.specs.Tree.{fixed_list, list_view, view_array, Tree, structure}
+use Rattle.vx_tree.specs.Operations.{IsSelected, AreBelow}
 use Rattle.vx_tree.proofs.Selected.{lists_selected, ValidHasAll-from_fits}
 use Rattle.vx_tree.proofs.Dictionaries.{dictionary_selected}
 use Rattle.vx_tree.proofs.FixedLists.{lists_long, elements_selected, fixed_lists_selected}
 use Rattle.vx_base.specs.DTypes.{dtype_meaning}
 use Rattle.vx_tree.proofs.ViewArrays.{selected_rows, rows_formed, views_selected}
+use Rattle.vx_tree.specs.Faults.{take_overflow, columns_overflow}
+use Rattle.vx_tree.proofs.Columns.{IsRowsAt, IsRowsAt-selected, AreRowsAt-from_each, AllHave-at, AllHave-from_len, countable-at, AllZip-next, columns_below, struct_selected}
 use Rattle.vx_tree.proofs.array.+select.Goals as goal
 
 pub ArrayRef::select_list_view-returns : goal.ArrayRef::select_list_view-returns
@@ -96,3 +101,48 @@ ArrayRef::select_views-returns t c =
     let kind : dtype_meaning c.in_ok-dtype.dtype ≡ k = c.in_ok-dtype.ensures in
     let rows = selected_rows views c.in_ok-views.views v w ps (rw c.as_slice.ensures at (c.in_ok-views.ensures [])) (rw same at c.requires.within) c.in_ok-validity.ensures in
     Gives-weaker c.var_bin_view.result _ _ (λ a e. views_selected c.args.self.now a views buffers c.in_ok-views.views k v w ps same (rw (shared, kind) at e) rows) c.var_bin_view.ensures
+
+pub ArrayRef::select_struct-select_columns-requires : goal.ArrayRef::select_struct-select_columns-requires
+ArrayRef::select_struct-select_columns-requires t c =
+    let same = sym c.layout.ensures.parts ∙ ap tree_of c.in-Struct.is in
+    let ts = trees_from c.in-Struct.columns.items in
+    let m = columns_below c.args.self.now c.in-Struct.names c.in-Struct.columns.items c.deref.result.now (valid_of c.in-Struct.validity) c.in-Struct.len same c.deref.ensures.value in
+    let formed : WellFormed (structure c.in-Struct.names ts (valid_of c.in-Struct.validity) c.in-Struct.len) = rw c.in-Struct.is at c.layout.ensures.formed in
+    let countable : columns_overflow ts (length c.args.selection.now) ≡ None = rw same at c.requires.countable in
+    (omega (arith, m, c.decreases), (rw c.deref.ensures.value (AllHave-from_len c.in-Struct.len c.args.selection.now ts formed.1.lens (rw same at c.requires.within)), rw c.deref.ensures.value countable))
+
+pub ArrayRef::select_columns-select_within-requires : goal.ArrayRef::select_columns-select_within-requires
+ArrayRef::select_columns-select_within-requires t c =
+    let m = at_most size-ArrayRef c.args.columns.now c.loop-column.column-index c.column-item.result c.loop-column-test.true in
+    let d = ap size-ArrayRef c.column-item.is in
+    let P : Tree → Type 0 = λ x. AreBelow (tree_len x) c.args.selection.now × (take_overflow x (length c.args.selection.now) ≡ None) in (
+      omega (arith, m, d, c.decreases),
+      subst P (sym c.column-item.is) (
+        AllHave-at c.args.selection.now c.args.columns.now c.loop-column.column-index c.column-item.result c.requires.within c.loop-column-test.true,
+        countable-at (length c.args.selection.now) c.args.columns.now c.loop-column.column-index c.column-item.result c.requires.countable c.loop-column-test.true,
+      ),
+    )
+
+pub ArrayRef::select_columns-loop-column-preserved : goal.ArrayRef::select_columns-loop-column-preserved
+ArrayRef::select_columns-loop-column-preserved t c =
+    let ps = c.args.selection.now in
+    AllZip-next (λ x y. IsRowsAt x (slice_index ps) (length ps) y) c.args.columns.now c.loop-column.selected.items c.push.new.self.items c.loop-column.column-index c.column-item.result c.in_ok-select_within.field-0
+    c.loop-column.invariant c.loop-column-test.true c.column-item.is (IsRowsAt-selected c.column-item.result ps c.in_ok-select_within.field-0 c.in_ok-select_within.ensures) c.in_ok-push.ensures.items
+
+pub ArrayRef::select_columns-returns : goal.ArrayRef::select_columns-returns
+ArrayRef::select_columns-returns t c =
+    AreRowsAt-from_each (slice_index c.args.selection.now) (length c.args.selection.now) c.args.columns.now c.loop-column.selected.items c.loop-column.column-index c.loop-column.invariant c.loop-column-test.false
+
+pub ArrayRef::select_struct-select_within-requires : goal.ArrayRef::select_struct-select_within-requires
+ArrayRef::select_struct-select_within-requires t c =
+    let same = sym c.layout.ensures.parts ∙ ap tree_of c.in-Struct.is in
+    let formed : WellFormed (structure c.in-Struct.names (trees_from c.in-Struct.columns.items) (valid_of c.in-Struct.validity) c.in-Struct.len) = rw c.in-Struct.is at c.layout.ensures.formed in
+    (search rules, ValidHasAll-from_fits (valid_of c.in-Struct.validity) c.in-Struct.len c.args.selection.now formed.0 (rw same at c.requires.within))
+
+pub ArrayRef::select_struct-returns : goal.ArrayRef::select_struct-returns
+ArrayRef::select_struct-returns t c =
+    let same = sym c.layout.ensures.parts ∙ ap tree_of c.in-Struct.is in
+    Gives-weaker c.with_parts.result _ _
+    (λ a e. struct_selected c.args.self.now a c.in-Struct.names (trees_from c.in-Struct.columns.items) (trees_from c.in_ok-columns.columns.items) (valid_of c.in-Struct.validity) (valid_of c.in_ok-validity.validity) c.in-Struct.len c.args.selection.now
+    same (rw (c.in_ok-names.ensures, c.len.ensures) at e) (rw c.deref.ensures.value at c.in_ok-columns.ensures) c.in_ok-validity.ensures)
+    c.with_parts.ensures

@@ -1,11 +1,14 @@
-use Rattle.std.proofs.Common.{◌-◌, rules, ap, sym, ◌∙◌}
+use Rattle.std.proofs.Common.{◌+◌, ◌-◌, ◌≤◌, rules, ap, arith, subst, sym, ◌∙◌}
+use denote.Param.Weighed.{at_most}
+use Rattle.vx_tree.specs.declared.array.ArrayRef.TheDeep.{size-ArrayRef}
 use Rattle.vx_tree.specs.Parts.{tree_of, valid_of}
-use Rattle.vx_tree.specs.Meaning.{tree_len}
+use Rattle.vx_tree.specs.Meaning.{tree_len, trees_from}
 use Rattle.vx_tree.specs.Formed.{ValidCovers-from_fits, WellFormed}
-use Rattle.vx_tree.specs.Tree.{list_view}
+use Rattle.vx_tree.specs.Tree.{Tree, list_view, structure}
 use Rattle.vx_base.proofs.Refused.{Gives-weaker}
 use Rattle.vx_tree.proofs.Dictionaries.{dictionary_sliced}
 use Rattle.vx_tree.proofs.FixedLists.{fixed_lists_sliced}
+use Rattle.vx_tree.proofs.Columns.{IsRowsAt, IsRowsAt-slice, AreRowsAt-from_each, AllReach-at, AllReach-from_len, AllZip-next, columns_below}
 use Rattle.vx_tree.proofs.array.+slice.Goals as goal
 
 pub ArrayRef::slice_dictionary-returns : goal.ArrayRef::slice_dictionary-returns
@@ -28,3 +31,27 @@ ArrayRef::slice_fixed_lists-returns t c =
     (λ a e. fixed_lists_sliced c.args.self.now a c.in-FixedSizeList.elements c.in_ok-elements.elements c.in-FixedSizeList.size c.in-FixedSizeList.len c.args.start c.args.end
     (valid_of c.in-FixedSizeList.validity) (valid_of c.in_ok-validity.validity) c.requires.start_le_end same e c.in_ok-elements.ensures c.in_ok-validity.ensures)
     c.with_parts.ensures
+
+pub ArrayRef::slice_struct-slice_columns-requires : goal.ArrayRef::slice_struct-slice_columns-requires
+ArrayRef::slice_struct-slice_columns-requires t c =
+    let same = sym c.layout.ensures.parts ∙ ap tree_of c.in-Struct.is in
+    let m = columns_below c.args.self.now c.in-Struct.names c.in-Struct.columns.items c.deref.result.now (valid_of c.in-Struct.validity) c.in-Struct.len same c.deref.ensures.value in
+    let formed : WellFormed (structure c.in-Struct.names (trees_from c.in-Struct.columns.items) (valid_of c.in-Struct.validity) c.in-Struct.len) = rw c.in-Struct.is at c.layout.ensures.formed in
+    (omega (arith, m, c.decreases), (c.requires.start_le_end, rw c.deref.ensures.value (AllReach-from_len c.in-Struct.len c.args.end (trees_from c.in-Struct.columns.items) formed.1.lens (rw same at c.requires.in_bounds))))
+
+pub ArrayRef::slice_columns-slice_within-requires : goal.ArrayRef::slice_columns-slice_within-requires
+ArrayRef::slice_columns-slice_within-requires t c =
+    let m = at_most size-ArrayRef c.args.columns.now c.loop-column.column-index c.column-item.result c.loop-column-test.true in
+    let d = ap size-ArrayRef c.column-item.is in
+    let P : Tree → Type 0 = λ x. c.args.end ≤ tree_len x in
+    (omega (arith, m, d, c.decreases), (c.requires.start_le_end, subst P (sym c.column-item.is) (AllReach-at c.args.end c.args.columns.now c.loop-column.column-index c.column-item.result c.requires.in_bounds c.loop-column-test.true)))
+
+pub ArrayRef::slice_columns-loop-column-preserved : goal.ArrayRef::slice_columns-loop-column-preserved
+ArrayRef::slice_columns-loop-column-preserved t c =
+    let n = c.args.end - c.args.start in
+    AllZip-next (λ x y. IsRowsAt x (λ i. c.args.start + i) n y) c.args.columns.now c.loop-column.sliced.items c.push.new.self.items c.loop-column.column-index c.column-item.result c.in_ok-slice_within.field-0
+    c.loop-column.invariant c.loop-column-test.true c.column-item.is (IsRowsAt-slice c.column-item.result c.args.start n c.in_ok-slice_within.field-0 c.in_ok-slice_within.ensures) c.in_ok-push.ensures.items
+
+pub ArrayRef::slice_columns-returns : goal.ArrayRef::slice_columns-returns
+ArrayRef::slice_columns-returns t c =
+    AreRowsAt-from_each (λ i. c.args.start + i) (c.args.end - c.args.start) c.args.columns.now c.loop-column.sliced.items c.loop-column.column-index c.loop-column.invariant c.loop-column-test.false
