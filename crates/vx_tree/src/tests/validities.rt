@@ -1,5 +1,9 @@
 // Validities, on values worked out by hand.
 
+ghost use Rattle.std.specs.Prelude.{◌≡◌, IfOk};
+ghost use Rattle.vx_tree.specs.Parts.{valid_of};
+ghost use Rattle.vx_tree.specs.Tree.{bools, by_array, non_nullable};
+
 use super::{booleans, numbers};
 use crate::{
     ArrayRef, Validity, and_associates, and_commutes, and_has_a_unit, and_repeats,
@@ -12,7 +16,9 @@ use vx_base::{BitBuffer, Mask, Nullability, PType, Scalar, VortexError};
 // ---- validities and indices
 
 // Valid where the boolean is true.
-fn valid(alloc: Global, values: &[bool]) -> Result<Validity, VortexError> {
+fn valid(alloc: Global, values: &[bool]) -> Result<Validity, VortexError>
+    ensures { IfOk result (λ v. valid_of v ≡ by_array (bools values.now non_nullable)) }
+{
     Ok(Validity::Array(booleans(alloc, values)?))
 }
 
@@ -233,6 +239,44 @@ fn arrays_of_other_lengths(rt: HostRuntime) -> Result<(), VortexError> {
         _ => false,
     };
     assert!(rt; found);
+    Ok(())
+}
+
+// ---- the same rows
+
+#[test]
+fn states_with_the_same_rows(rt: HostRuntime) -> Result<(), VortexError> {
+    let alloc = rt.alloc();
+    assert!(rt; Validity::NonNullable.mask_eq(alloc, &Validity::AllValid, 3)?);
+    assert!(rt; Validity::AllValid.mask_eq(alloc, &Validity::NonNullable, 3)?);
+    assert!(rt; !Validity::AllValid.mask_eq(alloc, &Validity::AllInvalid, 3)?);
+    assert!(rt; !Validity::NonNullable.mask_eq(alloc, &Validity::AllInvalid, 3)?);
+    Ok(())
+}
+
+#[test]
+fn arrays_with_the_same_rows(rt: HostRuntime) -> Result<(), VortexError> {
+    let alloc = rt.alloc();
+    let all = valid(alloc, &[true, true, true])?;
+    assert!(rt; all.mask_eq(alloc, &Validity::AllValid, 3)?);
+    assert!(rt; Validity::NonNullable.mask_eq(alloc, &all, 3)?);
+    let none = valid(alloc, &[false, false, false])?;
+    assert!(rt; none.mask_eq(alloc, &Validity::AllInvalid, 3)?);
+    let some = valid(alloc, &[true, false, true])?;
+    assert!(rt; !some.mask_eq(alloc, &Validity::AllValid, 3)?);
+    assert!(rt; !some.mask_eq(alloc, &Validity::AllInvalid, 3)?);
+    Ok(())
+}
+
+#[test]
+fn masks_as_validities(rt: HostRuntime) -> Result<(), VortexError> {
+    let alloc = rt.alloc();
+    let bits = BitBuffer::from_bools(alloc, &[true, false])?;
+    let mask = Mask::from_buffer(alloc, bits)?;
+    let some = Validity::from_mask(alloc, mask, Nullability::Nullable)?;
+    expect_valid(&rt, alloc, &some, &[true, false])?;
+    let none = Validity::from_mask(alloc, Mask::new_false(9), Nullability::Nullable)?;
+    assert!(rt; none.definitely_all_null());
     Ok(())
 }
 
