@@ -7,6 +7,7 @@ RANGES.update({f"i{bits}": range(-(2 ** (bits - 1)), 2 ** (bits - 1)) for bits i
 REBUILT = {"u8": "u32", "u16": "u32", "u32": "u32", "u64": "u64"}
 REBUILT.update({"i8": "i32", "i16": "i32", "i32": "i32", "i64": "i64"})
 VALIDITIES = ("nonnull", "allvalid", "allinvalid")
+MODES = ("zctl", "trim", "exact", "overlap")
 
 
 class Fault(Exception):
@@ -106,10 +107,25 @@ def list_view(elements: Array, offsets: Array, sizes: Array, validity) -> Array:
     return Array("listview", "list", validity != "nonnull", rows, elements, offsets, sizes)
 
 
-def rebuild(array: Array) -> Array:
+def trim(array: Array) -> Array:
+    if not array.is_exact:
+        return array
+    start = min(array.offsets.rows)
+    end = max(offset + size for offset, size in zip(array.offsets.rows, array.sizes.rows))
+    offsets = [offset - start for offset in array.offsets.rows]
+    return array._replace(
+        elements=slice_array(array.elements, start, end),
+        offsets=Array("primitive", array.offsets.kind, False, offsets),
+    )
+
+
+def rebuild(array: Array, mode: str) -> Array:
     want(array.layout == "listview", "MismatchedTypes")
     if not array.rows:
         return array._replace(flag=True)
+    want(mode != "overlap", "NotImplemented")
+    if mode == "trim" or (mode == "exact" and array.flag):
+        return trim(array)
     if array.flag:
         return array
     offset_type = REBUILT[array.offsets.kind]
@@ -245,8 +261,8 @@ def run_line(arrays: List[Array], words: List[str]) -> Optional[str]:
         arrays.append(call(*[get(register) for register in registers]))
     elif name == "rebuild":
         register = read_register(operands[0])
-        want(operands[1] == "zctl", "Syntax")
-        arrays.append(rebuild(get(register)))
+        want(operands[1] in MODES, "Syntax")
+        arrays.append(rebuild(get(register), operands[1]))
     elif name in ("show", "parts"):
         array = get(read_register(operands[0]))
         return row_text(array.rows) if name == "show" else parts_text(array)

@@ -153,6 +153,9 @@ fn rebuild(words: &mut Words<'_>) -> Result<Command, LineFault> {
     let array = register(words)?;
     let mode = match word(words)? {
         b"zctl" => ListViewRebuildMode::MakeZeroCopyToList,
+        b"trim" => ListViewRebuildMode::TrimElements,
+        b"exact" => ListViewRebuildMode::MakeExact,
+        b"overlap" => ListViewRebuildMode::OverlapCompression,
         _ => return Err(LineFault::Syntax),
     };
     Ok(Command::Rebuild { array, mode })
