@@ -6,6 +6,7 @@ use Rattle.vx_tree.specs.Parts.{tree_of, valid_of}
 use Rattle.vx_tree.specs.Meaning.{tree_len, trees_from}
 use Rattle.vx_tree.specs.Formed.{WellFormed}
 use Rattle.vx_tree.proofs.Columns.{AllReach-at, AllReach-from_len, AreFields-next, AreFields-all, columns_below, record_under}
+use Rattle.vx_tree.proofs.Values.{list_under}
 use Rattle.vx_tree.proofs.array.ArrayRef.+value.Goals as goal
 
 pub record_value-column_values-requires : goal.record_value-column_values-requires
@@ -40,3 +41,9 @@ record_value-returns t c =
     let formed : WellFormed (structure c.in-Struct.names ts (valid_of c.in-Struct.validity) c.in-Struct.len) = rw c.in-Struct.is at c.layout.ensures.formed in
     record_under c.args.self.now c.in-Struct.names ts (valid_of c.in-Struct.validity) c.in-Struct.len c.args.i c.in_ok-values.values.items c.in_ok-values-2.values
     same (sym c.is_valid_at.ensures ∙ c.if-not-is_valid_at.false) formed.1.named (rw c.deref.ensures.value at c.in_ok-values.ensures) c.in_ok-values-2.ensures
+
+pub list_value-returns : goal.list_value-returns
+list_value-returns t c =
+    let same = sym c.layout.ensures.parts ∙ ap tree_of c.in-ListView.is in
+    list_under c.args.self.now c.in-ListView.elements c.in-ListView.offsets c.in-ListView.sizes (valid_of c.in-ListView.validity) c.in-ListView.flag c.args.i c.in_ok-values.values.items c.in_ok-values-2.values
+    same (sym c.is_valid_at.ensures ∙ c.if-not-is_valid_at.false) (rw (c.count_at.ensures, c.count_at-2.ensures) at c.in_ok-values.ensures) c.in_ok-values-2.ensures
