@@ -4,9 +4,8 @@ ghost use Rattle.std.specs.Prelude.{◌≡◌, ◌<◌, ◌≤◌, ◌+◌, ◌-
 ghost use Rattle.vx_base.specs.Refusals.{Gives, overflow};
 ghost use Rattle.vx_base.specs.Kinds.{records};
 ghost use Rattle.vx_base.specs.ValueRows.{row_under};
-ghost use Rattle.vx_base.specs.Defaults.{default_row};
 ghost use Rattle.vx_base.specs.DTypes.{dtype_meaning, is_nullable};
-ghost use Rattle.vx_tree.specs.Tree.{constant, structure};
+ghost use Rattle.vx_tree.specs.Tree.{structure};
 ghost use Rattle.vx_tree.specs.Layouts.{is_struct};
 ghost use Rattle.vx_tree.specs.Meaning.{tree_len, kind_of, kinds_of, trees_from, row_at, is_valid_at};
 ghost use Rattle.vx_tree.specs.Formed.{ValidFits, IsStruct, column_count};
@@ -20,8 +19,7 @@ use crate::array::{ArrayRef, Layout, Validity};
 use std::alloc::Global;
 use std::rc::Rc;
 use vx_base::{
-    DType, FieldNames, Nullability, Scalar, ScalarValue, ScalarValues, Selection, StructFields,
-    VortexError,
+    DType, FieldNames, Nullability, ScalarValue, ScalarValues, Selection, StructFields, VortexError,
 };
 
 impl ArrayRef {
@@ -260,16 +258,6 @@ impl ArrayRef {
             values.push(column.value_at(alloc, i)?)?;
         }
         Ok(values)
-    }
-
-    // `len` rows of its data type where none is given.
-    #[tactic(auto, using(crate::proofs::Defaults::default_of_array))]
-    fn default_rows(&self, alloc: Global, len: usize) -> Result<ArrayRef, VortexError>
-        ensures { Gives result (λ a. a ≡ constant (kind_of self.now) (default_row (kind_of self.now)) len) }
-    {
-        self.known();
-        let dtype = self.dtype().try_clone(alloc)?;
-        ArrayRef::constant(alloc, Scalar::default_that_fits(alloc, dtype)?, len)
     }
 }
 
