@@ -1,1 +1,4 @@
 pub mod MaskedRows
+pub mod SpreadRows
+pub mod ValueRows
+pub mod Widths

@@ -1,5 +1,7 @@
 // The typed arrays on plain parts.
 
+mod numbers;
+
 use crate::{BoolArray, PrimitiveArray};
 use std::test::Fail;
 use vx_base::{BitBuffer, Buffer, DType, Nullability, VortexError};

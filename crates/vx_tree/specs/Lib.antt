@@ -14,3 +14,4 @@ pub mod Composed
 pub mod Fitting
 pub mod Worked
 pub mod Values
+pub mod Slots

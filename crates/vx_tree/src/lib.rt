@@ -13,6 +13,7 @@ mod read;
 pub mod row_laws;
 mod select;
 mod slice;
+mod slots;
 mod take;
 #[cfg(test)]
 mod tests;
