@@ -1,5 +1,7 @@
 // Lists of one size.
 
+ghost use Rattle.std.specs.Prelude.{◌≡◌, ◌*◌};
+
 use super::{booleans, indices, number, numbers};
 use crate::{ArrayRef, Layout, Validity, fewer_rows_are_countable};
 use std::alloc::Global;
