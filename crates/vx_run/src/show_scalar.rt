@@ -2,9 +2,10 @@
 
 use crate::hexadecimal::write_bytes;
 use crate::show::separate;
-use vx_base::{DType, ScalarValue, StructFields, VortexError};
+use vx_base::{DType, ScalarValue, VortexError};
 
-// Adds the row of this data type that a value is: null where there is none.
+// Adds the row of this data type that a value is: null where there is none. Of records no command
+// makes a constant, and none is told here.
 #[cycle(value)]
 pub(crate) fn show_value(
     dtype: &DType,
@@ -28,9 +29,6 @@ pub(crate) fn show_value(
         (DType::FixedSizeList(items, _, _), Some(ScalarValue::List(rows))) => {
             show_items(items, rows.as_slice(), text)?;
         }
-        (DType::Struct(fields, _), Some(ScalarValue::Record(values))) => {
-            show_fields(fields, values.as_slice(), text)?;
-        }
         _ => text.push_str("null")?,
     }
     Ok(())
@@ -49,25 +47,5 @@ fn show_items(
         show_value(dtype, value, text)?;
     }
     text.push(']')?;
-    Ok(())
-}
-
-// Adds the fields of a record with their names.
-#[cycle(value)]
-fn show_fields(
-    fields: &StructFields,
-    values: &[Option<ScalarValue>],
-    text: &mut String,
-) -> Result<(), VortexError> {
-    text.push('{')?;
-    for (i, (dtype, value)) in fields.fields().iter().zip(values).enumerate() {
-        separate(i, text)?;
-        if i < fields.names().len() {
-            text.push_str(fields.names().get(i).as_str())?;
-        }
-        text.push(':')?;
-        show_value(dtype, value, text)?;
-    }
-    text.push('}')?;
     Ok(())
 }
