@@ -17,10 +17,11 @@ pub var_bin_view-requires : goal.var_bin_view-requires
 var_bin_view-requires c =
     let mask = c.in_ok-mask.ensures ∙ c.in_ok-from_bools.ensures.bits in
     let sound = rw (mask, c.deref.ensures.value) at c.in_ok-check_views.ensures.sound in
-    rw (c.in_ok-booleans.ensures, c.in_ok-views.ensures)
-    (record { len = refl; kind = refl },
-     record {
-       kind = refl;
-       sound = λ i l h. sound i l h;
-       zeroes = λ i l h. second c.make_view.result c.empty_view.result c.make_view-2.result c.make_view-3.result (c.empty_view.ensures ∙ empty_is_zeroes) i l h;
-     })
+    rw (c.in_ok-booleans.ensures, c.in_ok-views.ensures) (
+      record { len = refl; kind = refl },
+      record {
+        kind = refl;
+        sound = λ i l h. sound i l h;
+        zeroes = λ i l h. second c.make_view.result c.empty_view.result c.make_view-2.result c.make_view-3.result (c.empty_view.ensures ∙ empty_is_zeroes) i l h;
+      },
+    )
