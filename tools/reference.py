@@ -107,6 +107,26 @@ def list_view(elements: Array, offsets: Array, sizes: Array, validity) -> Array:
     return Array("listview", "list", validity != "nonnull", rows, elements, offsets, sizes)
 
 
+def dictionary(codes: Array, values: Array) -> Array:
+    want(codes.kind in RANGES, "MismatchedTypes")
+    for code in codes.rows:
+        want(code is None or code >= 0, "Negative")
+        want(code is None or code < len(values.rows), "OutOfBounds")
+    rows = [None if code is None else values.rows[code] for code in codes.rows]
+    nullable = values.nullable or codes.nullable
+    return Array("dict", values.kind, nullable, rows, codes=codes, count=len(values.rows))
+
+
+def narrow(array: Array) -> Array:
+    want(array.layout == "primitive", "MismatchedTypes")
+    numbers = [row for row in array.rows if row is not None]
+    if max(numbers, default=0) >= 2**63:
+        return array
+    names = ("i8", "i16", "i32") if min(numbers, default=0) < 0 else ("u8", "u16", "u32")
+    fitting = [name for name in names if all(number in RANGES[name] for number in numbers)]
+    return array._replace(kind=(fitting + [array.kind])[0])
+
+
 def trim(array: Array) -> Array:
     if not array.is_exact:
         return array
@@ -134,7 +154,7 @@ def rebuild(array: Array, mode: str) -> Array:
     offsets = [sum(sizes[:i]) for i in range(len(sizes))]
     rows = [item for row in array.rows if row is not None for item in row]
     return array._replace(
-        elements=array.elements._replace(rows=rows),
+        elements=Array("rows", array.elements.kind, array.elements.nullable, rows),
         offsets=Array("primitive", offset_type, False, offsets),
         sizes=Array("primitive", array.sizes.kind, False, sizes),
         flag=True,
@@ -232,7 +252,7 @@ def run_line(arrays: List[Array], words: List[str]) -> Optional[str]:
         return arrays[register]
 
     counts = {"ints": 2, "bools": 2, "const": 3, "listview": 4, "slice": 3, "take": 2}
-    counts.update({"filter": 2, "mask": 2, "rebuild": 2})
+    counts.update({"filter": 2, "mask": 2, "rebuild": 2, "dict": 2, "narrow": 1})
     want(len(operands) == counts.get(name, 1), "Syntax")
     if name in ("ints", "bools"):
         kind, nullable = read_type(operands[0])
@@ -255,9 +275,10 @@ def run_line(arrays: List[Array], words: List[str]) -> Optional[str]:
     elif name == "slice":
         register, start, end = read_register(operands[0]), *map(read_number, operands[1:])
         arrays.append(slice_array(get(register), start, end))
-    elif name in ("take", "filter", "mask"):
+    elif name in ("take", "filter", "mask", "dict", "narrow"):
         registers = [read_register(word) for word in operands]
-        call = {"take": take, "filter": filter_array, "mask": mask_array}[name]
+        calls = {"take": take, "filter": filter_array, "mask": mask_array}
+        call = {**calls, "dict": dictionary, "narrow": narrow}[name]
         arrays.append(call(*[get(register) for register in registers]))
     elif name == "rebuild":
         register = read_register(operands[0])

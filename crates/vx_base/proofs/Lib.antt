@@ -18,3 +18,4 @@ pub mod StructKinds
 pub mod ValueFits
 pub mod Fields
 pub mod Defaults
+pub mod Unmixed

@@ -24,6 +24,16 @@ fn get_numbers<T: NativePType>(bytes: &[u8], out: &mut [T])
     }
 }
 
+// The numbers that these bytes hold.
+pub(crate) fn numbers_of<T: NativePType>(alloc: Global, bytes: &[u8]) -> Result<Vec<T>, VortexError>
+    ensures { Gives result (λ v. map T.value v.items ≡ numbers T.PTYPE bytes.now) }
+{
+    let width = T::PTYPE.byte_width();
+    let mut items = vec![in alloc; T::zero(); bytes.len() / width]?;
+    get_numbers(bytes, &mut items);
+    Ok(items)
+}
+
 // Writes the bytes of these numbers, one number after another.
 fn put_numbers<T: NativePType>(items: &[T], out: &mut [u8])
     requires { length out.old ≡ length items.now * byte_width T.PTYPE }
@@ -146,10 +156,7 @@ impl<T: NativePType> Buffer<T> {
     pub fn from_byte_buffer(alloc: Global, bytes: &ByteBuffer) -> Result<Buffer<T>, VortexError>
         ensures { Gives result (λ b. map T.value b ≡ numbers T.PTYPE bytes.now) }
     {
-        let width = T::PTYPE.byte_width();
-        let source = bytes.as_slice();
-        let mut items = vec![in alloc; T::zero(); source.len() / width]?;
-        get_numbers(source, &mut items);
+        let items = numbers_of(alloc, bytes.as_slice())?;
         Buffer::from_vec(alloc, items)
     }
 

@@ -1,11 +1,14 @@
 // A list of numbers of one type that grows.
 
-ghost use Rattle.std.specs.Prelude.{◌≡◌, ◌≤◌, ◌<◌, ◌*◌, ◌++◌, ◌∷◌, [], length, OnErr};
+ghost use Rattle.std.specs.Prelude.{◌≡◌, ◌≤◌, ◌<◌, ◌*◌, ◌++◌, ◌∷◌, [], length, map, OnErr};
+ghost use Rattle.vx_base.specs.Integers.{numbers};
 ghost use Rattle.vx_base.specs.Refusals.{Gives};
 ghost use Rattle.std.specs.Borrow.{sem};
 
-use crate::buffer::Buffer;
+use crate::buffer::{Buffer, numbers_of};
+use crate::byte_buffer::ByteBuffer;
 use crate::errors::VortexError;
+use crate::native::NativePType;
 use std::alloc::Global;
 use std::marker::Model;
 
@@ -74,5 +77,16 @@ impl<T: Drop> BufferMut<T> {
         let BufferMut { items } = self;
         let alloc = *items.allocator();
         Buffer::from_vec(alloc, items)
+    }
+}
+
+impl<T: NativePType> BufferMut<T> {
+    /// The numbers that these bytes hold, the least significant byte of each first, copied at once.
+    /// Bytes beyond the last whole number are left out. Fails only for want of memory.
+    pub fn from_byte_buffer(alloc: Global, bytes: &ByteBuffer) -> Result<BufferMut<T>, VortexError>
+        ensures { Gives result (λ b. map T.value b ≡ numbers T.PTYPE bytes.now) }
+    {
+        let items = numbers_of(alloc, bytes.as_slice())?;
+        Ok(BufferMut { items })
     }
 }

@@ -15,21 +15,15 @@ mod field_names;
 mod gather;
 mod laws;
 mod mask;
-#[cfg(test)]
-mod mask_tests;
 mod mask_values;
 mod native;
 mod nullability;
 mod numbers;
 mod ptypes;
 mod scalar;
-#[cfg(test)]
-mod scalar_tests;
 mod scalar_value;
 mod selection;
 mod struct_fields;
-#[cfg(test)]
-mod tests;
 mod true_runs;
 
 pub use crate::bit_buffer::BitBuffer;

@@ -1,4 +1,8 @@
 pub mod MaskedRows
+pub mod NamedValues
+pub mod NarrowedRows
+pub mod NarrowedTypes
+pub mod OptionalItems
 pub mod SpreadRows
 pub mod ValueRows
 pub mod Widths

@@ -1,6 +1,6 @@
 -- Values for rows: how many numbers there are, and where all rows or none are valid.
-use Rattle.std.proofs.Common.{ℕ, ◌+◌, ◌*◌, ◌/◌, ◌%◌, ◌^◌, ◌<◌, ◌≤◌, ◌≡◌, Bool, true, false, cond, List, [], ◌∷◌, length, map, count_by, zero, suc, refl, sym, ◌∙◌, ap, zero-add, arith}
-use Rattle.std.specs.Prelude.{ℤ, Option, Some, None}
+use Rattle.std.proofs.Common.{ℕ, ◌+◌, ◌*◌, ◌/◌, ◌^◌, ◌<◌, ◌≤◌, ◌≡◌, Bool, true, false, cond, List, [], ◌∷◌, length, map, count_by, zero, suc, refl, ◌∙◌, ap, zero-add, arith}
+use Rattle.std.specs.Prelude.{ℤ, Some}
 use Rattle.std.specs.List.{range_with_len}
 use Rattle.std.proofs.Math.Nat.{mul-le-mul_right}
 use Rattle.std.proofs.lemmas.Bool.{lt-ltb}

@@ -1,13 +1,16 @@
 -- The arrays without rows of rows, their parts, and the faults of these.
-use Rattle.std.specs.Prelude.{◌≡◌, ℕ, Bool, ℤ, List, []}
+use Rattle.std.specs.Prelude.{◌≡◌, ℕ, Bool, ℤ, pos, List, [], Option, Some, None, unwrap_or, if◌then◌else◌}
+use Rattle.std.specs.Option.{option_map}
+use Rattle.vx_base.specs.Refusals.{Refusal, has_nulls}
 use Rattle.vx_base.specs.declared.ptypes.PType.{PType}
 use Rattle.vx_base.specs.declared.ptypes.PType.TheVariants.{U8}
 use Rattle.vx_base.specs.Integers.{numbers}
 use Rattle.vx_base.specs.Scalars.{TypedRow, typed_row}
 use Rattle.vx_base.specs.declared.nullability.Nullability.{Nullability}
 use Rattle.vx_base.specs.declared.nullability.Nullability.TheVariants.{NonNullable, Nullable}
-use Rattle.vx_tree.specs.Tree.{Tree, bools, primitive, constant, Valid, non_nullable, all_valid}
+use Rattle.vx_tree.specs.Tree.{Tree, bools, primitive, Valid, non_nullable, all_valid}
 use Rattle.vx_tree.specs.Meaning.{kind_of, row_at}
+use Rattle.vx_tree.specs.Validities.{has_no_nulls}
 pub use Rattle.vx_tree.specs.Layouts.{is_bools, is_primitive, is_constant}
 pub use Rattle.vx_tree.specs.Faults.{validity_fault}
 
@@ -52,3 +55,15 @@ plain_state Nullable = all_valid
 -- the numbers, valid or not
 abbrev pub numbers_in : Tree → List ℤ
 numbers_in t = numbers (type_in t) (bytes_in t)
+
+-- ---- items that may be none
+
+-- the number of the item, else 0
+abbrev pub number_or_zero : {A : Type 0} → (A → ℤ) → Option A → ℤ
+number_or_zero value item = unwrap_or (option_map value item) (pos 0)
+
+-- ---- faults
+
+-- rows of which one is null
+abbrev pub null_fault : Valid → ℕ → Option Refusal
+null_fault v n = if has_no_nulls v n then None else Some has_nulls

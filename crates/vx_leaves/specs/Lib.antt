@@ -1,2 +1,6 @@
+pub mod Dictionaries
 pub mod Leaves
+pub mod Narrow
 pub mod Spread
+pub mod Data
+pub mod Iterated

@@ -2,6 +2,7 @@
 
 ghost use Rattle.std.specs.Iterator.{IsFinite, Drains};
 ghost use Rattle.vx_base.specs.Refusals.{Gives};
+ghost use Rattle.vx_leaves.specs.Iterated.{AreOptions};
 
 use std::alloc::Global;
 use vx_base::VortexError;
@@ -20,4 +21,32 @@ pub(crate) fn collect_items<T: Drop, I: Iterator<Item = T> + Drop>(
         list.push(item)?;
     }
     Ok(list)
+}
+
+// The items that may be none, in order: what they are, and whether they are there.
+#[derive(Drop)]
+pub(crate) struct OptionalItems<T> {
+    pub items: Vec<T>,
+    pub present: Vec<bool>,
+}
+
+// The items, in order, with `other` in the place of none.
+pub(crate) fn collect_options<T: Copy + Drop, I: Iterator<Item = Option<T>> + Drop>(
+    alloc: Global,
+    items: I,
+    other: T,
+) -> Result<OptionalItems<T>, VortexError>
+    requires can { I.can_next items }
+    requires ends { IsFinite (I.remaining items) }
+    ensures { Gives result (λ all. AreOptions I.next_gives items other all.items.items all.present.items) }
+{
+    let mut all = OptionalItems {
+        items: Vec::new(alloc),
+        present: Vec::new(alloc),
+    };
+    for item in items {
+        all.items.push(item.unwrap_or(other))?;
+        all.present.push(item.is_some())?;
+    }
+    Ok(all)
 }

@@ -6,8 +6,9 @@ ghost use Rattle.vx_tree.specs.Tree.{constant};
 ghost use Rattle.vx_leaves.specs.Leaves.{is_constant, scalar_in};
 
 use std::alloc::Global;
+use std::fmt;
 use std::marker::Model;
-use vx_base::{Scalar, VortexError};
+use vx_base::{Scalar, ScalarValue, VortexError};
 use vx_tree::{ArrayRef, Layout, TypedArray};
 
 /// An array of one row, however often. Nothing is repeated in memory.
@@ -119,5 +120,31 @@ impl ConstantData {
     {
         let scalar = self.scalar.try_clone(alloc)?;
         Ok(ConstantData { scalar })
+    }
+}
+
+impl fmt::Debug for ConstantData {
+    fn fmt<W: fmt::Write>(&self, f: &mut fmt::Formatter<W>) -> fmt::Result {
+        match self.scalar.value() {
+            None => f.write_str("ConstantData { scalar: null }"),
+            Some(ScalarValue::Bool(truth)) => {
+                let truth = *truth;
+                write!(f, "ConstantData {{ scalar: {truth} }}")
+            }
+            Some(ScalarValue::Int(number)) => {
+                let number = *number;
+                write!(f, "ConstantData {{ scalar: {number} }}")
+            }
+            Some(ScalarValue::Bytes(bytes)) => {
+                let bytes = bytes.as_slice();
+                write!(f, "ConstantData {{ scalar: {bytes:?} }}")
+            }
+            Some(ScalarValue::Text(text)) => {
+                let text = text.as_slice();
+                write!(f, "ConstantData {{ scalar: {text:?} }}")
+            }
+            Some(ScalarValue::List(_)) => f.write_str("ConstantData { scalar: [..] }"),
+            Some(ScalarValue::Record(_)) => f.write_str("ConstantData { scalar: {..} }"),
+        }
     }
 }

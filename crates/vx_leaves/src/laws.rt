@@ -9,6 +9,7 @@ ghost use Rattle.vx_tree.specs.Meaning.{tree_len, row_at, rows, valid_mask, is_v
 ghost use Rattle.vx_tree.specs.Operations.{masked};
 ghost use Rattle.vx_tree.specs.Tree.{Tree, Valid, bools, non_nullable};
 ghost use Rattle.vx_leaves.specs.Leaves.{IsPrimitive};
+ghost use Rattle.vx_leaves.specs.Narrow.{NarrowedTypes};
 
 /// An array of numbers has a row for each: the number where its row is valid, else null.
 pub fn rows_of_numbers()
@@ -32,4 +33,10 @@ pub fn rows_of_bits()
     ensures masked { (bits : List Bool) (v : Valid) → rows (bools bits v)
         ≡ masked (valid_mask v (length bits)) (map boolean bits) }
     ensures all { (bits : List Bool) → rows (bools bits non_nullable) ≡ map boolean bits }
+{}
+
+/// Of numbers that a type has, the narrowed type has them all, and no type of fewer bytes does; of
+/// no numbers it is u8.
+pub fn narrowed_types_are_least()
+    ensures { NarrowedTypes }
 {}

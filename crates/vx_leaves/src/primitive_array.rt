@@ -1,21 +1,25 @@
 // Arrays of whole numbers.
 
-ghost use Rattle.std.specs.Prelude.{◌≡◌, ◌<◌, ◌*◌, ◌^◌, [], List, true, false, length, map, IfOk, OnOk};
+ghost use Rattle.std.specs.Prelude.{◌≡◌, ◌<◌, ◌*◌, ◌^◌, pos, [], List, Option, true, false, length, map, IfOk, OnOk};
+ghost use Rattle.std.specs.Option.{is_some};
 ghost use Rattle.std.specs.Iterator.{IsFinite, Drains};
 ghost use Rattle.vx_base.specs.Refusals.{Gives, Refuses, Tests, or_else};
 ghost use Rattle.vx_base.specs.Integers.{byte_width, numbers};
 ghost use Rattle.vx_tree.specs.Formed.{ValidFits, WellFormed};
 ghost use Rattle.vx_tree.specs.Meaning.{valid_mask};
-ghost use Rattle.vx_tree.specs.Tree.{primitive, non_nullable};
+ghost use Rattle.vx_tree.specs.Tree.{primitive, non_nullable, all_valid};
+ghost use Rattle.vx_tree.specs.Validities.{valid_from};
 ghost use Rattle.vx_tree.specs.Parts.{valid_of};
-ghost use Rattle.vx_leaves.specs.Leaves.{is_primitive, validity_fault, IsPrimitive, plain_state};
+ghost use Rattle.vx_leaves.specs.Leaves.{is_primitive, validity_fault, IsPrimitive, plain_state, number_or_zero};
 ghost use Rattle.vx_leaves.specs.Spread.{spread, never_null, whole_fault, count_fault, values_fault};
 
-use crate::collect::collect_items;
+use crate::collect::{collect_items, collect_options};
 use crate::spread::spread_numbers;
 use std::alloc::Global;
 use std::marker::Model;
-use vx_base::{Buffer, ByteBuffer, NativePType, Nullability, PType, VortexError, number_count};
+use vx_base::{
+    BitBuffer, Buffer, ByteBuffer, NativePType, Nullability, PType, VortexError, number_count,
+};
 use vx_tree::{ArrayRef, Layout, TypedArray, Validity};
 
 /// An array of whole numbers of one type, in their bytes.
@@ -171,6 +175,25 @@ impl PrimitiveArray {
         PrimitiveArray::new(alloc, buffer, Validity::NonNullable)
     }
 
+    /// The array of the items, null and 0 where there is none. No row is null by the state alone
+    /// where all are there, every row where none is, and else an array tells. The size hint is not
+    /// looked at. Asks that the iterator ends. Fails only for want of memory.
+    pub fn from_option_iter<T: NativePType + Drop, I: Iterator<Item = Option<T>> + Drop>(
+        alloc: Global,
+        items: I,
+    ) -> Result<PrimitiveArray, VortexError>
+        requires can { I.can_next items }
+        requires ends { IsFinite (I.remaining items) }
+        ensures { Gives result (λ a. (xs : List (Option T)) × Drains I.next_gives items xs
+            × IsPrimitive T.PTYPE (map (number_or_zero T.value) xs) (valid_from (map is_some xs) all_valid) a) }
+    {
+        let all = collect_options(alloc, items, zero_number::<T>())?;
+        let present = BitBuffer::from_bools(alloc, &all.present)?;
+        let validity = Validity::from_buffer(alloc, present)?;
+        let buffer = Buffer::from_vec(alloc, all.items)?;
+        PrimitiveArray::new(alloc, buffer, validity)
+    }
+
     // The parts, which are well formed.
     pub(crate) fn parts(&self) -> PrimitiveParts<'_>
         ensures same { self.now
@@ -225,6 +248,13 @@ fn plain_validity(nullability: Nullability) -> Validity
         Nullability::NonNullable => Validity::NonNullable,
         Nullability::Nullable => Validity::AllValid,
     }
+}
+
+// The number 0.
+fn zero_number<T: NativePType>() -> T
+    ensures { T.value result ≡ pos 0 }
+{
+    T::zero()
 }
 
 // The array of the numbers that these bytes hold.

@@ -1,14 +1,12 @@
 // The numbers of an array as typed buffers.
 
 ghost use Rattle.std.specs.Prelude.{◌≡◌, map, MatchResult};
-ghost use Rattle.vx_base.specs.Integers.{numbers};
 ghost use Rattle.vx_base.specs.Refusals.{Gives};
 ghost use Rattle.vx_leaves.specs.Leaves.{type_in, numbers_in};
 
 use crate::primitive_array::PrimitiveArray;
-use crate::spread::read_number;
 use std::alloc::Global;
-use vx_base::{Buffer, BufferMut, NativePType, VortexError, number_count};
+use vx_base::{Buffer, BufferMut, NativePType, VortexError};
 
 impl PrimitiveArray {
     /// The numbers, valid or not. Asks that they are of this type. Fails only for want of memory.
@@ -36,7 +34,7 @@ impl PrimitiveArray {
         requires { type_in self ≡ T.PTYPE }
         ensures { Gives result (λ b. map T.value b ≡ numbers_in self) }
     {
-        read_numbers(alloc, self.parts().bytes.as_slice())
+        BufferMut::from_byte_buffer(alloc, self.parts().bytes)
     }
 
     /// The numbers, valid or not, to be written where they are in no other use, else to be read.
@@ -51,21 +49,4 @@ impl PrimitiveArray {
     {
         Ok(Ok(self.into_buffer_mut(alloc)?))
     }
-}
-
-// The numbers that these bytes hold.
-fn read_numbers<T: NativePType + Drop>(
-    alloc: Global,
-    bytes: &[u8],
-) -> Result<BufferMut<T>, VortexError>
-    ensures { Gives result (λ b. map T.value b ≡ numbers T.PTYPE bytes.now) }
-{
-    let ptype = T::PTYPE;
-    let count = number_count(bytes, ptype);
-    let mut numbers = BufferMut::with_capacity(alloc, count)?;
-    for i in 0..count {
-        let number = read_number::<T>(bytes, i);
-        numbers.push(number)?;
-    }
-    Ok(numbers)
 }

@@ -9,7 +9,9 @@ ghost use Rattle.vx_tree.specs.Parts.{valid_of};
 ghost use Rattle.vx_tree.specs.Slots.{validity_slot};
 ghost use Rattle.vx_tree.specs.Tree.{primitive};
 ghost use Rattle.vx_leaves.specs.Leaves.{type_in, bytes_in, validity_in};
+ghost use Rattle.vx_leaves.specs.Narrow.{IsNarrowed};
 
+use crate::narrow::narrowed_array;
 use crate::primitive_array::{PrimitiveArray, primitive_array};
 use std::alloc::Global;
 use vx_base::{ByteBuffer, Nullability, PType, VortexError};
@@ -63,6 +65,14 @@ pub trait PrimitiveArrayExt: TypedArray {
         requires { byte_width ptype ≡ byte_width (type_in (Self.as_tree self.now)) }
         ensures { Gives result (λ a. a ≡ primitive ptype (bytes_in (Self.as_tree self.now))
             (validity_in (Self.as_tree self.now))) };
+
+    /// The same rows in the narrowest type that has the numbers of the valid ones: u8, u16 or u32
+    /// where none is negative, else i8, i16 or i32, and the type itself where none of these has them.
+    /// The validity is kept; what stands in a null row decides nothing and becomes 0. Where no row
+    /// is valid the numbers are zeroes of type u8; where the type stays, the array is shared. The
+    /// i64 rows -1, 128 are the i16 rows -1, 128. Fails only for want of memory.
+    fn narrow(&self, alloc: Global) -> Result<PrimitiveArray, VortexError>
+        ensures { Gives result (IsNarrowed (Self.as_tree self.now)) };
 }
 
 impl PrimitiveArrayExt for PrimitiveArray {
@@ -92,6 +102,10 @@ impl PrimitiveArrayExt for PrimitiveArray {
         let bytes = parts.bytes.try_clone(alloc)?;
         let validity = parts.validity.try_clone(alloc)?;
         primitive_array(alloc, ptype, bytes, self.len(), validity)
+    }
+
+    fn narrow(&self, alloc: Global) -> Result<PrimitiveArray, VortexError> {
+        narrowed_array(alloc, self)
     }
 }
 

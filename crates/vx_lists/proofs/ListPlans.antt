@@ -1,12 +1,11 @@
 -- What a list view is rebuilt from, and what that gives.
-use Rattle.std.proofs.Common.{◌≡◌, ℕ, ◌+◌, ◌*◌, ◌^◌, ◌<◌, ◌≤◌, Bool, true, List, length, map, sum, get_or, cond, false, Option, None, refl, sym, ◌∙◌, ap, subst, Result, Ok, Err, arith}
+use Rattle.std.proofs.Common.{◌≡◌, ℕ, ◌+◌, ◌^◌, ◌<◌, ◌≤◌, Bool, true, List, length, map, sum, get_or, cond, false, None, sym, ◌∙◌, ap, subst, Result, Ok, Err, arith}
 use Rattle.std.specs.Prelude.{pos, ◌≤ℤ◌, int_le, IsTrue, OnOk}
-use Rattle.std.specs.List.{flat_map}
 use Rattle.std.proofs.lemmas.Float.{T_from_true}
 use lib.Signed.{le_z_yes}
 use Rattle.vx_base.specs.declared.ptypes.PType.{PType}
 use Rattle.vx_base.specs.Integers.{Holds, greatest, numbers}
-use Rattle.vx_base.specs.Kinds.{Kind, integer_type}
+use Rattle.vx_base.specs.Kinds.{integer_type}
 use Rattle.vx_base.specs.Refusals.{or_else}
 use Rattle.vx_tree.specs.Tree.{Tree, list_view, primitive, Valid, non_nullable}
 use Rattle.vx_tree.specs.Meaning.{tree_len, kind_of, valid_mask}
@@ -15,13 +14,13 @@ use Rattle.vx_tree.specs.Faults.{take_overflow}
 use Rattle.vx_tree.specs.Operations.{IsSelected, AreBelow}
 use Rattle.vx_lists.specs.ListLayout.{valid_sizes, valid_total, position_rows, joined_positions, starts_from, IsPlan}
 use Rattle.vx_lists.specs.CountBytes.{counts_of, AreCountBytes, HoldCounts}
-use Rattle.vx_lists.specs.ListViews.{counts_in, elements_of, offsets_of, sizes_of, mask_of, rebuilt_offset_ptype, total_of, valid_sizes_of, valid_positions_of, IsCountArray, IsRebuildPlan, IsRebuilt}
+use Rattle.vx_lists.specs.ListViews.{counts_in, elements_of, offsets_of, sizes_of, rebuilt_offset_ptype, total_of, valid_sizes_of, valid_positions_of, IsCountArray, IsRebuildPlan, IsRebuilt}
 use Rattle.vx_lists.specs.ListViewFaults.{total_fault, rebuilt_total_fault, rebuild_overflow}
 use Rattle.vx_lists.proofs.CountBytes.{counts_of-held, held_are_counts, length-held}
 use Rattle.vx_lists.proofs.CountArrays.{count_array_of_numbers}
 use Rattle.vx_lists.proofs.ListFaults.{passed}
-use Rattle.vx_tree.proofs.RowLists.{length-rows, length-valid_mask}
-use Rattle.vx_lists.proofs.ViewLayouts.{length-counts_in, get_or-counts_in, layout_well_formed}
+use Rattle.vx_tree.proofs.RowLists.{length-rows}
+use Rattle.vx_lists.proofs.ViewLayouts.{layout_well_formed}
 use Rattle.vx_lists.proofs.PlannedNumbers.{Holds-below, map-size_of-position_rows}
 use Rattle.vx_lists.proofs.PlannedRows.{get_or-valid_sizes, length-valid_sizes, joined_positions-valid, length-joined_positions}
 use Rattle.vx_lists.proofs.RebuiltViews.{planned_below, rebuilt_formed, rebuilt_view}

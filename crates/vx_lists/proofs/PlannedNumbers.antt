@@ -1,18 +1,14 @@
 -- The numbers of a rebuilt list view fit their types, and its elements are those to take.
-use Rattle.std.proofs.Common.{◌≡◌, ℕ, zero, suc, ◌+◌, ◌^◌, ◌<◌, ◌≤◌, Bool, true, false, cond, List, [], ◌∷◌, length, map, get_or, sum, Option, refl, sym, ◌∙◌, ap, subst, arith}
+use Rattle.std.proofs.Common.{◌≡◌, ℕ, ◌^◌, ◌<◌, ◌≤◌, Bool, true, false, List, [], ◌∷◌, length, map, Option, refl, sym, ◌∙◌, ap, arith}
 use Rattle.std.specs.Prelude.{pos, ◌≤ℤ◌, slice_index_or}
-use Rattle.std.specs.List.{All}
 use Rattle.std.proofs.lemmas.Int.{ints}
-use Rattle.std.proofs.lemmas.List.{get_or_default}
 use Rattle.std.proofs.lemmas.List.FromFn.{length-range_with_len}
 use Rattle.vx_base.specs.Integers.{Holds, greatest}
 use Rattle.vx_base.specs.declared.ptypes.PType.{PType}
 use Rattle.vx_base.specs.declared.ptypes.PType.TheVariants.{U8, U16, U32, U64, I8, I16, I32, I64}
-use Rattle.vx_lists.specs.ListLayout.{ListLayout, layout, rows_of, IsWellFormed, size_of, starts_from, canonical, position_rows, valid_sizes, valid_total, IsPlan}
-use Rattle.vx_lists.proofs.CanonicalRows.{sum-cons, length-starts_from}
+use Rattle.vx_lists.specs.ListLayout.{ListLayout, layout, rows_of, IsWellFormed, size_of, canonical, position_rows, valid_sizes, IsPlan}
 use Rattle.vx_lists.proofs.TidyLayouts.{map-is_some-lists_at, same_layouts}
 use Rattle.vx_lists.proofs.MappedLayouts.{canonical-position_rows}
-use Rattle.vx_lists.proofs.PlannedRows.{get_or-valid_sizes, length-valid_sizes}
 
 -- what a type holds, it holds below too
 pub Holds-below : (t : PType) (n total : ℕ) → n ≤ total → pos total ≤ℤ greatest t → Holds t (pos n)

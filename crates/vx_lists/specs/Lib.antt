@@ -3,3 +3,4 @@ pub mod CountBytes
 pub mod ListViews
 pub mod ListViewFaults
 pub mod ListReferences
+pub mod PlannedRuns

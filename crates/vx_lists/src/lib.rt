@@ -13,6 +13,3 @@ mod trim;
 
 pub use crate::list_view::ListViewArray;
 pub use crate::rebuild::ListViewRebuildMode;
-
-#[cfg(test)]
-mod tests;

@@ -10,6 +10,7 @@ ghost use Rattle.vx_lists.specs.declared.rebuild.ListViewRebuildMode.TheVariants
 ghost use Rattle.vx_lists.specs.ListViewFaults.{rebuilt_total_fault, rebuild_overflow, rebuild_fault};
 ghost use Rattle.vx_lists.specs.ListReferences.{IsTrimmedToBounds};
 ghost use Rattle.vx_lists.specs.ListViews.{elements_of, offsets_of, sizes_of, flag_of, with_flag, valid_positions_of, IsRebuildPlan, IsRebuilt};
+ghost use Rattle.vx_lists.specs.PlannedRuns.{ArePlannedRuns};
 
 use crate::count_arrays::count_bytes;
 use crate::list_checks::check_total;
@@ -60,14 +61,16 @@ impl ListViewArray {
         })
     }
 
-    // The elements of the plan, run by run.
-    fn elements_by_runs(&self, alloc: Global, plan: &RebuildPlan) -> Result<ArrayRef, VortexError>
-        requires plan { IsRebuildPlan self.now plan.now.offset_type plan.now.offsets
+    // The elements, and the runs of those of the plan.
+    fn planned_runs(
+        &self,
+        alloc: Global,
+        plan: &RebuildPlan,
+    ) -> Result<(&ArrayRef, Vec<(usize, usize)>), VortexError>
+        requires { IsRebuildPlan self.now plan.now.offset_type plan.now.offsets
             plan.now.size_type plan.now.sizes plan.now.count }
-        requires fits { rebuilt_total_fault self.now ≡ None }
-        ensures selected { IfOk result
-            (IsSelected (elements_of self.now) (valid_positions_of self.now)) }
-        ensures refuses { Refuses result (rebuild_overflow self.now) }
+        ensures { Gives result (λ found.
+            ArePlannedRuns self.now plan.now.count found.0.now found.1.items) }
     {
         let elements = self.parts().elements;
         let runs = element_runs(
@@ -77,6 +80,19 @@ impl ListViewArray {
             plan.size_type,
             plan.sizes.as_slice(),
         )?;
+        Ok((elements, runs))
+    }
+
+    // The elements of the plan, run by run.
+    fn elements_by_runs(&self, alloc: Global, plan: &RebuildPlan) -> Result<ArrayRef, VortexError>
+        requires plan { IsRebuildPlan self.now plan.now.offset_type plan.now.offsets
+            plan.now.size_type plan.now.sizes plan.now.count }
+        requires fits { rebuilt_total_fault self.now ≡ None }
+        ensures selected { IfOk result
+            (IsSelected (elements_of self.now) (valid_positions_of self.now)) }
+        ensures refuses { Refuses result (rebuild_overflow self.now) }
+    {
+        let (elements, runs) = self.planned_runs(alloc, plan)?;
         elements.select(alloc, &Selection::of_runs(&runs, plan.count))
     }
 
@@ -93,14 +109,7 @@ impl ListViewArray {
             (IsSelected (elements_of self.now) (valid_positions_of self.now)) }
         ensures refuses { Refuses result (rebuild_overflow self.now) }
     {
-        let elements = self.parts().elements;
-        let runs = element_runs(
-            alloc,
-            plan.offset_type,
-            plan.offsets.as_slice(),
-            plan.size_type,
-            plan.sizes.as_slice(),
-        )?;
+        let (elements, runs) = self.planned_runs(alloc, plan)?;
         let positions = positions_of_runs(alloc, &runs, plan.count)?;
         elements.select(alloc, &Selection::at_positions(&positions))
     }

@@ -21,6 +21,11 @@ pub(crate) enum Command {
         sizes: RegisterWord,
         validity: ValidityWord,
     },
+    // `dict R R`: a dictionary.
+    Dictionary {
+        codes: RegisterWord,
+        values: RegisterWord,
+    },
     // `slice R N N`: the rows from `start` up to `end`.
     Slice {
         array: RegisterWord,
@@ -47,6 +52,10 @@ pub(crate) enum Command {
         array: RegisterWord,
         mode: ListViewRebuildMode,
     },
+    // `narrow R`: numbers in the narrowest type that has them.
+    Narrow {
+        array: RegisterWord,
+    },
     // `show R`: prints the rows.
     Show {
         array: RegisterWord,
@@ -69,11 +78,15 @@ pub(crate) fn parse_command(alloc: Global, line: &[u8]) -> Result<Option<Command
         b"bools" => booleans(alloc, &mut words)?,
         b"const" => constant(alloc, &mut words)?,
         b"listview" => list_view(&mut words)?,
+        b"dict" => dictionary(&mut words)?,
         b"slice" => slice(&mut words)?,
         b"take" => take(&mut words)?,
         b"filter" => filter(&mut words)?,
         b"mask" => mask(&mut words)?,
         b"rebuild" => rebuild(&mut words)?,
+        b"narrow" => Command::Narrow {
+            array: register(&mut words)?,
+        },
         b"show" => Command::Show {
             array: register(&mut words)?,
         },
@@ -117,6 +130,13 @@ fn list_view(words: &mut Words<'_>) -> Result<Command, LineFault> {
         offsets: register(words)?,
         sizes: register(words)?,
         validity: ValidityWord::from_word(word(words)?).ok_or(LineFault::Syntax)?,
+    })
+}
+
+fn dictionary(words: &mut Words<'_>) -> Result<Command, LineFault> {
+    Ok(Command::Dictionary {
+        codes: register(words)?,
+        values: register(words)?,
     })
 }
 

@@ -15,6 +15,3 @@ mod show_scalar;
 mod words;
 
 pub use crate::run::run_script;
-
-#[cfg(test)]
-mod tests;

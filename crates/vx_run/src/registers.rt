@@ -7,6 +7,7 @@ use crate::parts::show_parts;
 use crate::show::show_array;
 use std::alloc::Global;
 use vx_base::VortexError;
+use vx_leaves::{DictArray, PrimitiveArray, PrimitiveArrayExt};
 use vx_lists::{ListViewArray, ListViewRebuildMode};
 use vx_tree::{ArrayRef, TypedArray, Validity};
 
@@ -51,11 +52,13 @@ impl Registers {
                 sizes,
                 validity,
             } => self.list_view(alloc, elements, offsets, sizes, validity)?,
+            Command::Dictionary { codes, values } => self.dictionary(alloc, codes, values)?,
             Command::Slice { array, start, end } => self.get(array)?.slice(alloc, start..end)?,
             Command::Take { array, indices } => self.get(array)?.take(alloc, self.get(indices)?)?,
             Command::Filter { array, mask } => self.filter(alloc, array, mask)?,
             Command::Mask { array, mask } => self.get(array)?.mask(alloc, self.get(mask)?)?,
             Command::Rebuild { array, mode } => self.rebuild(alloc, array, mode)?,
+            Command::Narrow { array } => self.narrow(alloc, array)?,
             Command::Show { array } => return Ok(Some(self.show(alloc, array)?)),
             Command::Parts { array } => return Ok(Some(self.parts(alloc, array)?)),
         };
@@ -92,6 +95,23 @@ impl Registers {
             validity,
         )?;
         Ok(list_view.into_array())
+    }
+
+    // The values of one register that the codes of another name.
+    fn dictionary(
+        &self,
+        alloc: Global,
+        codes: RegisterWord,
+        values: RegisterWord,
+    ) -> Result<ArrayRef, LineFault> {
+        let codes = self.get(codes)?;
+        let values = self.get(values)?;
+        let dictionary = DictArray::try_new(
+            alloc,
+            codes.try_clone(alloc)?,
+            values.try_clone(alloc)?,
+        )?;
+        Ok(dictionary.into_array())
     }
 
     // The validity that a word names.
@@ -133,6 +153,16 @@ impl Registers {
             return Err(LineFault::Refused(VortexError::MismatchedTypes));
         };
         Ok(list_view.rebuild(alloc, mode)?.into_array())
+    }
+
+    // Numbers in the narrowest type that has them. Refuses `MismatchedTypes` where the register does
+    // not hold plain numbers.
+    fn narrow(&self, alloc: Global, array: RegisterWord) -> Result<ArrayRef, LineFault> {
+        let array = self.get(array)?.try_clone(alloc)?;
+        let Ok(numbers) = PrimitiveArray::try_from_array(array) else {
+            return Err(LineFault::Refused(VortexError::MismatchedTypes));
+        };
+        Ok(numbers.narrow(alloc)?.into_array())
     }
 
     // The rows of a register, and a line feed.

@@ -2,10 +2,10 @@
 
 use crate::hexadecimal::write_bytes;
 use crate::show::separate;
-use vx_base::{DType, ScalarValue, VortexError};
+use vx_base::{DType, ScalarValue, StructFields, VortexError};
 
-// Adds the row of this data type that a value is: null where there is none. Of records no command
-// makes a constant, and none is told here.
+// Adds the row of this data type that a value is: null where there is none.
+#[tactic(auto, using(crate::proofs::Fields::struct_depth))]
 #[cycle(value)]
 pub(crate) fn show_value(
     dtype: &DType,
@@ -29,6 +29,9 @@ pub(crate) fn show_value(
         (DType::FixedSizeList(items, _, _), Some(ScalarValue::List(rows))) => {
             show_items(items, rows.as_slice(), text)?;
         }
+        (DType::Struct(fields, _), Some(ScalarValue::Record(rows))) => {
+            show_fields(fields, rows.as_slice(), text)?;
+        }
         _ => text.push_str("null")?,
     }
     Ok(())
@@ -47,5 +50,29 @@ fn show_items(
         show_value(dtype, value, text)?;
     }
     text.push(']')?;
+    Ok(())
+}
+
+// Adds the fields of a record, each after its name.
+#[tactic(auto, using(crate::proofs::Fields::field_depth))]
+#[cycle(value)]
+fn show_fields(
+    fields: &StructFields,
+    values: &[Option<ScalarValue>],
+    text: &mut String,
+) -> Result<(), VortexError> {
+    let names = fields.names();
+    let dtypes = fields.fields();
+    text.push('{')?;
+    for i in 0..values.len() {
+        if i >= names.len() || i >= dtypes.len() {
+            break;
+        }
+        separate(i, text)?;
+        text.push_str(names.get(i).as_str())?;
+        text.push(':')?;
+        show_value(&dtypes[i], &values[i], text)?;
+    }
+    text.push('}')?;
     Ok(())
 }

@@ -1,12 +1,12 @@
 -- Columns, one beside another, and the records that they make.
-use Rattle.std.proofs.Common.{ℕ, zero, suc, ◌+◌, ◌*◌, ◌<◌, ◌≤◌, ◌≡◌, ◌++◌, Bool, true, List, [], ◌∷◌, length, map, take, get_or, Option, Some, None, refl, sym, ◌∙◌, ap, subst, arith}
+use Rattle.std.proofs.Common.{ℕ, zero, suc, ◌+◌, ◌*◌, ◌<◌, ◌≤◌, ◌≡◌, ◌++◌, true, List, [], ◌∷◌, length, map, take, get_or, Option, Some, None, refl, sym, ◌∙◌, ap, subst, arith}
 use denote.Param.Weighed.{most}
 use Rattle.std.specs.List.{AllZip}
 use Rattle.std.specs.Prelude.{slice_index, if◌then◌else◌}
 use Rattle.std.proofs.lemmas.List.{length-map, take_more, take_all}
 use Rattle.std.proofs.lemmas.List.Elements.{AllZip-push}
 use Rattle.vx_base.specs.Refusals.{Refusal, overflow, or_else}
-use Rattle.vx_base.specs.Kinds.{Kinds, kind, kinds_from, records}
+use Rattle.vx_base.specs.Kinds.{kind, kinds_from, records}
 use Rattle.vx_base.specs.Rows.{null, record_of, Rows, rows_from, field}
 use Rattle.vx_base.specs.declared.scalar_value.ScalarValue.{ScalarValue}
 use Rattle.vx_base.specs.declared.scalar_value.ScalarValue.TheVariants as value
@@ -22,6 +22,7 @@ use Rattle.vx_tree.specs.Formed.{AllLen, IsStruct, column_count}
 use Rattle.vx_tree.specs.Fitting.{AllFormed, ColumnsFormed}
 use Rattle.vx_tree.specs.Faults.{take_overflow, columns_overflow}
 use Rattle.vx_tree.specs.Operations.{IsSlice, IsValidSlice, IsSelected, IsValidSelected, IsNulled, IsValidNulled, IsNulls, IsValidNulls, AreBelow}
+use Rattle.vx_tree.specs.Plain.{ArePlain}
 use Rattle.vx_tree.specs.Columns.{AllReach, AllHave, AreAlike, AreRowsAt, AreSlices, AreSelected, AreFields}
 use Rattle.vx_tree.proofs.Nulled.{nullable_nulled, two, null_row}
 
@@ -145,11 +146,29 @@ AreRowsAt-from_each f n ts us i h l =
     let each = AllZip-all (λ t u. IsRowsAt t f n u) ts us i h l in
     record { alike = alike_each n ts us (alike_of_rows f n ts us each); rows = fields_each f n ts us each }
 
+selected_plain : (ps : List ℕ) (ts us : List Tree) → AllZip (λ t u. IsSelected t ps u) ts us → ArePlain (trees_from ts) → ArePlain (trees_from us)
+selected_plain ps [] [] h p = tt
+selected_plain ps [] (u ∷ us) h p = absurd h
+selected_plain ps (t ∷ ts) [] h p = absurd h
+selected_plain ps (t ∷ ts) (u ∷ us) h p = (h.0.plain p.0, selected_plain ps ts us h.1 p.1)
+
+selected_rows : (ps : List ℕ) (ts us : List Tree) → AllZip (λ t u. IsSelected t ps u) ts us → AllZip (λ t u. IsRowsAt t (slice_index ps) (length ps) u) ts us
+selected_rows ps [] [] h = tt
+selected_rows ps [] (u ∷ us) h = absurd h
+selected_rows ps (t ∷ ts) [] h = absurd h
+selected_rows ps (t ∷ ts) (u ∷ us) h = (record { len = h.0.len; kind = h.0.kind; rows = h.0.rows }, selected_rows ps ts us h.1)
+
+pub AreSelected-from_each : (ps : List ℕ) (ts us : List Tree) (i : ℕ) → AllZip (λ t u. IsSelected t ps u) (take i ts) us → length ts ≤ i → AreSelected (trees_from ts) ps (trees_from us)
+AreSelected-from_each ps ts us i h l =
+    let each = AllZip-all (λ t u. IsSelected t ps u) ts us i h l in
+    let rows = selected_rows ps ts us each in
+    record {
+      rows_at = record { alike = alike_each (length ps) ts us (alike_of_rows (slice_index ps) (length ps) ts us rows); rows = fields_each (slice_index ps) (length ps) ts us rows };
+      plain = selected_plain ps ts us each;
+    }
+
 pub IsRowsAt-slice : (t : Tree) (start n : ℕ) (u : Tree) → IsSlice t start n u → IsRowsAt t (λ i. start + i) n u
 IsRowsAt-slice t start n u h = record { len = h.len; kind = h.kind; rows = h.rows }
-
-pub IsRowsAt-selected : (t : Tree) (ps : List ℕ) (u : Tree) → IsSelected t ps u → IsRowsAt t (slice_index ps) (length ps) u
-IsRowsAt-selected t ps u h = record { len = h.len; kind = h.kind; rows = h.rows }
 
 -- ---- what is known of columns, one after another
 
@@ -243,9 +262,10 @@ pub struct_selected : (t u : Tree) (ns : List (List ℕ)) (ts us : Trees) (v w :
 struct_selected t u ns ts us v w m ps a b h s =
     rw (a, b) (record {
       len = refl;
-      kind = λ i. records ns (h.alike.kinds i) (s.kind i);
+      kind = λ i. records ns (h.rows_at.alike.kinds i) (s.kind i);
       shape = ap struct_shape s.state;
-      rows = λ i l. record_row ns ts us v w m (length ps) i (slice_index ps i) (s.bits i l) (h.rows ns i l);
+      plain = λ p. (h.plain p.0, s.plain p.1);
+      rows = λ i l. record_row ns ts us v w m (length ps) i (slice_index ps i) (s.bits i l) (h.rows_at.rows ns i l);
     })
 
 pub struct_nulled : (t r : Tree) (ns : List (List ℕ)) (ts : Trees) (v u w : Valid) (n : ℕ) → t ≡ structure ns ts v n → r ≡ structure ns ts w n → IsValidNulled v u n w → IsNulled t u r
@@ -254,6 +274,7 @@ struct_nulled t r ns ts v u w n a b h =
       len = refl;
       kind = ap (records ns (kinds_of ts)) (nullable_nulled v u w h.state);
       shape = ap struct_shape h.state;
+      plain = λ p q. (p.0, h.plain p.1 q);
       rows = λ i l. two (is_valid_at w i) (is_valid_at v i) (is_valid_at u i) _ (h.bits i l);
     })
 

@@ -43,6 +43,7 @@ selections_compose t r s ps qs h k below =
       len = k.len ∙ sym (length-map qs (slice_index ps));
       kind = k.kind ∙ h.kind;
       shape = k.shape ∙ ap selected_shape h.shape ∙ selected_twice (shape_of t);
+      plain = λ p. k.plain (h.plain p);
       rows = λ i small.
           let inside : i < length qs = rw (length-map qs (slice_index ps)) at small in
           k.rows i inside ∙ h.rows (slice_index qs i) (below i 0 inside) ∙ ap (row_at t) (sym (get_or-map (slice_index ps) qs i 0 0 inside));

@@ -1,12 +1,11 @@
 -- Dictionaries: what becomes of them by what becomes of their codes.
-use Rattle.std.proofs.Common.{ℕ, zero, suc, ◌+◌, ◌-◌, ◌<◌, ◌≤◌, ◌≡◌, Bool, true, false, List, length, Option, Some, None, refl, sym, ◌∙◌, ap, subst, inl, inr, arith}
-use Rattle.std.specs.Prelude.{ℤ, pos, negsuc, ◌≤ℤ◌, ◌||◌, ◌&&◌, ◌==◌, IsTrue, IsSome, IfSome, is_some, slice_index, if◌then◌else◌}
+use Rattle.std.proofs.Common.{ℕ, zero, suc, ◌+◌, ◌<◌, ◌≤◌, ◌≡◌, Bool, true, false, List, length, Option, Some, None, refl, sym, ◌∙◌, ap, subst, inl, inr, arith}
+use Rattle.std.specs.Prelude.{pos, negsuc, ◌||◌, ◌&&◌, ◌==◌, IfSome, is_some, slice_index, if◌then◌else◌}
 use Rattle.std.proofs.lemmas.Int.{ints}
 use Rattle.std.proofs.lemmas.Bool.{lt-ltb}
-use Rattle.vx_base.specs.Integers.{Holds}
-use Rattle.vx_base.specs.Rows.{Row, null, boolean, whole, bytes, text, items, record_of, is_present, number_in, position_in}
-use Rattle.vx_base.specs.Kinds.{Kind, booleans, integers, texts, binaries, lists, fixed_lists, records, is_nullable_kind, or_nullable, is_integers, is_plain_integers, integer_type, is_integers-or_nullable}
-use Rattle.vx_base.specs.Refusals.{Refusal, refusal_of, IsMemoryOr, first_fault}
+use Rattle.vx_base.specs.Rows.{Row, null, boolean, whole, bytes, text, items, record_of, is_present, position_in}
+use Rattle.vx_base.specs.Kinds.{Kind, booleans, integers, texts, binaries, lists, fixed_lists, records, is_nullable_kind, or_nullable, is_integers, is_integers-or_nullable}
+use Rattle.vx_base.specs.Refusals.{Refusal, refusal_of, IsMemoryOr}
 use Rattle.vx_base.specs.declared.errors.VortexError.{VortexError}
 use Rattle.vx_base.specs.declared.errors.VortexError.TheVariants.{Memory}
 use Rattle.vx_base.proofs.FirstFaults.{first_fault-of_none}
@@ -15,7 +14,7 @@ use Rattle.vx_tree.specs.Meaning.{row_at, tree_len, kind_of, is_valid_at, nullab
 use Rattle.vx_tree.specs.Shapes.{State, never_null, none_null, every_null, told, Shape, bool_shape, primitive_shape, constant_shape, dictionary_shape, fixed_list_shape, list_view_shape, struct_shape, view_shape, state_of, taken_state, row_state, tree_state, shape_of, sliced_shape, selected_shape, nulled_constant, nulled_shape}
 use Rattle.vx_tree.specs.Formed.{IsCode, IsDictionary}
 use Rattle.vx_tree.specs.Faults.{index_fault, indices_fault, take_overflow}
-use Rattle.vx_tree.specs.Operations.{IsSlice, IsSelected, IsNulled, IsNulls, IsZeroCodes, IsValidityOf, IsValidSelected, IsValidNulled, IsValidNulls, IsPosition, ArePositions, AreBelow, or_zero}
+use Rattle.vx_tree.specs.Operations.{IsSlice, IsSelected, IsNulled, IsNulls, IsZeroCodes, IsValidityOf, IsValidSelected, IsValidNulled, IsValidNulls, ArePositions, AreBelow, or_zero}
 use Rattle.vx_tree.proofs.Nulled.{nullable_nulled}
 
 -- ---- kinds
@@ -33,7 +32,7 @@ nullable_twice a b (lists k n) = ap (lists k) (either a b n)
 nullable_twice a b (fixed_lists k size n) = ap (fixed_lists k size) (either a b n)
 nullable_twice a b (records names ks n) = ap (records names ks) (either a b n)
 
-nullable_either : (c : Bool) (k : Kind) → is_nullable_kind (or_nullable c k) ≡ (c || is_nullable_kind k)
+pub nullable_either : (c : Bool) (k : Kind) → is_nullable_kind (or_nullable c k) ≡ (c || is_nullable_kind k)
 nullable_either c (booleans n) = refl
 nullable_either c (integers t n) = refl
 nullable_either c (texts n) = refl
@@ -141,6 +140,12 @@ state_by_shape c d x s e h = state_told d ∙ ap shape_state e ∙ h
 state_nulled : (c d : Tree) (x : Shape) (index : State) → shape_of d ≡ nulled_shape x index → shape_state x ≡ tree_state c → tree_state d ≡ taken_state (tree_state c) index
 state_nulled c d x index e h = state_by_shape c d (nulled_shape x index) (taken_state (tree_state c) index) e (nulled_state x index ∙ ap (λ s. taken_state s index) h)
 
+pub state_of_nulled : (s r : Tree) (u : Valid) → IsNulled s u r → tree_state r ≡ taken_state (tree_state s) (state_of u)
+state_of_nulled s r u h = state_nulled s r (shape_of s) (state_of u) h.shape (sym (state_told s))
+
+pub state_of_selected : (t s : Tree) (ps : List ℕ) → IsSelected t ps s → tree_state s ≡ tree_state t
+state_of_selected t s ps h = state_by_shape t s (selected_shape (shape_of t)) (tree_state t) h.shape (selected_state (shape_of t) ∙ sym (state_told t))
+
 -- ---- codes
 
 -- other codes into the same values
@@ -199,6 +204,7 @@ dictionary_selected t r c v d f ps a b h =
       len = h.len;
       kind = ap (λ k. or_nullable (is_nullable_kind k) (kind_of v)) h.kind;
       shape = ap (λ s. dictionary_shape (taken_state (tree_state v) s) false) (state_by_shape c d (selected_shape (shape_of c)) (tree_state c) h.shape (selected_state (shape_of c) ∙ sym (state_told c)));
+      plain = λ p. absurd p;
       rows = λ i l. ap (λ x. picked (row_at v) (position_in x)) (h.rows i l);
     })
 
@@ -219,6 +225,7 @@ dictionary_nulled t r c v d f u a b h =
       len = h.len;
       kind = nulled_kind (kind_of c) (kind_of d) (kind_of v) (nullable u) h.kind;
       shape = ap (λ s. dictionary_shape s false) (ap (taken_state (tree_state v)) (state_nulled c d (shape_of c) (state_of u) h.shape (sym (state_told c))) ∙ taken_twice (tree_state v) (tree_state c) (state_of u));
+      plain = λ p q. absurd p;
       rows = λ i l. ap (λ x. picked (row_at v) (position_in x)) (h.rows i l) ∙ picked_or_null (row_at v) (is_valid_at u i) (row_at c i);
     })
 
@@ -258,11 +265,12 @@ constant_with_nulls t c v k r n u e a b h =
       len = h.len;
       kind = ap (λ x. or_nullable (is_nullable_kind x) k) h.kind;
       shape = ap (λ s. dictionary_shape (taken_state (row_state k r) s) false) h.state ∙ nulled_constant-dictionary (row_state k r) u e;
+      plain = λ p q. absurd p;
       rows = λ i l. ap (λ x. picked (λ j. r) (position_in x)) (h.rows i l) ∙ picked_or_null (λ j. r) (is_valid_at u i) (whole (pos 0));
     })
 
 pub constant_without_nulls : (t : Tree) (k : Kind) (r : Row) (n : ℕ) (u : Valid) → nullable u ≡ false → t ≡ constant k r n → IsNulled (constant k r n) u t
-constant_without_nulls t k r n non_nullable e a = rw a (record { len = refl; kind = sym (same_kind k); shape = refl; rows = λ i l. refl })
+constant_without_nulls t k r n non_nullable e a = rw a (record { len = refl; kind = sym (same_kind k); shape = refl; plain = λ p q. absurd p; rows = λ i l. refl })
 constant_without_nulls t k r n all_valid e a = absurd (cc)
 constant_without_nulls t k r n all_invalid e a = absurd (cc)
 constant_without_nulls t k r n (by_array m) e a = absurd (cc)

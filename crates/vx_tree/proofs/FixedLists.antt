@@ -111,6 +111,7 @@ fixed_lists_selected t u e r k m v w ps a b s h =
       len = refl;
       kind = λ i. fixed_lists (s.kind i) k (h.kind i);
       shape = ap fixed_list_shape h.state;
+      plain = λ p. (s.plain p.0, h.plain p.1);
       rows = λ i p. list_row e r v w k m (length ps) i (slice_index ps i) (h.bits i p) (rows_range-same (row_at r) (row_at e) (i * k) (slice_index ps i * k) k (λ j q. one i j p q));
     })
   where

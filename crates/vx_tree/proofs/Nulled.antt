@@ -9,8 +9,8 @@ use Rattle.vx_base.specs.declared.ptypes.PType.TheVariants.{U8}
 use Rattle.vx_base.specs.Integers.{numbers}
 use Rattle.vx_base.specs.Rows.{Row, null, whole, truth_of}
 use Rattle.vx_base.specs.Bits.{bool_at, both}
-use Rattle.vx_base.specs.Kinds.{Kind, booleans, integers, texts, binaries, lists, fixed_lists, records, or_nullable}
-use Rattle.vx_tree.specs.Tree.{Tree, bools, primitive, constant, dictionary, fixed_list, list_view, structure, view_array, Valid, non_nullable, all_valid, all_invalid, by_array}
+use Rattle.vx_base.specs.Kinds.{booleans, integers, lists, fixed_lists}
+use Rattle.vx_tree.specs.Tree.{Tree, bools, primitive, fixed_list, list_view, Valid, non_nullable, by_array}
 use Rattle.vx_tree.specs.Meaning.{row_at, tree_len, kind_of, is_valid_at, nullable}
 use Rattle.vx_base.specs.Selections.{number_of_position}
 use Rattle.vx_tree.specs.Shapes.{State, bool_shape, primitive_shape, fixed_list_shape, list_view_shape, never_null, none_null, every_null, told, state_of, is_nullable_state, taken_state}
@@ -55,6 +55,7 @@ bools_nulled t r bits v u w a b h =
       len = refl;
       kind = ap booleans (nullable_nulled v u w h.state);
       shape = ap bool_shape h.state;
+      plain = h.plain;
       rows = λ i l. two (is_valid_at w i) (is_valid_at v i) (is_valid_at u i) _ (h.bits i l);
     })
 
@@ -64,6 +65,7 @@ numbers_nulled t r p bs v u w a b h =
       len = refl;
       kind = ap (integers p) (nullable_nulled v u w h.state);
       shape = ap primitive_shape h.state;
+      plain = h.plain;
       rows = λ i l. two (is_valid_at w i) (is_valid_at v i) (is_valid_at u i) _ (h.bits i l);
     })
 
@@ -73,6 +75,7 @@ lists_nulled t r e o s v u w f a b h =
       len = refl;
       kind = ap (lists (kind_of e)) (nullable_nulled v u w h.state);
       shape = ap (λ st. list_view_shape e st f) h.state;
+      plain = λ p q. (p.0, p.1, p.2, h.plain p.3 q);
       rows = λ i l. two (is_valid_at w i) (is_valid_at v i) (is_valid_at u i) _ (h.bits i l);
     })
 
@@ -82,6 +85,7 @@ fixed_lists_nulled t r e k n v u w a b h =
       len = refl;
       kind = ap (fixed_lists (kind_of e) k) (nullable_nulled v u w h.state);
       shape = ap fixed_list_shape h.state;
+      plain = λ p q. (p.0, h.plain p.1 q);
       rows = λ i l. two (is_valid_at w i) (is_valid_at v i) (is_valid_at u i) _ (h.bits i l);
     })
 
@@ -117,6 +121,7 @@ valid_both v u w m n xs ys bits len a b c d e f mine theirs =
     rw (a, b, c) (record {
       fits = record { len = ap length f ∙ length_both xs ys same ∙ left; kind = refl };
       state = refl;
+      plain = λ p q. tt;
       bits = λ i l.
           let inside : i < length xs = rw left l in
           let here : i < tree_len m = rw first.len l in
@@ -169,6 +174,7 @@ pub zeroes_made : (t : Tree) (p : PType) (bs : List ℕ) (n : ℕ) → t ≡ pri
 zeroes_made t p bs n a e =
     rw a (record {
       len = ap length e ∙ length-map (replicate n 0) pos ∙ length-replicate {A = ℕ} n 0;
+      plain = tt;
       kind = refl;
       rows = λ i l. ap whole (ap (λ (zs : List ℤ). number_of_position zs i) e ∙ get_or-map pos (replicate n 0) i 0 (pos 0) (rw (length-replicate {A = ℕ} n 0) l) ∙ ap pos (get_or-replicate n i 0 0 l));
     })

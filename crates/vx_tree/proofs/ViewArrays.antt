@@ -1,6 +1,6 @@
 -- Texts and byte lists by their views: sliced, selected, with other nulls.
 use Rattle.std.proofs.Common.{ℕ, ◌+◌, ◌-◌, ◌<◌, ◌≤◌, ◌≡◌, Bool, true, false, List, [], length, map, replicate, drop, get_or, set, refl, sym, ◌∙◌, ap, subst, zero-add, arith}
-use Rattle.std.specs.Prelude.{count_by, slice_index, slice_index_or, slice_range, ◌||◌, ◌&&◌, if◌then◌else◌, Option, Some, None}
+use Rattle.std.specs.Prelude.{count_by, slice_index, slice_index_or, slice_range, ◌||◌, ◌&&◌, if◌then◌else◌, Some, None}
 use Rattle.std.specs.List.{range_with_len}
 use Rattle.std.proofs.lemmas.List.{get_or-drop, get_or-take, get_or-map, length-map, length-replicate, get_or-replicate, get_or-set_same, get_or-set_other, get_or_default}
 use Rattle.std.proofs.lemmas.List.FromFn.{length-map-range_with_len, get_or-map-range_with_len, fill_by_all}
@@ -15,7 +15,7 @@ use Rattle.vx_base.proofs.ListParts.{length_part}
 use Rattle.vx_views.specs.Views.{view_of, view_value, inlined_view, padded, Resolves}
 use Rattle.vx_views.specs.Sound.{IsSoundView}
 use Rattle.vx_views.proofs.FaultyViews.{all_true-at}
-use Rattle.vx_tree.specs.Tree.{Tree, bools, primitive, constant, dictionary, fixed_list, list_view, structure, view_array, Valid}
+use Rattle.vx_tree.specs.Tree.{Tree, view_array, Valid}
 use Rattle.vx_tree.specs.Layouts.{is_view_array}
 use Rattle.vx_tree.specs.Values.{bytes_in}
 use Rattle.vx_tree.specs.Meaning.{kind_of, row_at, is_valid_at, nullable, is_texts, value_row, valid_mask}
@@ -111,12 +111,14 @@ selected_rows vs ws v w ps e below h =
       bits = h.bits;
     }
 
-pub views_selected : (t u : Tree) (vs bs ws : List (List ℕ)) (k : Kind) (v w : Valid) (ps : List ℕ) → t ≡ view_array vs bs k v → u ≡ view_array ws bs k w → AreRowsOf vs v (slice_index ps) (length ps) ws w → IsSelected t ps u
-views_selected t u vs bs ws k v w ps a b r =
+pub views_selected : (t u : Tree) (vs bs ws : List (List ℕ)) (k : Kind) (v w : Valid) (ps : List ℕ) → t ≡ view_array vs bs k v → u ≡ view_array ws bs k w → AreRowsOf vs v (slice_index ps) (length ps) ws w
+    → IsValidSelected v ps w → IsSelected t ps u
+views_selected t u vs bs ws k v w ps a b r h =
     rw (a, b) (record {
       len = r.len;
       kind = refl;
       shape = ap (view_shape bs) r.state;
+      plain = h.plain;
       rows = λ i l. view_row bs k vs ws v w i (slice_index ps i) (r.bits i l) (r.views i l);
     })
 
@@ -197,6 +199,7 @@ views_nulled t r vs bs ws k v u w a b h made =
       len = made.len;
       kind = refl;
       shape = ap (view_shape bs) h.state;
+      plain = h.plain;
       rows = λ i l. two (is_valid_at w i) (is_valid_at v i) (is_valid_at u i) (value_row (is_texts k) (view_value bs (slice_index_or vs i []))) (value_row (is_texts (or_nullable (nullable u) k)) (view_value bs (slice_index_or ws i []))) (h.bits i l)
           (λ valid. ap (λ c. value_row c (view_value bs (slice_index_or ws i []))) (is_texts-or_nullable (nullable u) k)
           ∙ ap (λ (view : List ℕ). value_row (is_texts k) (view_value bs view)) (made.views i l ∙ ap (λ (c : Bool). if c then slice_index_or vs i [] else replicate 16 0) valid));

@@ -10,6 +10,7 @@ use Rattle.vx_tree.specs.Tree.{Tree, bools, primitive, Valid, non_nullable, by_a
 use Rattle.vx_tree.specs.Meaning.{tree_len, kind_of, row_at, is_valid_at, nullable, picked}
 use Rattle.vx_tree.specs.Shapes.{state_of, tree_state, taken_state, shape_of, sliced_shape, selected_shape, nulled_shape, taken_shape}
 use Rattle.vx_tree.specs.Formed.{ValidFits}
+use Rattle.vx_tree.specs.Plain.{IsPlain, IsPlainValid}
 
 -- ---- slicing: n rows from a start on
 
@@ -40,12 +41,14 @@ pub record IsSelected (t : Tree) (ps : List ℕ) (r : Tree) : Type 0 where
   pub len : tree_len r ≡ length ps
   pub kind : kind_of r ≡ kind_of t
   pub shape : shape_of r ≡ selected_shape (shape_of t)
+  pub plain : IsPlain t → IsPlain r
   pub rows : (i : ℕ) → i < length ps → row_at r i ≡ row_at t (slice_index ps i)
 
 pub record IsValidSelected (v : Valid) (ps : List ℕ) (w : Valid) : Type 0 where
   pub fits : ValidFits w (length ps)
   pub kind : nullable w ≡ nullable v
   pub state : state_of w ≡ state_of v
+  pub plain : IsPlainValid v → IsPlainValid w
   pub bits : (i : ℕ) → i < length ps → is_valid_at w i ≡ is_valid_at v (slice_index ps i)
 
 -- ---- nulls: the same rows, null where another validity is not true
@@ -54,11 +57,13 @@ pub record IsNulled (t : Tree) (u : Valid) (r : Tree) : Type 0 where
   pub len : tree_len r ≡ tree_len t
   pub kind : kind_of r ≡ or_nullable (nullable u) (kind_of t)
   pub shape : shape_of r ≡ nulled_shape (shape_of t) (state_of u)
+  pub plain : IsPlain t → IsPlainValid u → IsPlain r
   pub rows : (i : ℕ) → i < tree_len t → row_at r i ≡ (if is_valid_at u i then row_at t i else null)
 
 pub record IsValidNulled (v u : Valid) (n : ℕ) (w : Valid) : Type 0 where
   pub fits : ValidFits w n
   pub state : state_of w ≡ taken_state (state_of v) (state_of u)
+  pub plain : IsPlainValid v → IsPlainValid u → IsPlainValid w
   pub bits : (i : ℕ) → i < n → is_valid_at w i ≡ (is_valid_at v i && is_valid_at u i)
 
 -- the view of row i where a mask is true, 16 zero bytes elsewhere
@@ -81,6 +86,7 @@ pub record IsNulls (t : Tree) (n : ℕ) (u : Valid) (r : Tree) : Type 0 where
 -- n counts of a type that are all 0
 pub record IsZeroes (p : PType) (n : ℕ) (t : Tree) : Type 0 where
   pub len : tree_len t ≡ n
+  pub plain : IsPlain t
   pub kind : kind_of t ≡ integers p false
   pub rows : (i : ℕ) → i < n → row_at t i ≡ whole (pos 0)
 

@@ -5,22 +5,26 @@ mod array;
 mod execute_scalar;
 mod filter;
 mod indices;
+mod into_array;
+mod join;
 mod laws;
 mod layouts;
 mod mask;
 mod nulls;
+mod plain_rows;
+mod plain_values;
 mod read;
 pub mod row_laws;
 mod select;
 mod slice;
 mod slots;
 mod take;
-#[cfg(test)]
-mod tests;
+mod to_canonical;
 mod typed_array;
 mod validity;
 
 pub use crate::array::{ArrayRef, Layout, Validity};
+pub use crate::into_array::IntoArray;
 pub use crate::laws::{
     faults_of_worked_arrays, fewer_rows_are_countable, rows_fit_their_dtype, rows_fit_their_kind,
     rows_of_worked_arrays, selections_of_selections_are_selections, slices_of_slices_are_slices,

@@ -16,12 +16,14 @@ mod bits;
 mod both;
 mod casts;
 mod compare;
+mod join;
 mod laws;
 mod patch;
 mod rows;
 mod states;
 
 use crate::array::{ArrayRef, Validity};
+pub(crate) use crate::validity::bits::constant_truth;
 pub use crate::validity::laws::{
     and_associates, and_commutes, and_has_a_unit, and_repeats, trivial_casts_are_casts,
 };

@@ -6,8 +6,4 @@ pub mod converter;
 pub mod first;
 pub mod kernel;
 pub mod reader;
-#[cfg(test)]
-mod refusal_tests;
-#[cfg(test)]
-mod tests;
 pub mod texts;

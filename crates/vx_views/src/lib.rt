@@ -17,8 +17,3 @@ pub use crate::text_laws::{boundaries_decide_ranges, table_decides_utf8};
 pub use crate::view::{BinaryView, MAX_BUFFER_LEN, MAX_INLINED_SIZE};
 pub use crate::view_checks::{check_views, faultless_views_are_sound};
 pub use crate::view_parts::{Inlined, Ref};
-
-#[cfg(test)]
-mod build_tests;
-#[cfg(test)]
-mod view_tests;

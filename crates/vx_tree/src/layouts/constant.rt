@@ -1,10 +1,11 @@
 // One row, however often.
 
-ghost use Rattle.std.specs.Prelude.{◌≡◌, ◌<◌, ◌≤◌, ◌-◌, ℕ, true, false};
+ghost use Rattle.std.specs.Prelude.{◌≡◌, ◌<◌, ◌≤◌, ◌-◌, ℕ, true, false, None, IfOk};
 ghost use Rattle.vx_base.specs.Kinds.{is_nullable_kind};
-ghost use Rattle.vx_base.specs.Rows.{is_present};
+ghost use Rattle.vx_base.specs.DTypes.{dtype_meaning};
+ghost use Rattle.vx_base.specs.Rows.{is_present, null};
 ghost use Rattle.vx_base.specs.Defaults.{default_row};
-ghost use Rattle.vx_base.specs.Refusals.{Gives};
+ghost use Rattle.vx_base.specs.Refusals.{Gives, Refuses};
 ghost use Rattle.vx_base.specs.ValueRows.{row_under};
 ghost use Rattle.vx_tree.specs.Tree.{constant};
 ghost use Rattle.vx_tree.specs.Layouts.{is_constant};
@@ -12,11 +13,15 @@ ghost use Rattle.vx_tree.specs.Meaning.{tree_len, kind_of, row_at, is_valid_at, 
 ghost use Rattle.vx_tree.specs.Shapes.{state_of, row_state};
 ghost use Rattle.vx_tree.specs.Formed.{ValidFits};
 ghost use Rattle.vx_tree.specs.Parts.{valid_of};
+ghost use Rattle.vx_tree.specs.Faults.{take_overflow};
+ghost use Rattle.vx_tree.specs.Canonical.{IsCanonical, canonical_fault, nulls_fault, value_fault};
 ghost use Rattle.vx_tree.specs.Operations.{IsSlice, IsSelected, IsNulled, IsNulls, AreBelow};
 
 use crate::array::{ArrayRef, Layout, Validity};
+use crate::plain_rows::is_countable;
+use crate::plain_values::{plain_numbers, plain_texts, plain_truths};
 use std::alloc::Global;
-use vx_base::{Scalar, ScalarValue, Selection, VortexError};
+use vx_base::{DType, Scalar, ScalarValue, Selection, VortexError};
 
 impl ArrayRef {
     /// The row `len` times.
@@ -93,6 +98,24 @@ impl ArrayRef {
         constant_or_null(alloc, scalar, len, nulls)
     }
 
+    // The one row in plain layout, taken over and over; rows of null are made at once.
+    #[tactic(auto, using(crate::proofs::Blanks::null_rows))]
+    pub(crate) fn canonical_constant(&self, alloc: Global) -> Result<ArrayRef, VortexError>
+        requires { is_constant self.now ≡ true }
+        ensures ok { IfOk result (IsCanonical self.now) }
+        ensures refuses { Refuses result (canonical_fault self.now) }
+    {
+        let Layout::Constant { scalar, len } = self.layout() else {
+            unreachable!();
+        };
+        if scalar.is_null() {
+            return null_rows(alloc, scalar.dtype(), *len);
+        }
+        let row = plain_row(alloc, scalar)?;
+        let zeroes = vec![in alloc; 0; *len]?;
+        Ok(row.select_within(alloc, &Selection::at_positions(&zeroes))?)
+    }
+
     // The value of each row, `None` where they are null, its parts shared.
     pub(crate) fn constant_value(&self, alloc: Global) -> Result<Option<ScalarValue>, VortexError>
         requires { is_constant self.now ≡ true }
@@ -137,6 +160,38 @@ fn constant_or_null(
     let codes = ArrayRef::zero_codes(alloc, len, nulls)?;
     let values = ArrayRef::constant(alloc, row, 1)?;
     ArrayRef::dictionary(alloc, codes, values, false)
+}
+
+// The one row in plain layout.
+#[tactic(auto, using(crate::proofs::PlainTexts::one_text))]
+fn plain_row(alloc: Global, scalar: &Scalar) -> Result<ArrayRef, VortexError>
+    ensures ok { IfOk result (IsCanonical (constant scalar.now.kind scalar.now.row 1)) }
+    ensures few { IfOk result (λ a. (n : ℕ) → take_overflow a n ≡ None) }
+    ensures refuses { Refuses result (value_fault scalar.now.kind) }
+{
+    let dtype = scalar.dtype();
+    let values = std::slice::from_ref(scalar.value());
+    match dtype {
+        DType::Bool(_) => Ok(plain_truths(alloc, dtype, values)?),
+        DType::Primitive(_, _) => Ok(plain_numbers(alloc, dtype, values)?),
+        DType::Utf8(_) | DType::Binary(_) => Ok(plain_texts(alloc, dtype, values)?),
+        DType::List(_, _) | DType::FixedSizeList(_, _, _) => Err(VortexError::NotImplemented),
+        DType::Struct(_, _) => Err(VortexError::NotImplemented),
+    }
+}
+
+// Rows of null of a data type in plain layout.
+#[tactic(auto, using(crate::proofs::Blanks::null_rows))]
+fn null_rows(alloc: Global, dtype: &DType, len: usize) -> Result<ArrayRef, VortexError>
+    requires { is_nullable_kind (dtype_meaning dtype.now) ≡ true }
+    ensures ok { IfOk result (IsCanonical (constant (dtype_meaning dtype.now) null len)) }
+    ensures refuses { Refuses result (nulls_fault (dtype_meaning dtype.now) len) }
+{
+    Scalar::default_value(alloc, dtype.try_clone(alloc)?)?;
+    if !is_countable(dtype, len) {
+        return Err(VortexError::Overflow);
+    }
+    Ok(ArrayRef::blank(alloc, dtype, len, Validity::AllInvalid)?)
 }
 
 // The validity of rows that are all this one.

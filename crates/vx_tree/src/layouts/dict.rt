@@ -1,7 +1,7 @@
 // Values that codes refer to.
 
-ghost use Rattle.std.specs.Prelude.{◌≡◌, ◌<◌, ◌≤◌, ◌-◌, ℕ, true, false, IfSome, IsSome, is_some};
-ghost use Rattle.vx_base.specs.Refusals.{Gives};
+ghost use Rattle.std.specs.Prelude.{◌≡◌, ◌<◌, ◌≤◌, ◌-◌, ℕ, true, false, IfOk, IfSome, IsSome, is_some};
+ghost use Rattle.vx_base.specs.Refusals.{Gives, Refuses};
 ghost use Rattle.vx_base.specs.ValueRows.{row_under};
 ghost use Rattle.vx_base.specs.Kinds.{is_integers, is_plain_integers};
 ghost use Rattle.vx_base.specs.Rows.{is_present, position_in};
@@ -10,6 +10,8 @@ ghost use Rattle.vx_tree.specs.Layouts.{is_dictionary};
 ghost use Rattle.vx_tree.specs.Meaning.{tree_len, kind_of, row_at, is_valid_at};
 ghost use Rattle.vx_tree.specs.Formed.{ValidFits, IsCode, IsDictionary};
 ghost use Rattle.vx_tree.specs.Parts.{valid_of};
+ghost use Rattle.vx_tree.specs.Plain.{IsPlain};
+ghost use Rattle.vx_tree.specs.Canonical.{IsCanonical, canonical_fault, plain_overflow};
 ghost use Rattle.vx_tree.specs.Operations.{IsSlice, IsSelected, IsNulled, IsNulls, IsValidityOf, AreBelow};
 
 use crate::array::{ArrayRef, Layout, Validity};
@@ -118,6 +120,42 @@ impl ArrayRef {
         let codes = codes.nulls(alloc, len, nulls)?;
         let values = values.try_clone(alloc)?;
         ArrayRef::dictionary(alloc, codes, values, false)
+    }
+
+    // The canonical values, taken by the codes.
+    #[cycle(canonical)]
+    pub(crate) fn canonical_dictionary(&self, alloc: Global) -> Result<ArrayRef, VortexError>
+        requires { is_dictionary self.now ≡ true }
+        ensures ok { IfOk result (IsCanonical self.now) }
+        ensures refuses { Refuses result (canonical_fault self.now) }
+    {
+        let Layout::Dict { codes, values, .. } = self.layout() else {
+            unreachable!();
+        };
+        let values = values.canonical(alloc)?;
+        let named = values.named_by(alloc, codes)?;
+        Ok(named)
+    }
+
+    // The values that codes name, in plain layout. Asks that the values are in plain layout.
+    #[tactic(auto, using(crate::proofs::PlainKinds::plain_kinds))]
+    pub(crate) fn named_by(&self, alloc: Global, codes: &ArrayRef) -> Result<ArrayRef, VortexError>
+        requires plain { IsPlain self.now }
+        requires codes { IsDictionary codes.now self.now false }
+        ensures ok { IfOk result (IsCanonical (dictionary codes.now self.now false)) }
+        ensures refuses { Refuses result (plain_overflow (kind_of self.now) (tree_len codes.now)) }
+    {
+        self.known();
+        if !self.can_select(codes.len()) {
+            return Err(VortexError::Overflow);
+        }
+        let nulls = codes.validity(alloc)?.canonical(alloc, codes.len())?;
+        if self.is_empty() {
+            return Ok(self.plain_nulls(alloc, codes.len(), &nulls)?);
+        }
+        let positions = codes.positions(alloc, self.len())?;
+        let selected = self.select_within(alloc, &Selection::at_positions(&positions))?;
+        Ok(selected.nulled(alloc, &nulls)?)
     }
 
     // The position below `len` that the code of row `i` names: none where it is null.

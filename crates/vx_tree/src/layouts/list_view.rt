@@ -1,20 +1,26 @@
 // Lists that lie anywhere among shared elements.
 
-ghost use Rattle.std.specs.Prelude.{◌≡◌, ◌<◌, ◌≤◌, ◌-◌, ℕ, true, false};
-ghost use Rattle.vx_base.specs.Refusals.{Gives};
+ghost use Rattle.std.specs.Prelude.{◌≡◌, ◌<◌, ◌≤◌, ◌-◌, ℕ, true, false, IfOk, ◌+◌, ◌^◌, ◌++◌, map};
+ghost use Rattle.vx_base.specs.Refusals.{Gives, Refuses};
+ghost use Rattle.std.specs.List.{All};
 ghost use Rattle.vx_base.specs.Rows.{count_in};
 ghost use Rattle.vx_base.specs.ValueRows.{row_under};
 ghost use Rattle.vx_tree.specs.Tree.{list_view};
-ghost use Rattle.vx_tree.specs.Layouts.{is_list_view};
-ghost use Rattle.vx_tree.specs.Meaning.{tree_len, kind_of, row_at, is_valid_at};
+ghost use Rattle.vx_tree.specs.Layouts.{is_list_view, is_primitive};
+ghost use Rattle.vx_tree.specs.Joined.{joined_len, elements_in, counts_in, offsets_from, joined_sizes, AreLists, IsCountsOf, IsJoined, IsValidJoined};
+ghost use Rattle.vx_base.specs.Kinds.{lists};
+ghost use Rattle.vx_tree.specs.Meaning.{tree_len, kind_of, row_at, is_valid_at, nullable};
 ghost use Rattle.vx_tree.specs.Formed.{ValidFits, IsCounts, WellFormed};
 ghost use Rattle.vx_tree.specs.Parts.{valid_of};
+ghost use Rattle.vx_tree.specs.Canonical.{IsCanonical, canonical_fault};
 ghost use Rattle.vx_tree.specs.Operations.{IsSlice, IsSelected, IsNulled, IsNulls, AreBelow};
 
 use crate::array::{ArrayRef, Layout, Validity};
 use crate::indices::to_position;
 use std::alloc::Global;
-use vx_base::{ScalarValue, ScalarValues, Selection, VortexError};
+use vx_base::{
+    PType, ScalarValue, ScalarValues, Selection, VortexError, read_counts, write_counts,
+};
 
 impl ArrayRef {
     /// Lists, null where the validity is false. Asks that offsets and sizes are counts, as many of
@@ -41,6 +47,29 @@ impl ArrayRef {
                 flag,
             },
         )
+    }
+
+    // The lists of arrays, one array after another, under the validity of them; offsets and sizes
+    // become numbers of type U64. Asks that the elements are those of the arrays, one array after
+    // another.
+    pub(crate) fn join_list_views(
+        alloc: Global,
+        elements: ArrayRef,
+        arrays: &[ArrayRef],
+        len: usize,
+        validity: Validity,
+    ) -> Result<ArrayRef, VortexError>
+        requires lists { All AreLists arrays.now }
+        requires elements { IsJoined (kind_of elements) (map elements_in arrays.now) elements }
+        requires valid { IsValidJoined (nullable (valid_of validity)) arrays.now (valid_of validity) }
+        ensures { Gives result (IsJoined (lists (kind_of elements) (nullable (valid_of validity))) arrays.now) }
+    {
+        elements.known_len();
+        let places = joined_offsets(alloc, arrays, len)?;
+        let offsets = counts_array(alloc, &places)?;
+        let counts = joined_sizes(alloc, arrays, len)?;
+        let sizes = counts_array(alloc, &counts)?;
+        ArrayRef::list_view(alloc, elements, offsets, sizes, validity, false)
     }
 
     #[cycle(slice)]
@@ -169,6 +198,31 @@ impl ArrayRef {
         ArrayRef::list_view(alloc, elements, offsets, sizes, validity, false)
     }
 
+    #[cycle(canonical)]
+    pub(crate) fn canonical_list_view(&self, alloc: Global) -> Result<ArrayRef, VortexError>
+        requires { is_list_view self.now ≡ true }
+        ensures ok { IfOk result (IsCanonical self.now) }
+        ensures refuses { Refuses result (canonical_fault self.now) }
+    {
+        let Layout::ListView {
+            elements,
+            offsets,
+            sizes,
+            validity,
+            flag,
+        } = self.layout()
+        else {
+            unreachable!();
+        };
+        let elements = elements.canonical(alloc)?;
+        let validity = validity.canonical(alloc, offsets.len())?;
+        let offsets = offsets.canonical(alloc)?;
+        let sizes = sizes.canonical(alloc)?;
+        let flag = *flag;
+        let lists = ArrayRef::list_view(alloc, elements, offsets, sizes, validity, flag)?;
+        Ok(lists)
+    }
+
     // The list that row `i` is, `None` where it is null.
     #[cycle(value)]
     #[tactic(auto, using(crate::specs::Formed::valid_reads))]
@@ -210,4 +264,97 @@ impl ArrayRef {
             None => unreachable!(),
         }
     }
+}
+
+// The counts that the rows of an array of plain numbers are, each further by `base`, are added to
+// these. Asks that the sums can be counted.
+pub(crate) fn add_counts(
+    alloc: Global,
+    counts: &ArrayRef,
+    base: usize,
+    out: &mut Vec<usize>,
+) -> Result<(), VortexError>
+    requires layout { is_primitive counts.now ≡ true }
+    requires counts { IsCounts counts.now }
+    requires short { All (λ n. base + n < 2 ^ 64) (counts_in counts.now) }
+    ensures { Gives result (λ _. out.new.items ≡ out.old.items ++ map (λ n. base + n) (counts_in counts.now)) }
+{
+    let numbers = plain_counts(alloc, counts)?;
+    for number in &numbers {
+        out.push(base + *number)?;
+    }
+    Ok(())
+}
+
+// The counts that the rows of an array of plain numbers are.
+fn plain_counts(alloc: Global, counts: &ArrayRef) -> Result<Vec<usize>, VortexError>
+    requires layout { is_primitive counts.now ≡ true }
+    requires counts { IsCounts counts.now }
+    ensures { Gives result (λ ns. ns.items ≡ counts_in counts.now) }
+{
+    let Layout::Primitive { ptype, bytes, .. } = counts.layout() else {
+        unreachable!();
+    };
+    read_counts(alloc, *ptype, bytes.as_slice())
+}
+
+// The sizes of arrays of lists, one array after another, of which there are `len`.
+pub(crate) fn joined_sizes(
+    alloc: Global,
+    arrays: &[ArrayRef],
+    len: usize,
+) -> Result<Vec<usize>, VortexError>
+    requires { All AreLists arrays.now }
+    ensures { Gives result (λ ns. ns.items ≡ joined_sizes arrays.now) }
+{
+    let mut joined = Vec::with_capacity(alloc, len)?;
+    for array in arrays {
+        let Layout::ListView {
+            elements,
+            sizes,
+            ..
+        } = array.layout()
+        else {
+            unreachable!();
+        };
+        elements.known_len();
+        add_counts(alloc, sizes, 0, &mut joined)?;
+    }
+    Ok(joined)
+}
+
+// The offsets of arrays of lists, one array after another, of which there are `len`, each further
+// by the elements of the arrays before. Asks that the elements can be counted.
+pub(crate) fn joined_offsets(
+    alloc: Global,
+    arrays: &[ArrayRef],
+    len: usize,
+) -> Result<Vec<usize>, VortexError>
+    requires lists { All AreLists arrays.now }
+    requires short { joined_len (map elements_in arrays.now) < 2 ^ 64 }
+    ensures { Gives result (λ ns. ns.items ≡ offsets_from 0 arrays.now) }
+{
+    let mut joined = Vec::with_capacity(alloc, len)?;
+    let mut base = 0usize;
+    for array in arrays {
+        let Layout::ListView {
+            elements,
+            offsets,
+            ..
+        } = array.layout()
+        else {
+            unreachable!();
+        };
+        add_counts(alloc, offsets, base, &mut joined)?;
+        base += elements.len();
+    }
+    Ok(joined)
+}
+
+// Plain numbers that are these counts.
+pub(crate) fn counts_array(alloc: Global, counts: &[usize]) -> Result<ArrayRef, VortexError>
+    ensures { Gives result (IsCountsOf counts.now) }
+{
+    let bytes = write_counts(alloc, PType::U64, counts)?;
+    ArrayRef::primitive(alloc, PType::U64, bytes, Validity::NonNullable)
 }

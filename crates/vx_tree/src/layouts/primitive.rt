@@ -2,13 +2,17 @@
 
 ghost use Rattle.std.specs.Prelude.{◌≡◌, ◌<◌, ◌≤◌, ◌-◌, ◌*◌, ℕ, pos, true, false, length, map, replicate, IfOk};
 ghost use Rattle.vx_base.specs.Integers.{byte_width, numbers};
+ghost use Rattle.std.specs.List.{All, flat_map};
+ghost use Rattle.vx_base.specs.Kinds.{integers};
 ghost use Rattle.vx_base.specs.Refusals.{Gives};
 ghost use Rattle.vx_base.specs.ValueRows.{row_under};
 ghost use Rattle.vx_tree.specs.Tree.{primitive};
 ghost use Rattle.vx_tree.specs.Layouts.{is_primitive};
-ghost use Rattle.vx_tree.specs.Meaning.{tree_len, kind_of, row_at, is_valid_at};
+ghost use Rattle.vx_tree.specs.Meaning.{tree_len, kind_of, row_at, is_valid_at, nullable};
+ghost use Rattle.vx_tree.specs.Joined.{IsJoined, IsValidJoined, AreNumbers, bytes_in};
 ghost use Rattle.vx_tree.specs.Formed.{ValidFits, WellFormed};
 ghost use Rattle.vx_tree.specs.Parts.{valid_of};
+ghost use Rattle.vx_tree.specs.Canonical.{IsCanonical};
 ghost use Rattle.vx_tree.specs.Operations.{IsSlice, IsSelected, IsNulled, IsNulls, IsZeroes, IsZeroCodes, AreBelow};
 
 use crate::array::{ArrayRef, Layout, Validity};
@@ -143,6 +147,22 @@ impl ArrayRef {
         ArrayRef::primitive(alloc, *ptype, zero_numbers(alloc, *ptype, len)?, validity)
     }
 
+    pub(crate) fn canonical_primitive(&self, alloc: Global) -> Result<ArrayRef, VortexError>
+        requires { is_primitive self.now ≡ true }
+        ensures { Gives result (IsCanonical self.now) }
+    {
+        let Layout::Primitive {
+            ptype,
+            bytes,
+            validity,
+        } = self.layout()
+        else {
+            unreachable!();
+        };
+        let validity = validity.canonical(alloc, self.len())?;
+        ArrayRef::primitive(alloc, *ptype, bytes.try_clone(alloc)?, validity)
+    }
+
     // The value of row `i`, `None` where it is null.
     #[tactic(auto, using(crate::specs::Formed::valid_reads))]
     pub(crate) fn number_value(&self, i: usize) -> Option<ScalarValue>
@@ -185,13 +205,49 @@ impl ArrayRef {
         let bytes = zero_numbers(alloc, PType::U8, len)?;
         ArrayRef::primitive(alloc, PType::U8, bytes, nulls.try_clone(alloc)?)
     }
+
+    // The numbers of arrays of one type, one array after another, under the validity of them.
+    pub(crate) fn join_primitives(
+        alloc: Global,
+        ptype: PType,
+        arrays: &[ArrayRef],
+        len: usize,
+        validity: Validity,
+    ) -> Result<ArrayRef, VortexError>
+        requires numbers { All (AreNumbers ptype) arrays.now }
+        requires valid { IsValidJoined (nullable (valid_of validity)) arrays.now (valid_of validity) }
+        ensures { Gives result (IsJoined (integers ptype (nullable (valid_of validity))) arrays.now) }
+    {
+        let size = len.saturating_mul(ptype.byte_width());
+        let bytes = ByteBuffer::from_vec(alloc, joined_bytes(alloc, arrays, size)?)?;
+        ArrayRef::primitive(alloc, ptype, bytes, validity)
+    }
 }
 
 // Numbers that are all 0.
-fn zero_numbers(alloc: Global, ptype: PType, len: usize) -> Result<ByteBuffer, VortexError>
+pub(crate) fn zero_numbers(
+    alloc: Global,
+    ptype: PType,
+    len: usize,
+) -> Result<ByteBuffer, VortexError>
     ensures zeroes { Gives result (λ b. numbers ptype b ≡ map pos (replicate len 0)) }
     ensures whole { IfOk result (λ b. length b ≡ len * byte_width ptype) }
 {
     let counts = vec![in alloc; 0; len]?;
     write_counts(alloc, ptype, &counts)
+}
+
+// The bytes of arrays of numbers, one array after another.
+fn joined_bytes(alloc: Global, arrays: &[ArrayRef], size: usize) -> Result<Vec<u8>, VortexError>
+    requires { All (λ t. is_primitive t ≡ true) arrays.now }
+    ensures { Gives result (λ bytes. bytes.items ≡ flat_map bytes_in arrays.now) }
+{
+    let mut joined = Vec::with_capacity(alloc, size)?;
+    for array in arrays {
+        let Layout::Primitive { bytes, .. } = array.layout() else {
+            unreachable!();
+        };
+        joined.extend_from_slice(bytes.as_slice())?;
+    }
+    Ok(joined)
 }

@@ -15,6 +15,7 @@ ghost use Rattle.vx_tree.specs.Values.{bytes_in};
 ghost use Rattle.vx_tree.specs.Formed.{ValidFits, WellFormed};
 ghost use Rattle.vx_tree.specs.Fitting.{AreViews};
 ghost use Rattle.vx_tree.specs.Parts.{valid_of};
+ghost use Rattle.vx_tree.specs.Canonical.{IsCanonical};
 ghost use Rattle.vx_tree.specs.Operations.{IsSlice, IsSelected, IsNulled, IsNulls, AreBelow, valid_view};
 
 use crate::array::{ArrayRef, Layout, Validity};
@@ -161,6 +162,26 @@ impl ArrayRef {
             .try_clone(alloc)?
             .union_nullability(nulls.nullability());
         let validity = validity.nulls(alloc, len, nulls)?;
+        ArrayRef::var_bin_view(alloc, views, buffers, dtype, validity)
+    }
+
+    pub(crate) fn canonical_views(&self, alloc: Global) -> Result<ArrayRef, VortexError>
+        requires { is_view_array self.now ≡ true }
+        ensures { Gives result (IsCanonical self.now) }
+    {
+        let Layout::VarBinView {
+            views,
+            buffers,
+            dtype,
+            validity,
+        } = self.layout()
+        else {
+            unreachable!();
+        };
+        let validity = validity.canonical(alloc, views.len())?;
+        let views = views.try_clone(alloc)?;
+        let buffers = share_buffers(alloc, buffers)?;
+        let dtype = dtype.try_clone(alloc)?;
         ArrayRef::var_bin_view(alloc, views, buffers, dtype, validity)
     }
 

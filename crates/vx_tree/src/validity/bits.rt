@@ -94,7 +94,11 @@ fn of_bits(
 }
 
 // One truth value, `len` times.
-fn constant_truth(alloc: Global, value: bool, len: usize) -> Result<ArrayRef, VortexError>
+pub(crate) fn constant_truth(
+    alloc: Global,
+    value: bool,
+    len: usize,
+) -> Result<ArrayRef, VortexError>
     ensures { Gives result (λ a. a ≡ constant (booleans false) (boolean value) len) }
 {
     ArrayRef::constant(alloc, Scalar::bool(value, Nullability::NonNullable), len)

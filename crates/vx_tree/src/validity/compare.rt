@@ -10,10 +10,10 @@ ghost use Rattle.vx_tree.specs.Faults.{valid_type_fault};
 ghost use Rattle.vx_tree.specs.Validities.{full_valid, valid_from};
 
 use crate::array::Validity;
-use crate::validity::patch::copy_mask;
+use crate::validity::join::bits_of_mask;
 use crate::validity::told_by;
 use std::alloc::Global;
-use vx_base::{BitBuffer, Mask, Nullability, VortexError};
+use vx_base::{Mask, Nullability, VortexError};
 
 impl Validity {
     /// Whether the same of `len` rows are valid in both. Asks that an array has `len` rows. Refuses
@@ -57,9 +57,7 @@ fn of_mask(alloc: Global, mask: &Mask, nullability: Nullability) -> Result<Valid
     if true_count == 0 {
         return Ok(Validity::AllInvalid);
     }
-    let mut truths = vec![in alloc; false; mask.len()]?;
-    copy_mask(mask, &mut truths);
-    told_by(alloc, BitBuffer::from_bools(alloc, &truths)?)
+    told_by(alloc, bits_of_mask(alloc, mask)?)
 }
 
 // Whether two masks have the same booleans. Asks that both are as long.

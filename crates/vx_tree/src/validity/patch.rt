@@ -52,7 +52,7 @@ impl Validity {
     }
 
     // Whether both are one state without an array.
-    fn is_unchanged(&self, patches: &Validity) -> bool
+    pub(crate) fn is_unchanged(&self, patches: &Validity) -> bool
         ensures { result ≡ is_unchanged (valid_of self.now) (valid_of patches.now) }
     {
         match self {
@@ -87,7 +87,7 @@ impl Validity {
     }
 
     // Whether the array, where there is one, is one of plain booleans.
-    fn check_type(&self) -> Result<(), VortexError>
+    pub(crate) fn check_type(&self) -> Result<(), VortexError>
         ensures { Tests result (valid_type_fault (valid_of self.now)) }
     {
         let Validity::Array(array) = self else {

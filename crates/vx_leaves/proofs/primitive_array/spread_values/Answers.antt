@@ -1,4 +1,4 @@
-use Rattle.std.proofs.Common.{◌≡◌, ◌*◌, ◌<◌, ◌^◌, length, count_by, inr, sym, ap, ◌∙◌, arith}
+use Rattle.std.proofs.Common.{◌*◌, ◌<◌, ◌^◌, length, count_by, inr, ap, ◌∙◌, arith}
 use Rattle.vx_base.specs.Integers.{byte_width}
 use Rattle.vx_tree.specs.Meaning.{valid_mask}
 use Rattle.vx_tree.specs.Parts.{valid_of}

@@ -1,5 +1,5 @@
-use Rattle.std.proofs.Common.{◌≡◌, ◌*◌, length, sym, ap, ◌∙◌, refl, arith}
-use Rattle.vx_base.specs.Integers.{byte_width, numbers}
+use Rattle.std.proofs.Common.{◌≡◌, length, sym, refl, arith}
+use Rattle.vx_base.specs.Integers.{numbers}
 use Rattle.vx_base.proofs.Refused.{Gives-IfOk}
 use Rattle.vx_tree.specs.Meaning.{valid_mask}
 use Rattle.vx_tree.specs.Parts.{valid_of}

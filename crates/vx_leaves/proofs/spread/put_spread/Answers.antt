@@ -1,7 +1,6 @@
-use Rattle.std.proofs.Common.{rules, ◌≡◌, ◌-◌, ◌+◌, ◌*◌, ◌<◌, ◌∷◌, ◌++◌, [], cond, length, take, count_by, sym, ap, ◌∙◌, arith}
-use Rattle.std.specs.Prelude.{pos}
+use Rattle.std.proofs.Common.{rules, ◌≡◌, ◌-◌, ◌+◌, ◌*◌, ◌<◌, ◌∷◌, ◌++◌, [], length, take, count_by, sym, ap, ◌∙◌, arith}
 use Rattle.vx_base.specs.Bits.{bool_at}
-use Rattle.vx_base.specs.Integers.{byte_width, numbers, number_nth}
+use Rattle.vx_base.specs.Integers.{byte_width, numbers}
 use Rattle.vx_base.proofs.NumberLists.{numbers_written, numbers_start}
 use Rattle.vx_leaves.specs.Spread.{spread}
 use Rattle.vx_leaves.proofs.SpreadRows.{spread_more, count_more, count_small, value_room, number_is, next_is}

@@ -1,4 +1,4 @@
-use Rattle.std.proofs.Common.{ℕ, ◌≤◌, ◌-◌, ◌≡◌, ◌++◌, ap, ◌∙◌, arith}
+use Rattle.std.proofs.Common.{◌-◌, ◌≡◌, ◌++◌, ap, ◌∙◌, arith}
 use Rattle.std.specs.List.{range_with_len}
 use Rattle.vx_lists.proofs.PlannedRows.{one_position_more, run_size}
 use Rattle.vx_lists.proofs.rebuild_plan.push_run.Goals as goal

@@ -3,7 +3,7 @@ use Rattle.std.proofs.lemmas.Bool.{eqb-true}
 use Rattle.vx_base.specs.Integers.{numbers}
 use Rattle.vx_lists.specs.CountBytes.{counts_of}
 use Rattle.vx_lists.proofs.CountBytes.{length-counts_of}
-use Rattle.vx_lists.proofs.PlannedRows.{AreRuns, AreRuns-grow, AreRuns-next, AreRuns-all}
+use Rattle.vx_lists.proofs.PlannedRows.{AreRuns-grow, AreRuns-next}
 use Rattle.vx_lists.proofs.rebuild_plan.typed_runs.Goals as goal
 use Rattle.vx_lists.proofs.rebuild_plan.typed_runs.Goals.{then-meets, else-meets+in_ok-push, then-size-eq0, else-size-eq0}
 

@@ -1,7 +1,6 @@
 use Rattle.std.proofs.Common.{ℕ, List, length, ◌*◌, rules, ap, subst, sym, ◌∙◌, ◌≡◌, [], None, arith}
 use Rattle.std.specs.List.{flat_map}
 use Rattle.vx_base.specs.Selections.{run_positions}
-use Rattle.std.specs.Prelude.{slice_index}
 use denote.Param.Weighed.{at_most}
 use Rattle.vx_tree.specs.declared.array.ArrayRef.TheDeep.{size-ArrayRef}
 use Rattle.vx_tree.specs.Parts.{tree_of, valid_of}
@@ -16,7 +15,7 @@ use Rattle.vx_tree.proofs.FixedLists.{lists_long, elements_selected, fixed_lists
 use Rattle.vx_base.specs.DTypes.{dtype_meaning}
 use Rattle.vx_tree.proofs.ViewArrays.{selected_rows, rows_formed, views_selected}
 use Rattle.vx_tree.specs.Faults.{take_overflow, columns_overflow}
-use Rattle.vx_tree.proofs.Columns.{IsRowsAt, IsRowsAt-selected, AreRowsAt-from_each, AllHave-at, AllHave-from_len, countable-at, AllZip-next, columns_below, struct_selected}
+use Rattle.vx_tree.proofs.Columns.{AreSelected-from_each, AllHave-at, AllHave-from_len, countable-at, AllZip-next, columns_below, struct_selected}
 use Rattle.vx_tree.proofs.array.+select.Goals as goal
 
 pub ArrayRef::select_list_view-returns : goal.ArrayRef::select_list_view-returns
@@ -100,7 +99,7 @@ ArrayRef::select_views-returns t c =
     let shared : c.in_ok-buffers.buffers.items ≡ buffers = c.in_ok-buffers.ensures ∙ c.deref.ensures.value in
     let kind : dtype_meaning c.in_ok-dtype.dtype ≡ k = c.in_ok-dtype.ensures in
     let rows = selected_rows views c.in_ok-views.views v w ps (rw c.as_slice.ensures at (c.in_ok-views.ensures [])) (rw same at c.requires.within) c.in_ok-validity.ensures in
-    Gives-weaker c.var_bin_view.result _ _ (λ a e. views_selected c.args.self.now a views buffers c.in_ok-views.views k v w ps same (rw (shared, kind) at e) rows) c.var_bin_view.ensures
+    Gives-weaker c.var_bin_view.result _ _ (λ a e. views_selected c.args.self.now a views buffers c.in_ok-views.views k v w ps same (rw (shared, kind) at e) rows c.in_ok-validity.ensures) c.var_bin_view.ensures
 
 pub ArrayRef::select_struct-select_columns-requires : goal.ArrayRef::select_struct-select_columns-requires
 ArrayRef::select_struct-select_columns-requires t c =
@@ -126,12 +125,12 @@ ArrayRef::select_columns-select_within-requires t c =
 pub ArrayRef::select_columns-loop-column-preserved : goal.ArrayRef::select_columns-loop-column-preserved
 ArrayRef::select_columns-loop-column-preserved t c =
     let ps = c.args.selection.now in
-    AllZip-next (λ x y. IsRowsAt x (slice_index ps) (length ps) y) c.args.columns.now c.loop-column.selected.items c.push.new.self.items c.loop-column.column-index c.column-item.result c.in_ok-select_within.field-0
-    c.loop-column.invariant c.loop-column-test.true c.column-item.is (IsRowsAt-selected c.column-item.result ps c.in_ok-select_within.field-0 c.in_ok-select_within.ensures) c.in_ok-push.ensures.items
+    AllZip-next (λ x y. IsSelected x ps y) c.args.columns.now c.loop-column.selected.items c.push.new.self.items c.loop-column.column-index c.column-item.result c.in_ok-select_within.field-0
+    c.loop-column.invariant c.loop-column-test.true c.column-item.is c.in_ok-select_within.ensures c.in_ok-push.ensures.items
 
 pub ArrayRef::select_columns-returns : goal.ArrayRef::select_columns-returns
 ArrayRef::select_columns-returns t c =
-    AreRowsAt-from_each (slice_index c.args.selection.now) (length c.args.selection.now) c.args.columns.now c.loop-column.selected.items c.loop-column.column-index c.loop-column.invariant c.loop-column-test.false
+    AreSelected-from_each c.args.selection.now c.args.columns.now c.loop-column.selected.items c.loop-column.column-index c.loop-column.invariant c.loop-column-test.false
 
 pub ArrayRef::select_struct-select_within-requires : goal.ArrayRef::select_struct-select_within-requires
 ArrayRef::select_struct-select_within-requires t c =

@@ -1,0 +1,58 @@
+-- Dictionaries: their parts, the fault of these, and which values are referenced.
+use Rattle.std.specs.Prelude.{◌≡◌, ◌<◌, ◌↔◌, ℕ, Bool, true, false, List, codes, Option, Some, length, slice_index, if◌then◌else◌}
+use Rattle.vx_base.specs.Bits.{bool_at}
+use Rattle.vx_base.specs.Kinds.{is_integers}
+use Rattle.vx_base.specs.Refusals.{Refusal, mismatched_types}
+use Rattle.vx_base.specs.Rows.{position_in}
+use Rattle.vx_tree.specs.Tree.{Tree, dictionary}
+use Rattle.vx_tree.specs.Meaning.{tree_len, kind_of, row_at}
+use Rattle.vx_tree.specs.Faults.{indices_fault}
+pub use Rattle.vx_tree.specs.Layouts.{is_dictionary}
+
+-- ---- the parts of an array of its layout
+
+-- the codes, one a row
+abbrev pub codes_in : Tree → Tree
+codes_in (dictionary c v f) = c
+codes_in t = t
+
+-- the values that the codes name
+abbrev pub values_in : Tree → Tree
+values_in (dictionary c v f) = v
+values_in t = t
+
+-- whether it is known that every value is referenced
+abbrev pub referenced_flag : Tree → Bool
+referenced_flag (dictionary c v f) = f
+referenced_flag t = false
+
+-- codes that are no integers, then the first valid one that is no position of a value
+abbrev pub dictionary_fault : Tree → Tree → Option Refusal
+dictionary_fault c v = if is_integers (kind_of c) then indices_fault (tree_len v) c else Some mismatched_types
+
+-- ---- referenced values
+
+-- some valid code is j
+abbrev pub IsReferenced : Tree → ℕ → Type 0
+IsReferenced c j = (i : ℕ) × (i < tree_len c) × (position_in (row_at c i) ≡ Some j)
+
+-- a boolean for each value of a dictionary: r exactly where some valid code names it
+pub record MarksReferenced (t : Tree) (r : Bool) (bits : List Bool) : Type 0 where
+  pub len : length bits ≡ tree_len (values_in t)
+  pub each : (j : ℕ) → j < tree_len (values_in t) → (bool_at bits j ≡ r) ↔ IsReferenced (codes_in t) j
+
+-- one of the first n codes that count is j
+abbrev pub IsNamed : List ℕ → (ℕ → Bool) → ℕ → ℕ → Type 0
+IsNamed ps counts n j = (i : ℕ) × (i < n) × (counts i ≡ true) × (slice_index ps i ≡ j)
+
+-- a boolean is r exactly where one of the first n codes that count names it
+pub record AreNamed (ps : List ℕ) (counts : ℕ → Bool) (n count : ℕ) (r : Bool) (bits : List Bool) : Type 0 where
+  pub len : length bits ≡ count
+  pub each : (j : ℕ) → j < count → (bool_at bits j ≡ r) ↔ IsNamed ps counts n j
+
+-- ---- printing
+
+-- how the data of a dictionary is printed
+abbrev pub data_text : Bool → List ℕ
+data_text true = codes "all_values_referenced: true"
+data_text false = codes "all_values_referenced: false"

@@ -1,0 +1,290 @@
+// Numbers in the narrowest type that has them.
+
+ghost use Rattle.std.specs.Prelude.{◌≡◌, ◌≤◌, ◌<◌, ◌*◌, ℤ, pos, length, if◌then◌else◌, ◌&&◌, true, [], ◌∷◌, IfOk};
+ghost use Rattle.std.specs.Int.Signed.{le_z};
+ghost use Rattle.std.specs.List.{All};
+ghost use Rattle.vx_base.specs.Integers.{byte_width, numbers, number_nth, least, greatest, Holds};
+ghost use Rattle.vx_base.specs.Refusals.{Gives};
+ghost use Rattle.vx_leaves.specs.Narrow.{IsNarrowed, IsSpan, narrowed_type, type_between, first_that_covers, covers, kept, zeroed};
+
+use crate::primitive_array::{PrimitiveArray, primitive_array};
+use crate::spread::read_number;
+use std::alloc::Global;
+use vx_base::{
+    ByteBuffer, Mask, NativePType, PType, VortexError, call_native, int_at, number_count, put_int,
+};
+use vx_tree::{TypedArray, rows_fit_their_dtype};
+
+// The same rows in the narrowest type that has the numbers of the valid ones. Of null rows 0 is
+// stored. Where the type stays, the array is shared as it is.
+pub(crate) fn narrowed_array(
+    alloc: Global,
+    array: &PrimitiveArray,
+) -> Result<PrimitiveArray, VortexError>
+    ensures { Gives result (IsNarrowed array.now) }
+{
+    rows_fit_their_dtype(array.as_array());
+    let parts = array.parts();
+    let len = array.len();
+    let mask = parts.validity.execute_mask(alloc, len)?;
+    let bytes = parts.bytes.as_slice();
+    let ptype = narrowed_ptype(parts.ptype, bytes, &mask);
+    if ptype == parts.ptype && !mask.all_false() {
+        return array.try_clone(alloc);
+    }
+    let narrowed = narrowed_bytes(alloc, parts.ptype, ptype, bytes, &mask)?;
+    let validity = parts.validity.try_clone(alloc)?;
+    primitive_array(alloc, ptype, narrowed, len, validity)
+}
+
+// ---- the type
+
+// The narrowed type of the numbers at which the mask is true.
+fn narrowed_ptype(ptype: PType, bytes: &[u8], mask: &Mask) -> PType
+    requires { length mask.now ≡ length (numbers ptype bytes.now) }
+    ensures { result ≡ narrowed_type ptype (kept mask.now (numbers ptype bytes.now)) }
+{
+    let (least, greatest) = span(ptype, bytes, mask);
+    ptype_between(ptype, least, greatest)
+}
+
+// The least and the greatest of the numbers at which the mask is true; the type's greatest and
+// least where it is nowhere.
+fn span(ptype: PType, bytes: &[u8], mask: &Mask) -> (i128, i128)
+    requires { length mask.now ≡ length (numbers ptype bytes.now) }
+    ensures { IsSpan ptype (kept mask.now (numbers ptype bytes.now)) result.0 result.1 }
+{
+    call_native!(ptype, typed_span(bytes, mask))
+}
+
+// The same of numbers of one type.
+fn typed_span<T: NativePType>(bytes: &[u8], mask: &Mask) -> (i128, i128)
+    requires { length mask.now ≡ length (numbers T.PTYPE bytes.now) }
+    ensures { IsSpan T.PTYPE (kept mask.now (numbers T.PTYPE bytes.now)) result.0 result.1 }
+{
+    if mask.all_true() {
+        plain_span::<T>(bytes)
+    } else {
+        masked_span::<T>(bytes, mask)
+    }
+}
+
+// The same of all numbers.
+#[inline(never)]
+fn plain_span<T: NativePType>(bytes: &[u8]) -> (i128, i128)
+    ensures { IsSpan T.PTYPE (numbers T.PTYPE bytes.now) result.0 result.1 }
+{
+    let mut least = greatest_number::<T>();
+    let mut greatest = least_number::<T>();
+    for row in 0..number_count(bytes, T::PTYPE) {
+        let number = read_number::<T>(bytes, row);
+        least = lesser(least, number, true);
+        greatest = greater(greatest, number, true);
+    }
+    (least.as_i128(), greatest.as_i128())
+}
+
+// The same, the mask read for each.
+#[inline(never)]
+fn masked_span<T: NativePType>(bytes: &[u8], mask: &Mask) -> (i128, i128)
+    requires { length mask.now ≡ length (numbers T.PTYPE bytes.now) }
+    ensures { IsSpan T.PTYPE (kept mask.now (numbers T.PTYPE bytes.now)) result.0 result.1 }
+{
+    let mut least = greatest_number::<T>();
+    let mut greatest = least_number::<T>();
+    for row in 0..mask.len() {
+        let is_valid = mask.value(row);
+        let number = read_number::<T>(bytes, row);
+        least = lesser(least, number, is_valid);
+        greatest = greater(greatest, number, is_valid);
+    }
+    (least.as_i128(), greatest.as_i128())
+}
+
+// The greatest number of a type.
+fn greatest_number<T: NativePType>() -> T
+    ensures { T.value result ≡ greatest T.PTYPE }
+{
+    T::from_i128(T::PTYPE.greatest()).unwrap()
+}
+
+// The least number of a type.
+fn least_number<T: NativePType>() -> T
+    ensures { T.value result ≡ least T.PTYPE }
+{
+    T::from_i128(T::PTYPE.least()).unwrap()
+}
+
+// The lesser of two numbers, the first where the second does not count.
+#[inline]
+fn lesser<T: NativePType>(least: T, number: T, counts: bool) -> T
+    ensures { (lo : ℤ) → le_z lo (T.value result)
+        ≡ (le_z lo (T.value least) && (if counts then le_z lo (T.value number) else true)) }
+{
+    if counts && number.as_i128() < least.as_i128() {
+        return number;
+    }
+    least
+}
+
+// The greater of two numbers, the first where the second does not count.
+#[inline]
+fn greater<T: NativePType>(greatest: T, number: T, counts: bool) -> T
+    ensures { (hi : ℤ) → le_z (T.value result) hi
+        ≡ (le_z (T.value greatest) hi && (if counts then le_z (T.value number) hi else true)) }
+{
+    if counts && greatest.as_i128() < number.as_i128() {
+        return number;
+    }
+    greatest
+}
+
+// The narrowed type of numbers from `least` up to `greatest`.
+fn ptype_between(ptype: PType, least: i128, greatest: i128) -> PType
+    ensures { result ≡ type_between ptype least greatest }
+{
+    if greatest > i64::MAX as i128 {
+        return ptype;
+    }
+    if least < 0 {
+        first_of(PType::I8, PType::I16, PType::I32, ptype, least, greatest)
+    } else {
+        first_of(PType::U8, PType::U16, PType::U32, ptype, least, greatest)
+    }
+}
+
+// The first of three types that has all numbers from `least` up to `greatest`, else the other.
+fn first_of(
+    first: PType,
+    second: PType,
+    third: PType,
+    other: PType,
+    least: i128,
+    greatest: i128,
+) -> PType
+    ensures { result ≡ first_that_covers (first ∷ second ∷ third ∷ []) other least greatest }
+{
+    if covers(first, least, greatest) {
+        first
+    } else if covers(second, least, greatest) {
+        second
+    } else if covers(third, least, greatest) {
+        third
+    } else {
+        other
+    }
+}
+
+// Whether a type has all numbers from `least` up to `greatest`.
+fn covers(ptype: PType, least: i128, greatest: i128) -> bool
+    ensures { result ≡ covers ptype least greatest }
+{
+    ptype.least() <= least && greatest <= ptype.greatest()
+}
+
+// ---- the numbers
+
+// The numbers of one type as those of another, 0 where the mask is false.
+fn narrowed_bytes(
+    alloc: Global,
+    from: PType,
+    to: PType,
+    bytes: &[u8],
+    mask: &Mask,
+) -> Result<ByteBuffer, VortexError>
+    requires same_len { length mask.now ≡ length (numbers from bytes.now) }
+    requires holds { All (Holds to) (zeroed mask.now (numbers from bytes.now)) }
+    requires narrower { byte_width to ≤ byte_width from }
+    ensures ok { Gives result (λ b. numbers to b ≡ zeroed mask.now (numbers from bytes.now)) }
+    ensures len { IfOk result (λ b. length b ≡ length mask.now * byte_width to) }
+{
+    call_native!(from, narrowed_from(alloc, to, bytes, mask))
+}
+
+// The same of numbers of one type.
+fn narrowed_from<T: NativePType>(
+    alloc: Global,
+    to: PType,
+    bytes: &[u8],
+    mask: &Mask,
+) -> Result<ByteBuffer, VortexError>
+    requires same_len { length mask.now ≡ length (numbers T.PTYPE bytes.now) }
+    requires holds { All (Holds to) (zeroed mask.now (numbers T.PTYPE bytes.now)) }
+    requires narrower { byte_width to ≤ byte_width T.PTYPE }
+    ensures ok { Gives result (λ b. numbers to b ≡ zeroed mask.now (numbers T.PTYPE bytes.now)) }
+    ensures len { IfOk result (λ b. length b ≡ length mask.now * byte_width to) }
+{
+    call_native!(to, narrowed_to::<T>(alloc, bytes, mask))
+}
+
+// The same of numbers of one type, as those of another.
+fn narrowed_to<T: NativePType, U: NativePType>(
+    alloc: Global,
+    bytes: &[u8],
+    mask: &Mask,
+) -> Result<ByteBuffer, VortexError>
+    requires same_len { length mask.now ≡ length (numbers T.PTYPE bytes.now) }
+    requires holds { All (Holds U.PTYPE) (zeroed mask.now (numbers T.PTYPE bytes.now)) }
+    requires narrower { byte_width U.PTYPE ≤ byte_width T.PTYPE }
+    ensures ok { Gives result (λ b. numbers U.PTYPE b ≡ zeroed mask.now (numbers T.PTYPE bytes.now)) }
+    ensures len { IfOk result (λ b. length b ≡ length mask.now * byte_width U.PTYPE) }
+{
+    let mut narrowed = vec![in alloc; 0u8; mask.len() * U::PTYPE.byte_width()]?;
+    put_numbers::<T, U>(bytes, mask, &mut narrowed);
+    ByteBuffer::from_vec(alloc, narrowed)
+}
+
+// Writes the numbers as those of another type, 0 where the mask is false.
+fn put_numbers<T: NativePType, U: NativePType>(bytes: &[u8], mask: &Mask, out: &mut [u8])
+    requires same_len { length mask.now ≡ length (numbers T.PTYPE bytes.now) }
+    requires holds { All (Holds U.PTYPE) (zeroed mask.now (numbers T.PTYPE bytes.now)) }
+    requires room { length out.old ≡ length mask.now * byte_width U.PTYPE }
+    ensures len { length out.new ≡ length out.old }
+    ensures numbers { numbers U.PTYPE out.new ≡ zeroed mask.now (numbers T.PTYPE bytes.now) }
+{
+    if mask.all_true() {
+        put_plain::<T, U>(bytes, out);
+        return;
+    }
+    put_masked::<T, U>(bytes, mask, out);
+}
+
+// Writes them where none is null.
+#[inline(never)]
+fn put_plain<T: NativePType, U: NativePType>(bytes: &[u8], out: &mut [u8])
+    requires holds { All (Holds U.PTYPE) (numbers T.PTYPE bytes.now) }
+    requires room { length out.old ≡ length (numbers T.PTYPE bytes.now) * byte_width U.PTYPE }
+    ensures len { length out.new ≡ length out.old }
+    ensures numbers { numbers U.PTYPE out.new ≡ numbers T.PTYPE bytes.now }
+{
+    let width = U::PTYPE.byte_width();
+    for row in 0..number_count(bytes, T::PTYPE) {
+        let number = int_at(bytes, T::PTYPE, row);
+        put_int(number, U::PTYPE, &mut out[row * width..row * width + width]);
+    }
+}
+
+// Writes them, the mask read for each.
+#[inline(never)]
+fn put_masked<T: NativePType, U: NativePType>(bytes: &[u8], mask: &Mask, out: &mut [u8])
+    requires same_len { length mask.now ≡ length (numbers T.PTYPE bytes.now) }
+    requires holds { All (Holds U.PTYPE) (zeroed mask.now (numbers T.PTYPE bytes.now)) }
+    requires room { length out.old ≡ length mask.now * byte_width U.PTYPE }
+    ensures len { length out.new ≡ length out.old }
+    ensures numbers { numbers U.PTYPE out.new ≡ zeroed mask.now (numbers T.PTYPE bytes.now) }
+{
+    let width = U::PTYPE.byte_width();
+    for row in 0..mask.len() {
+        let number = number_or_zero(bytes, T::PTYPE, row, mask.value(row));
+        put_int(number, U::PTYPE, &mut out[row * width..row * width + width]);
+    }
+}
+
+// The number of a row, 0 where it does not count.
+#[inline]
+fn number_or_zero(bytes: &[u8], ptype: PType, row: usize, counts: bool) -> i128
+    requires { row < length (numbers ptype bytes.now) }
+    ensures { result ≡ (if counts then number_nth (numbers ptype bytes.now) row else pos 0) }
+{
+    if counts { int_at(bytes, ptype, row) } else { 0 }
+}

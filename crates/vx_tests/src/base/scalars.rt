@@ -1,0 +1,101 @@
+// Data types of records, and scalars of each data type.
+
+use std::alloc::Global;
+use std::rc::Rc;
+use vx_base::{
+    ByteBuffer, DType, FieldNames, Nullability, PType, Scalar, ScalarValue, ScalarValues,
+    StructFields, VortexError,
+};
+
+// A record of a text `name` and a nullable 16-bit `size`.
+fn parcel(alloc: Global) -> Result<DType, VortexError> {
+    let names = FieldNames::try_new(alloc, &["name", "size"])?;
+    let mut dtypes = Vec::new(alloc);
+    dtypes.push(DType::Utf8(Nullability::NonNullable))?;
+    dtypes.push(DType::Primitive(PType::I16, Nullability::Nullable))?;
+    let dtypes = Rc::new(alloc, dtypes)?;
+    if names.len() != dtypes.len() {
+        return Err(VortexError::MismatchedTypes);
+    }
+    Ok(DType::new_struct(StructFields::new(names, dtypes), Nullability::NonNullable))
+}
+
+// The value of a parcel.
+fn parcel_value(alloc: Global, name: &str, size: i128) -> Result<ScalarValue, VortexError> {
+    let mut values = Vec::new(alloc);
+    values.push(Some(ScalarValue::Text(ByteBuffer::copy_from(alloc, name.as_bytes())?)))?;
+    values.push(Some(ScalarValue::Int(size)))?;
+    Ok(ScalarValue::Record(ScalarValues::from_vec(alloc, values)?))
+}
+
+#[test]
+fn names_of_fields(rt: HostRuntime) -> Result<(), VortexError> {
+    let names = FieldNames::try_new(rt.alloc(), &["name", "größe"])?;
+    let same = names.try_clone(rt.alloc())?;
+    if same.len() != 2 {
+        return Err(VortexError::OutOfBounds {
+            index: 2,
+            len: same.len(),
+        });
+    }
+    assert!(rt; same.get(1).as_str() == "größe" && same.get(0).as_str() == "name");
+    Ok(())
+}
+
+#[test]
+fn data_types_are_equal(rt: HostRuntime) -> Result<(), VortexError> {
+    let first = parcel(rt.alloc())?;
+    let second = parcel(rt.alloc())?;
+    assert!(rt; first == second);
+    assert!(rt; first != second.with_nullability(Nullability::Nullable));
+    assert!(rt; DType::Utf8(Nullability::Nullable) != DType::Binary(Nullability::Nullable));
+    Ok(())
+}
+
+#[test]
+fn records_fit(rt: HostRuntime) -> Result<(), VortexError> {
+    let value = parcel_value(rt.alloc(), "crate", -3)?;
+    let scalar = Scalar::try_new(parcel(rt.alloc())?, Some(value))?;
+    assert!(rt; !scalar.is_null() && scalar.try_clone(rt.alloc())?.is_valid());
+    let long = parcel_value(rt.alloc(), "crate", 32768)?;
+    let refused = Scalar::try_new(parcel(rt.alloc())?, Some(long)).err();
+    assert!(rt; refused == Some(VortexError::MismatchedTypes));
+    Ok(())
+}
+
+#[test]
+fn texts_fit(rt: HostRuntime) -> Result<(), VortexError> {
+    let dtype = DType::Utf8(Nullability::NonNullable);
+    let broken = ByteBuffer::copy_from(rt.alloc(), &[0x6f, 0xff])?;
+    let refused = Scalar::try_new(dtype, Some(ScalarValue::Text(broken))).err();
+    assert!(rt; refused == Some(VortexError::MismatchedTypes));
+    let null = Scalar::try_new(DType::Utf8(Nullability::NonNullable), None).err();
+    assert!(rt; null == Some(VortexError::MismatchedTypes));
+    Ok(())
+}
+
+#[test]
+fn numbers_and_truths(rt: HostRuntime) {
+    let number = Scalar::int(-7, PType::I16, Nullability::Nullable);
+    assert!(rt; number.as_int() == Some(-7) && !number.as_bool());
+    let truth = Scalar::bool(true, Nullability::NonNullable);
+    assert!(rt; truth.as_bool() && truth.as_int().is_none() && truth.dtype().is_plain_bool());
+}
+
+#[test]
+fn defaults(rt: HostRuntime) -> Result<(), VortexError> {
+    let items = Rc::new(
+        rt.alloc(),
+        DType::Primitive(PType::U8, Nullability::NonNullable),
+    )?;
+    let pairs = DType::FixedSizeList(items, 2, Nullability::NonNullable);
+    let scalar = Scalar::default_value(rt.alloc(), pairs)?;
+    let Some(ScalarValue::List(rows)) = scalar.value() else {
+        return Err(VortexError::MismatchedTypes);
+    };
+    assert!(rt; rows.as_slice().len() == 2);
+    assert!(rt; matches!(rows.as_slice().last(), Some(Some(ScalarValue::Int(0)))));
+    let null = Scalar::default_value(rt.alloc(), DType::Binary(Nullability::Nullable))?;
+    assert!(rt; null.is_null());
+    Ok(())
+}

@@ -1,0 +1,357 @@
+// Lists that are read, trimmed and rebuilt.
+
+use std::alloc::Global;
+use std::test::Fail;
+use vx_base::{BitBuffer, Buffer, DType, NativePType, Nullability, PType, Scalar, VortexError};
+use vx_lists::{ListViewArray, ListViewRebuildMode};
+use vx_tree::{ArrayRef, TypedArray, Validity};
+
+fn ints<T: NativePType>(alloc: Global, items: &[T]) -> Result<ArrayRef, VortexError> {
+    let bytes = Buffer::copy_from(alloc, items)?.into_byte_buffer(alloc)?;
+    ArrayRef::primitive(alloc, T::PTYPE, bytes, Validity::NonNullable)
+}
+
+fn bools(alloc: Global, items: &[bool]) -> Result<ArrayRef, VortexError> {
+    let bits = BitBuffer::from_bools(alloc, items)?;
+    let validity = Validity::NonNullable;
+    ArrayRef::bools(alloc, bits, validity)
+}
+
+fn view<T: NativePType>(
+    alloc: Global,
+    elements: &[i32],
+    offsets: &[T],
+    sizes: &[T],
+    validity: Validity,
+) -> Result<ListViewArray, VortexError> {
+    let elements = ints(alloc, elements)?;
+    let offsets = ints(alloc, offsets)?;
+    let sizes = ints(alloc, sizes)?;
+    ListViewArray::try_new(alloc, elements, offsets, sizes, validity)
+}
+
+// Whether the lists start and have as many elements as is wanted.
+fn has_ranges(view: &ListViewArray, wanted: &[(usize, usize)]) -> bool {
+    if view.len() != wanted.len() {
+        return false;
+    }
+    for (i, (offset, size)) in wanted.iter().enumerate() {
+        if view.offset_at(i) != *offset || view.size_at(i) != *size {
+            return false;
+        }
+    }
+    true
+}
+
+// Whether these are the numbers of an array.
+fn has_numbers(array: &ArrayRef, wanted: &[i128]) -> bool {
+    if !array.dtype().is_int() || array.len() != wanted.len() {
+        return false;
+    }
+    for (i, number) in wanted.iter().enumerate() {
+        if array.int_at(i) != Some(*number) {
+            return false;
+        }
+    }
+    true
+}
+
+// Whether the numbers of an array are of a type.
+fn has_type(array: &ArrayRef, ptype: PType) -> bool {
+    match array.dtype() {
+        DType::Primitive(own, _) => *own == ptype,
+        _ => false,
+    }
+}
+
+// Whether rebuilding gives a flagged view of these ranges over these elements.
+fn rebuilds_to(
+    alloc: Global,
+    lists: &ListViewArray,
+    ranges: &[(usize, usize)],
+    elements: &[i128],
+) -> Result<bool, VortexError> {
+    let rebuilt = lists.rebuild(alloc, ListViewRebuildMode::MakeZeroCopyToList)?;
+    let flagged = rebuilt.is_zero_copy_to_list();
+    Ok(flagged && has_ranges(&rebuilt, ranges) && has_numbers(rebuilt.elements(), elements))
+}
+
+#[test]
+fn overlapping_lists_part(rt: HostRuntime) -> Result<(), Fail> {
+    let alloc = rt.alloc();
+    let lists = view::<u32>(alloc, &[1, 2, 3], &[0, 1], &[3, 2], Validity::NonNullable)?;
+    assert!(rt; rebuilds_to(alloc, &lists, &[(0, 3), (3, 2)], &[1, 2, 3, 2, 3])?);
+    Ok(())
+}
+
+#[test]
+fn null_elements_go(rt: HostRuntime) -> Result<(), Fail> {
+    let alloc = rt.alloc();
+    let validity = Validity::Array(bools(alloc, &[true, false, true])?);
+    let lists = view::<u32>(alloc, &[1, 2, 3, 4], &[0, 1, 2], &[1, 2, 2], validity)?;
+    assert!(rt; rebuilds_to(alloc, &lists, &[(0, 1), (1, 0), (1, 2)], &[1, 3, 4])?);
+    Ok(())
+}
+
+#[test]
+fn last_nulls_start_at_the_end(rt: HostRuntime) -> Result<(), Fail> {
+    let alloc = rt.alloc();
+    let validity = Validity::Array(bools(alloc, &[true, true, false, false])?);
+    let lists = view::<i16>(alloc, &[1, 2, 3, 4], &[0, 2, 0, 0], &[2, 2, 0, 0], validity)?;
+    assert!(rt;
+        rebuilds_to(
+            alloc,
+            &lists,
+            &[(0, 2), (2, 2), (4, 0), (4, 0)],
+            &[1, 2, 3, 4]
+        )?
+    );
+    Ok(())
+}
+
+#[test]
+fn lists_in_another_order_are_laid_out(rt: HostRuntime) -> Result<(), Fail> {
+    let alloc = rt.alloc();
+    let lists = view::<u32>(
+        alloc,
+        &[5, 6, 7, 8],
+        &[2, 0],
+        &[2, 2],
+        Validity::NonNullable,
+    )?;
+    assert!(rt; rebuilds_to(alloc, &lists, &[(0, 2), (2, 2)], &[7, 8, 5, 6])?);
+    Ok(())
+}
+
+#[test]
+fn elements_of_another_layout_are_taken(rt: HostRuntime) -> Result<(), Fail> {
+    let alloc = rt.alloc();
+    let zero = Scalar::int(0, PType::I64, Nullability::NonNullable);
+    let elements = ArrayRef::constant(alloc, zero, 9)?;
+    let sizes = Scalar::int(2, PType::U8, Nullability::NonNullable);
+    let sizes = ArrayRef::constant(alloc, sizes, 2)?;
+    let offsets = ints::<u8>(alloc, &[7, 0])?;
+    let lists = ListViewArray::try_new(alloc, elements, offsets, sizes, Validity::NonNullable)?;
+    assert!(rt; rebuilds_to(alloc, &lists, &[(0, 2), (2, 2)], &[0, 0, 0, 0])?);
+    Ok(())
+}
+
+#[test]
+fn a_total_past_the_offset_type_is_refused(rt: HostRuntime) -> Result<(), Fail> {
+    let alloc = rt.alloc();
+    let zero = Scalar::int(0, PType::I32, Nullability::NonNullable);
+    let elements = ArrayRef::constant(alloc, zero, 4_294_967_296)?;
+    let offsets = ints::<i32>(alloc, &[0, 0])?;
+    let sizes = ints::<i32>(alloc, &[2_147_483_647, 1])?;
+    let lists = ListViewArray::try_new(alloc, elements, offsets, sizes, Validity::NonNullable)?;
+    assert!(rt; matches!(lists.rebuild_by_take(alloc), Err(VortexError::Overflow)));
+    Ok(())
+}
+
+#[test]
+fn no_rows_keep_the_elements(rt: HostRuntime) -> Result<(), Fail> {
+    let alloc = rt.alloc();
+    let lists = view::<u32>(alloc, &[1, 2, 3], &[], &[], Validity::NonNullable)?;
+    assert!(rt; lists.is_empty() && rebuilds_to(alloc, &lists, &[], &[1, 2, 3])?);
+    Ok(())
+}
+
+#[test]
+fn small_offsets_grow(rt: HostRuntime) -> Result<(), Fail> {
+    let alloc = rt.alloc();
+    let lists = view::<u8>(
+        alloc,
+        &[0; 150],
+        &[0, 0],
+        &[150, 150],
+        Validity::NonNullable,
+    )?;
+    let rebuilt = lists.rebuild_by_take(alloc)?;
+    assert!(rt; has_ranges(&rebuilt, &[(0, 150), (150, 150)]) && rebuilt.is_consecutive());
+    assert!(rt; has_type(rebuilt.offsets(), PType::U32) && has_type(rebuilt.sizes(), PType::U8));
+    Ok(())
+}
+
+#[test]
+fn negative_offsets_are_refused(rt: HostRuntime) -> Result<(), Fail> {
+    let refused = view::<i8>(rt.alloc(), &[7; 255], &[-1], &[0], Validity::NonNullable);
+    assert!(rt; matches!(refused, Err(VortexError::Negative { row: 0 })));
+    Ok(())
+}
+
+#[test]
+fn a_flagged_view_stays(rt: HostRuntime) -> Result<(), Fail> {
+    let alloc = rt.alloc();
+    let lists = view::<i64>(alloc, &[5, 6], &[1, 0], &[1, 1], Validity::AllValid)?;
+    let once = lists.rebuild_by_take(alloc)?.try_clone(alloc)?;
+    assert!(rt; rebuilds_to(alloc, &once, &[(0, 1), (1, 1)], &[6, 5])?);
+    Ok(())
+}
+
+#[test]
+fn list_elements_are_a_slice(rt: HostRuntime) -> Result<(), Fail> {
+    let alloc = rt.alloc();
+    let lists = view::<u16>(alloc, &[1, 2, 3], &[0, 1], &[3, 2], Validity::NonNullable)?;
+    assert!(rt; lists.len() == 2);
+    assert!(rt; has_numbers(&lists.list_elements_at(alloc, 1)?, &[2, 3]));
+    Ok(())
+}
+
+#[test]
+fn another_layout_comes_back(rt: HostRuntime) -> Result<(), Fail> {
+    let alloc = rt.alloc();
+    let lists = view::<u32>(alloc, &[1], &[0], &[1], Validity::NonNullable)?;
+    assert!(rt; matches!(lists.dtype(), DType::List(_, _)) && lists.as_array().len() == 1);
+    assert!(rt; ListViewArray::try_from_array(lists.into_array()).is_ok());
+    assert!(rt; ListViewArray::try_from_array(bools(alloc, &[true])?).is_err());
+    Ok(())
+}
+
+// The lists `[9]`, `[1]`, `[2]`, `[9]`, of which the middle two are left: flagged, over four elements.
+fn flagged_middle(alloc: Global) -> Result<ListViewArray, VortexError> {
+    let lists = view::<u8>(
+        alloc,
+        &[9, 1, 2, 9],
+        &[0, 1, 2, 3],
+        &[1, 1, 1, 1],
+        Validity::NonNullable,
+    )?;
+    let rebuilt = lists.rebuild_by_take(alloc)?;
+    match ListViewArray::try_from_array(rebuilt.as_array().slice(alloc, 1..3)?) {
+        Ok(middle) => Ok(middle),
+        Err(_) => Err(VortexError::MismatchedTypes),
+    }
+}
+
+#[test]
+fn elements_around_the_lists_are_trimmed(rt: HostRuntime) -> Result<(), Fail> {
+    let alloc = rt.alloc();
+    let lists = view::<u32>(
+        alloc,
+        &[99, 98, 1, 2, 97, 3, 4, 96, 95],
+        &[2, 5],
+        &[2, 2],
+        Validity::NonNullable,
+    )?;
+    let trimmed = lists.rebuild(alloc, ListViewRebuildMode::TrimElements)?;
+    assert!(rt; has_ranges(&trimmed, &[(0, 2), (3, 2)]));
+    assert!(rt; has_numbers(trimmed.elements(), &[1, 2, 97, 3, 4]));
+    assert!(rt; !trimmed.is_zero_copy_to_list() && has_type(trimmed.offsets(), PType::U32));
+    Ok(())
+}
+
+#[test]
+fn lists_that_reach_both_ends_stay(rt: HostRuntime) -> Result<(), Fail> {
+    let alloc = rt.alloc();
+    let lists = view::<u8>(
+        alloc,
+        &[0; 261],
+        &[215, 0],
+        &[46, 10],
+        Validity::NonNullable,
+    )?;
+    assert_eq!(rt; lists.referenced_element_bounds()?, (0, 261));
+    let trimmed = lists.rebuild(alloc, ListViewRebuildMode::TrimElements)?;
+    assert!(rt; has_ranges(&trimmed, &[(215, 46), (0, 10)]) && trimmed.elements().len() == 261);
+    Ok(())
+}
+
+#[test]
+fn bounds_count_null_and_empty_lists(rt: HostRuntime) -> Result<(), Fail> {
+    let alloc = rt.alloc();
+    let validity = Validity::Array(bools(alloc, &[true, true, false])?);
+    let lists = view::<i32>(alloc, &[0; 9], &[4, 7, 1], &[2, 0, 1], validity)?;
+    let (start, end) = lists.referenced_element_bounds()?;
+    assert_eq!(rt; (start, end), (1, 7));
+    let trimmed = lists.trim_elements(alloc, start, end)?;
+    assert!(rt; has_ranges(&trimmed, &[(3, 2), (6, 0), (0, 1)]) && trimmed.elements().len() == 6);
+    let none = view::<i32>(alloc, &[1], &[], &[], Validity::NonNullable)?;
+    assert_eq!(rt;
+        none.referenced_element_bounds(),
+        Err(VortexError::EmptyInput)
+    );
+    Ok(())
+}
+
+#[test]
+fn referenced_elements_are_marked(rt: HostRuntime) -> Result<(), Fail> {
+    let alloc = rt.alloc();
+    let lists = view::<u16>(alloc, &[1, 2, 3, 4], &[0, 1], &[2, 1], Validity::AllInvalid)?;
+    let mask = lists.compute_referenced_elements_mask(alloc)?;
+    assert_eq!(rt; mask.len(), lists.elements().len());
+    assert!(rt; mask.len() == 4 && mask.true_count() == 2);
+    Ok(())
+}
+
+#[test]
+fn exact_views_have_no_other_element(rt: HostRuntime) -> Result<(), Fail> {
+    let alloc = rt.alloc();
+    let middle = flagged_middle(alloc)?;
+    let kept = middle.rebuild(alloc, ListViewRebuildMode::MakeZeroCopyToList)?;
+    assert!(rt; has_ranges(&kept, &[(1, 1), (2, 1)]) && kept.elements().len() == 4);
+    let exact = middle.rebuild(alloc, ListViewRebuildMode::MakeExact)?;
+    assert!(rt; has_ranges(&exact, &[(0, 1), (1, 1)]) && exact.is_zero_copy_to_list());
+    assert!(rt; has_numbers(exact.elements(), &[1, 2]));
+    let lists = view::<u8>(alloc, &[5, 6, 7], &[2, 0], &[1, 1], Validity::NonNullable)?;
+    let exact = lists.rebuild(alloc, ListViewRebuildMode::MakeExact)?;
+    assert!(rt; has_numbers(exact.elements(), &[7, 5]) && exact.is_zero_copy_to_list());
+    Ok(())
+}
+
+#[test]
+fn overlaps_are_not_compressed(rt: HostRuntime) -> Result<(), Fail> {
+    let alloc = rt.alloc();
+    let none = view::<u8>(alloc, &[1, 2, 3], &[], &[], Validity::NonNullable)?;
+    let kept = none.rebuild(alloc, ListViewRebuildMode::OverlapCompression)?;
+    assert!(rt; kept.is_zero_copy_to_list() && kept.elements().len() == 3);
+    let one = view::<u8>(alloc, &[1, 2, 3], &[0], &[1], Validity::NonNullable)?;
+    let refused = one.rebuild(alloc, ListViewRebuildMode::OverlapCompression);
+    assert!(rt; matches!(refused, Err(VortexError::NotImplemented)));
+    Ok(())
+}
+
+// Whether both ways of rebuilding give these ranges and elements.
+fn rebuilds_both_ways_to(
+    alloc: Global,
+    lists: &ListViewArray,
+    ranges: &[(usize, usize)],
+    elements: &[i128],
+) -> Result<bool, VortexError> {
+    for rebuilt in [lists.rebuild_by_take(alloc)?, lists.rebuild_by_runs(alloc)?] {
+        if !has_ranges(&rebuilt, ranges) || !has_numbers(rebuilt.elements(), elements) {
+            return Ok(false);
+        }
+    }
+    Ok(true)
+}
+
+#[test]
+fn runs_give_the_same_layout(rt: HostRuntime) -> Result<(), Fail> {
+    let alloc = rt.alloc();
+    let validity = Validity::Array(bools(alloc, &[true, false, true])?);
+    let lists = view::<u32>(alloc, &[1, 2, 3, 4], &[0, 1, 2], &[1, 2, 2], validity)?;
+    assert!(rt; rebuilds_both_ways_to(alloc, &lists, &[(0, 1), (1, 0), (1, 2)], &[1, 3, 4])?);
+    Ok(())
+}
+
+#[test]
+fn more_elements_than_positions_fit_are_rebuilt(rt: HostRuntime) -> Result<(), Fail> {
+    let alloc = rt.alloc();
+    let zero = Scalar::int(0, PType::U8, Nullability::NonNullable);
+    let elements = ArrayRef::constant(alloc, zero, 1_152_921_504_606_846_976)?;
+    let offsets = ints::<u64>(alloc, &[0])?;
+    let sizes = ints::<u64>(alloc, &[1_152_921_504_606_846_976])?;
+    let lists = ListViewArray::try_new(alloc, elements, offsets, sizes, Validity::NonNullable)?;
+    let rebuilt = lists.rebuild_by_runs(alloc)?;
+    assert!(rt; has_ranges(&rebuilt, &[(0, 1_152_921_504_606_846_976)]));
+    assert!(rt; rebuilt.elements().len() == 1_152_921_504_606_846_976);
+    Ok(())
+}
+
+#[test]
+fn long_rows_are_copied_by_runs(rt: HostRuntime) {
+    assert!(rt; !ListViewArray::should_use_take(280, 2));
+    assert!(rt; ListViewArray::should_use_take(127_000, 1000));
+    assert!(rt; !ListViewArray::should_use_take(128_000, 1000));
+    assert!(rt; ListViewArray::should_use_take(1, 0));
+}

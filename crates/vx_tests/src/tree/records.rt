@@ -1,0 +1,132 @@
+// Records.
+
+ghost use Rattle.std.specs.Prelude.{◌≡◌, length};
+ghost use Rattle.vx_tree.specs.Meaning.{tree_len};
+ghost use Rattle.vx_tree.specs.Formed.{ValidFits};
+ghost use Rattle.vx_tree.specs.Parts.{valid_of};
+
+use super::{booleans, expect_bool, indices, number, numbers};
+use std::alloc::Global;
+use std::process::Abort;
+use vx_base::{FieldNames, PType, VortexError};
+use vx_tree::{ArrayRef, Layout, Validity};
+
+// Records of two columns.
+fn pairs(
+    alloc: Global,
+    names: &[&str],
+    first: ArrayRef,
+    second: ArrayRef,
+    validity: Validity,
+    len: usize,
+) -> Result<ArrayRef, VortexError>
+    requires named { length names.now ≡ 2 }
+    requires first { tree_len first ≡ len }
+    requires second { tree_len second ≡ len }
+    requires fits { ValidFits (valid_of validity) len }
+{
+    let names = FieldNames::try_new(alloc, names)?;
+    let mut columns = Vec::with_capacity(alloc, 2)?;
+    columns.push(first)?;
+    columns.push(second)?;
+    ArrayRef::structure(alloc, names, columns, validity, len)
+}
+
+// The records {a:1,b:true}, null, {a:3,b:true}.
+fn records(alloc: Global) -> Result<ArrayRef, VortexError> {
+    let first = numbers(alloc, PType::U8, &[1, 2, 3], Validity::NonNullable)?;
+    let second = booleans(alloc, &[true, false, true])?;
+    let validity = Validity::Array(booleans(alloc, &[true, false, true])?);
+    pairs(alloc, &["a", "b"], first, second, validity, 3)
+}
+
+// Stops unless row `i` is the record of these rows of its two columns, or null where there is none.
+fn expect_pair(
+    rt: &impl Abort,
+    alloc: Global,
+    array: &ArrayRef,
+    i: usize,
+    want: Option<(i128, bool)>,
+) -> Result<(), VortexError> {
+    assert_eq!(rt; array.is_valid(alloc, i)?, want.is_some(), "at {i}");
+    if let (Layout::Struct { columns, .. }, Some((first, second))) = (array.layout(), want) {
+        assert!(rt; columns.len() == 2);
+        assert!(rt; number(rt, &columns[0], i) == Some(first), "at {i}");
+        expect_bool(rt, alloc, &columns[1], i, Some(second))?;
+    }
+    Ok(())
+}
+
+#[test]
+fn rows_of_records(rt: HostRuntime) -> Result<(), VortexError> {
+    let array = records(rt.alloc())?;
+    assert!(rt; array.len() == 3 && array.dtype().is_nullable());
+    expect_pair(&rt, rt.alloc(), &array, 0, Some((1, true)))?;
+    expect_pair(&rt, rt.alloc(), &array, 1, None)?;
+    expect_pair(&rt, rt.alloc(), &array, 2, Some((3, true)))
+}
+
+#[test]
+fn records_of_no_columns(rt: HostRuntime) -> Result<(), VortexError> {
+    let names = FieldNames::try_new(rt.alloc(), &[])?;
+    let columns = Vec::new(rt.alloc());
+    let array = ArrayRef::structure(rt.alloc(), names, columns, Validity::NonNullable, 2)?;
+    let part = array.slice(rt.alloc(), 1..2)?;
+    assert!(rt; array.len() == 2 && part.len() == 1 && part.is_valid(rt.alloc(), 0)?);
+    Ok(())
+}
+
+#[test]
+fn records_of_one_name_twice(rt: HostRuntime) -> Result<(), VortexError> {
+    let first = numbers(rt.alloc(), PType::U8, &[1, 2], Validity::NonNullable)?;
+    let second = booleans(rt.alloc(), &[false, true])?;
+    let array = pairs(
+        rt.alloc(),
+        &["a", "a"],
+        first,
+        second,
+        Validity::AllValid,
+        2,
+    )?;
+    expect_pair(&rt, rt.alloc(), &array, 0, Some((1, false)))?;
+    expect_pair(&rt, rt.alloc(), &array, 1, Some((2, true)))
+}
+
+#[test]
+fn slice_of_records(rt: HostRuntime) -> Result<(), VortexError> {
+    let part = records(rt.alloc())?.slice(rt.alloc(), 1..3)?;
+    assert_eq!(rt; part.len(), 2);
+    expect_pair(&rt, rt.alloc(), &part, 0, None)?;
+    expect_pair(&rt, rt.alloc(), &part, 1, Some((3, true)))
+}
+
+#[test]
+fn take_of_records(rt: HostRuntime) -> Result<(), VortexError> {
+    let taken = records(rt.alloc())?.take(rt.alloc(), &indices(rt.alloc())?)?;
+    assert_eq!(rt; taken.len(), 3);
+    expect_pair(&rt, rt.alloc(), &taken, 0, Some((3, true)))?;
+    expect_pair(&rt, rt.alloc(), &taken, 1, None)?;
+    expect_pair(&rt, rt.alloc(), &taken, 2, Some((1, true)))
+}
+
+#[test]
+fn records_taken_from_no_rows(rt: HostRuntime) -> Result<(), VortexError> {
+    let first = numbers(rt.alloc(), PType::U8, &[], Validity::NonNullable)?;
+    let second = booleans(rt.alloc(), &[])?;
+    let empty = pairs(
+        rt.alloc(),
+        &["a", "b"],
+        first,
+        second,
+        Validity::NonNullable,
+        0,
+    )?;
+    let nulls = numbers(rt.alloc(), PType::U8, &[9], Validity::AllInvalid)?;
+    let taken = empty.take(rt.alloc(), &nulls)?;
+    assert!(rt; taken.len() == 1 && !taken.is_valid(rt.alloc(), 0)?);
+    if let Layout::Struct { columns, .. } = taken.layout() {
+        assert!(rt; columns.len() == 2 && columns[0].len() == 1);
+        assert!(rt; !columns[0].dtype().is_nullable());
+    }
+    Ok(())
+}

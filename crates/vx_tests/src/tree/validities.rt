@@ -1,0 +1,370 @@
+// Validities, on values worked out by hand.
+
+ghost use Rattle.std.specs.Prelude.{◌≡◌, IfOk};
+ghost use Rattle.vx_tree.specs.Parts.{valid_of};
+ghost use Rattle.vx_tree.specs.Tree.{bools, by_array, non_nullable};
+
+use super::{booleans, numbers};
+use std::alloc::Global;
+use std::process::Abort;
+use vx_base::{BitBuffer, Mask, Nullability, PType, Scalar, VortexError};
+use vx_tree::{
+    ArrayRef, Validity, and_associates, and_commutes, and_has_a_unit, and_repeats,
+    trivial_casts_are_casts,
+};
+
+// ---- validities and indices
+
+// Valid where the boolean is true.
+fn valid(alloc: Global, values: &[bool]) -> Result<Validity, VortexError>
+    ensures { IfOk result (λ v. valid_of v ≡ by_array (bools values.now non_nullable)) }
+{
+    Ok(Validity::Array(booleans(alloc, values)?))
+}
+
+// A validity array of another data type.
+fn not_of_booleans(alloc: Global) -> Result<Validity, VortexError> {
+    let scalar = Scalar::int(1, PType::U8, Nullability::NonNullable);
+    Ok(Validity::Array(ArrayRef::constant(alloc, scalar, 2)?))
+}
+
+// The numbers 2, 4.
+fn two_and_four(alloc: Global) -> Result<ArrayRef, VortexError> {
+    numbers(alloc, PType::U8, &[2, 4], Validity::NonNullable)
+}
+
+// The numbers 0, 1.
+fn zero_and_one(alloc: Global) -> Result<ArrayRef, VortexError> {
+    numbers(alloc, PType::U8, &[0, 1], Validity::NonNullable)
+}
+
+// Stops unless the rows are valid where this is true.
+fn expect_valid(
+    rt: &impl Abort,
+    alloc: Global,
+    validity: &Validity,
+    want: &[bool],
+) -> Result<(), VortexError> {
+    validity.check(want.len())?;
+    for (i, valid) in want.iter().enumerate() {
+        assert_eq!(rt; validity.is_valid(alloc, i)?, *valid, "at {i}");
+    }
+    Ok(())
+}
+
+// ---- patches
+
+#[test]
+fn all_valid_rows_are_patched(rt: HostRuntime) -> Result<(), VortexError> {
+    let alloc = rt.alloc();
+    let places = two_and_four(alloc)?;
+    let same = Validity::AllValid.patch(alloc, 5, 0, &places, &Validity::AllValid)?;
+    expect_valid(&rt, alloc, &same, &[true, true, true, true, true])?;
+    let none = Validity::AllValid.patch(alloc, 5, 0, &places, &Validity::AllInvalid)?;
+    expect_valid(&rt, alloc, &none, &[true, true, false, true, false])?;
+    let patches = valid(alloc, &[true, false])?;
+    let some = Validity::AllValid.patch(alloc, 5, 0, &places, &patches)?;
+    expect_valid(&rt, alloc, &some, &[true, true, true, true, false])
+}
+
+#[test]
+fn null_rows_are_patched(rt: HostRuntime) -> Result<(), VortexError> {
+    let alloc = rt.alloc();
+    let places = two_and_four(alloc)?;
+    let all = Validity::AllInvalid.patch(alloc, 5, 0, &places, &Validity::AllValid)?;
+    expect_valid(&rt, alloc, &all, &[false, false, true, false, true])?;
+    let same = Validity::AllInvalid.patch(alloc, 5, 0, &places, &Validity::AllInvalid)?;
+    expect_valid(&rt, alloc, &same, &[false, false, false, false, false])?;
+    let patches = valid(alloc, &[true, false])?;
+    let some = Validity::AllInvalid.patch(alloc, 5, 0, &places, &patches)?;
+    expect_valid(&rt, alloc, &some, &[false, false, true, false, false])
+}
+
+#[test]
+fn rows_of_an_array_are_patched(rt: HostRuntime) -> Result<(), VortexError> {
+    let alloc = rt.alloc();
+    let places = two_and_four(alloc)?;
+    let rows = [false, true, false, true, false];
+    let all = valid(alloc, &rows)?.patch(alloc, 5, 0, &places, &Validity::AllValid)?;
+    expect_valid(&rt, alloc, &all, &[false, true, true, true, true])?;
+    let none = valid(alloc, &rows)?.patch(alloc, 5, 0, &places, &Validity::AllInvalid)?;
+    expect_valid(&rt, alloc, &none, &rows)?;
+    let patches = valid(alloc, &[true, false])?;
+    let some = valid(alloc, &rows)?.patch(alloc, 5, 0, &places, &patches)?;
+    expect_valid(&rt, alloc, &some, &[false, true, true, true, false])
+}
+
+#[test]
+fn last_of_equal_positions_wins(rt: HostRuntime) -> Result<(), VortexError> {
+    let scalar = Scalar::int(1, PType::U8, Nullability::NonNullable);
+    let places = ArrayRef::constant(rt.alloc(), scalar, 2)?;
+    let patches = valid(rt.alloc(), &[false, true])?;
+    let patched = Validity::AllValid.patch(rt.alloc(), 3, 0, &places, &patches)?;
+    expect_valid(&rt, rt.alloc(), &patched, &[true, true, true])
+}
+
+#[test]
+fn patch_past_the_end(rt: HostRuntime) -> Result<(), VortexError> {
+    let scalar = Scalar::int(4, PType::U8, Nullability::NonNullable);
+    let places = ArrayRef::constant(rt.alloc(), scalar, 1)?;
+    let found = match Validity::AllValid.patch(rt.alloc(), 2, 0, &places, &Validity::AllInvalid) {
+        Err(VortexError::PatchOutOfRange { row: 0 }) => true,
+        _ => false,
+    };
+    assert!(rt; found);
+    Ok(())
+}
+
+#[test]
+fn patch_of_another_nullability(rt: HostRuntime) -> Result<(), VortexError> {
+    let places = two_and_four(rt.alloc())?;
+    let found = match Validity::NonNullable.patch(
+        rt.alloc(),
+        5,
+        0,
+        &places,
+        &Validity::AllInvalid,
+    ) {
+        Err(VortexError::NullabilityMismatch) => true,
+        _ => false,
+    };
+    assert!(rt; found);
+    Ok(())
+}
+
+// ---- rows
+
+#[test]
+fn rows_at_indices(rt: HostRuntime) -> Result<(), VortexError> {
+    let alloc = rt.alloc();
+    let plain = zero_and_one(alloc)?;
+    let some = plain.mask(alloc, &booleans(alloc, &[true, false])?)?;
+    let taken = Validity::AllValid.take(alloc, &some)?;
+    expect_valid(&rt, alloc, &taken, &[true, false])?;
+    let taken = Validity::NonNullable.take(alloc, &some)?;
+    expect_valid(&rt, alloc, &taken, &[true, false])?;
+    assert!(rt; taken.nullability() == Nullability::Nullable);
+    let taken = Validity::AllValid.take(alloc, &plain)?;
+    expect_valid(&rt, alloc, &taken, &[true, true])?;
+    assert!(rt; taken.nullability() == Nullability::Nullable);
+    let taken = Validity::NonNullable.take(alloc, &plain)?;
+    assert!(rt; taken.nullability() == Nullability::NonNullable);
+    Ok(())
+}
+
+#[test]
+fn rows_of_an_array_at_indices(rt: HostRuntime) -> Result<(), VortexError> {
+    let alloc = rt.alloc();
+    let places = two_and_four(alloc)?.mask(alloc, &booleans(alloc, &[false, true])?)?;
+    let rows = valid(alloc, &[false, false, true, false, true])?;
+    expect_valid(&rt, alloc, &rows.take(alloc, &places)?, &[false, true])
+}
+
+#[test]
+fn rows_in_a_range(rt: HostRuntime) -> Result<(), VortexError> {
+    let rows = valid(rt.alloc(), &[false, true, true])?;
+    expect_valid(
+        &rt,
+        rt.alloc(),
+        &rows.slice(rt.alloc(), 0..2)?,
+        &[false, true],
+    )?;
+    assert!(rt;
+        Validity::AllInvalid
+            .slice(rt.alloc(), 7..3)?
+            .definitely_all_null()
+    );
+    Ok(())
+}
+
+#[test]
+fn rows_under_a_mask(rt: HostRuntime) -> Result<(), VortexError> {
+    let bits = BitBuffer::from_bools(rt.alloc(), &[true, false, true])?;
+    let mask = Mask::from_buffer(rt.alloc(), bits)?;
+    let rows = valid(rt.alloc(), &[false, true, true])?;
+    expect_valid(
+        &rt,
+        rt.alloc(),
+        &rows.filter(rt.alloc(), &mask)?,
+        &[false, true],
+    )
+}
+
+#[test]
+fn rows_the_other_way(rt: HostRuntime) -> Result<(), VortexError> {
+    let rows = valid(rt.alloc(), &[false, true, true])?;
+    expect_valid(
+        &rt,
+        rt.alloc(),
+        &rows.not(rt.alloc())?,
+        &[true, false, false],
+    )?;
+    assert!(rt; Validity::AllValid.not(rt.alloc())?.definitely_all_null());
+    assert!(rt; Validity::NonNullable.not(rt.alloc())?.definitely_no_nulls());
+    Ok(())
+}
+
+#[test]
+fn row_of_another_data_type(rt: HostRuntime) -> Result<(), VortexError> {
+    let found = match not_of_booleans(rt.alloc())?.is_null(rt.alloc(), 7) {
+        Err(VortexError::MismatchedTypes) => true,
+        _ => false,
+    };
+    assert!(rt; found && Validity::AllInvalid.is_null(rt.alloc(), 7)?);
+    Ok(())
+}
+
+// ---- two of them
+
+#[test]
+fn rows_valid_in_both(rt: HostRuntime) -> Result<(), VortexError> {
+    let alloc = rt.alloc();
+    let rows = valid(alloc, &[true, true, false])?;
+    let both = rows.and(alloc, valid(alloc, &[true, false, false])?)?;
+    expect_valid(&rt, alloc, &both, &[true, false, false])?;
+    let both = valid(alloc, &[true, false])?.and(alloc, Validity::NonNullable)?;
+    expect_valid(&rt, alloc, &both, &[true, false])?;
+    let both = Validity::AllValid.and(alloc, Validity::NonNullable)?;
+    assert!(rt; both.definitely_no_nulls() && both.nullability() == Nullability::Nullable);
+    let both = valid(alloc, &[true, false])?.and(alloc, Validity::AllInvalid)?;
+    assert!(rt; both.definitely_all_null());
+    Ok(())
+}
+
+#[test]
+fn arrays_of_other_lengths(rt: HostRuntime) -> Result<(), VortexError> {
+    let rows = valid(rt.alloc(), &[true, true, false])?;
+    let found = match rows.and(rt.alloc(), valid(rt.alloc(), &[true])?) {
+        Err(VortexError::LengthMismatch { .. }) => true,
+        _ => false,
+    };
+    assert!(rt; found);
+    Ok(())
+}
+
+// ---- the same rows
+
+#[test]
+fn states_with_the_same_rows(rt: HostRuntime) -> Result<(), VortexError> {
+    let alloc = rt.alloc();
+    assert!(rt; Validity::NonNullable.mask_eq(alloc, &Validity::AllValid, 3)?);
+    assert!(rt; Validity::AllValid.mask_eq(alloc, &Validity::NonNullable, 3)?);
+    assert!(rt; !Validity::AllValid.mask_eq(alloc, &Validity::AllInvalid, 3)?);
+    assert!(rt; !Validity::NonNullable.mask_eq(alloc, &Validity::AllInvalid, 3)?);
+    Ok(())
+}
+
+#[test]
+fn arrays_with_the_same_rows(rt: HostRuntime) -> Result<(), VortexError> {
+    let alloc = rt.alloc();
+    let all = valid(alloc, &[true, true, true])?;
+    assert!(rt; all.mask_eq(alloc, &Validity::AllValid, 3)?);
+    assert!(rt; Validity::NonNullable.mask_eq(alloc, &all, 3)?);
+    let none = valid(alloc, &[false, false, false])?;
+    assert!(rt; none.mask_eq(alloc, &Validity::AllInvalid, 3)?);
+    let some = valid(alloc, &[true, false, true])?;
+    assert!(rt; !some.mask_eq(alloc, &Validity::AllValid, 3)?);
+    assert!(rt; !some.mask_eq(alloc, &Validity::AllInvalid, 3)?);
+    Ok(())
+}
+
+#[test]
+fn masks_as_validities(rt: HostRuntime) -> Result<(), VortexError> {
+    let alloc = rt.alloc();
+    let bits = BitBuffer::from_bools(alloc, &[true, false])?;
+    let mask = Mask::from_buffer(alloc, bits)?;
+    let some = Validity::from_mask(alloc, mask, Nullability::Nullable)?;
+    expect_valid(&rt, alloc, &some, &[true, false])?;
+    let none = Validity::from_mask(alloc, Mask::new_false(9), Nullability::Nullable)?;
+    assert!(rt; none.definitely_all_null());
+    Ok(())
+}
+
+// ---- booleans
+
+#[test]
+fn arrays_of_states(rt: HostRuntime) -> Result<(), VortexError> {
+    let array = Validity::AllInvalid.to_array(rt.alloc(), 3)?;
+    let validity = Validity::Array(array);
+    expect_valid(&rt, rt.alloc(), &validity, &[false, false, false])?;
+    assert!(rt; validity.as_array().is_some() && Validity::AllValid.as_array().is_none());
+    assert!(rt; validity.into_array().is_some());
+    Ok(())
+}
+
+#[test]
+fn booleans_as_a_validity(rt: HostRuntime) -> Result<(), VortexError> {
+    let alloc = rt.alloc();
+    let some = Validity::from_buffer(alloc, BitBuffer::from_bools(alloc, &[true, false])?)?;
+    expect_valid(&rt, alloc, &some, &[true, false])?;
+    let none = Validity::from_buffer(alloc, BitBuffer::new_unset(alloc, 2)?)?;
+    assert!(rt; none.definitely_all_null());
+    let all = BitBuffer::new_set(alloc, 2)?;
+    let all = Validity::from_bit_buffer(alloc, all, Nullability::NonNullable)?;
+    assert!(rt; all.nullability() == Nullability::NonNullable);
+    let empty = Validity::from_buffer(alloc, BitBuffer::new_set(alloc, 0)?)?;
+    assert!(rt; empty.definitely_no_nulls() && empty.nullability() == Nullability::Nullable);
+    Ok(())
+}
+
+#[test]
+fn states_of_a_nullability() {
+    let _plain = Validity::from(Nullability::NonNullable);
+    let _nullable = Validity::from(&Nullability::Nullable);
+    let _dtype = Validity::DTYPE;
+}
+
+// ---- casts
+
+#[test]
+fn casts_to_plain(rt: HostRuntime) -> Result<(), VortexError> {
+    let alloc = rt.alloc();
+    assert!(rt; Validity::AllInvalid.into_non_nullable(alloc, 0)?.is_some());
+    assert!(rt; Validity::AllInvalid.into_non_nullable(alloc, 2)?.is_none());
+    assert!(rt; Validity::AllInvalid.trivial_into_non_nullable(0)?.is_some());
+    assert!(rt; Validity::AllValid.trivial_into_non_nullable(2)?.is_some());
+    assert!(rt;
+        valid(alloc, &[true])?
+            .trivial_into_non_nullable(1)?
+            .is_none()
+    );
+    assert!(rt; Validity::AllValid.execute_no_nulls(alloc, 3)?);
+    Ok(())
+}
+
+#[test]
+fn casts_of_nulls(rt: HostRuntime) -> Result<(), VortexError> {
+    let cast = Validity::AllInvalid.cast_nullability(rt.alloc(), Nullability::NonNullable, 2);
+    let found = match cast {
+        Err(VortexError::HasNulls) => true,
+        _ => false,
+    };
+    assert!(rt; found);
+    let known = Validity::AllInvalid.trivially_cast_nullability(Nullability::NonNullable, 2);
+    let found = match known {
+        Err(VortexError::HasNulls) => true,
+        _ => false,
+    };
+    assert!(rt; found);
+    Ok(())
+}
+
+#[test]
+fn casts_to_nullable(rt: HostRuntime) -> Result<(), VortexError> {
+    let cast = Validity::NonNullable.cast_nullability(rt.alloc(), Nullability::Nullable, 2)?;
+    assert!(rt; cast.nullability() == Nullability::Nullable);
+    let united = Validity::NonNullable.union_nullability(Nullability::Nullable);
+    assert!(rt; united.nullability() == Nullability::Nullable);
+    Ok(())
+}
+
+// ---- laws
+
+#[test]
+fn laws_of_validities() {
+    and_commutes();
+    and_associates();
+    and_repeats();
+    and_has_a_unit();
+    trivial_casts_are_casts();
+}

@@ -1,0 +1,5 @@
+// Views of values.
+
+mod build;
+mod checks;
+mod view;

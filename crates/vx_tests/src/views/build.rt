@@ -1,0 +1,254 @@
+use std::test::Fail;
+use vx_base::{Buffer, ByteBuffer, VortexError};
+use vx_views::{
+    BinaryView, MAX_BUFFER_LEN, build_views, build_views_from_offsets, offsets_to_lengths,
+};
+
+// `0d000000 63636363 01000000 00000000`, a value of thirteen times `c` at the start of buffer 1.
+const THIRD: u128 = 0x00000000_00000001_63636363_0000000d;
+
+// Thirteen each of a, b, c and d.
+const LETTERS: &[u8] = b"aaaaaaaaaaaaabbbbbbbbbbbbbcccccccccccccddddddddddddd";
+
+const TEXT: &[u8] = b"..a long value that is referenced!tiny..";
+
+// Two values, of 29 and of 23 bytes.
+const SENTENCES: &[u8] = b"this value is definitely longand so is this one here";
+
+// The error of building views, if it failed.
+fn refusal(
+    made: Result<(Vec<ByteBuffer>, Buffer<BinaryView>), VortexError>,
+) -> Option<VortexError> {
+    match made {
+        Ok(_) => None,
+        Err(e) => Some(e),
+    }
+}
+
+// The number of its buffer, and where in it the value begins, of a view that refers to its value.
+fn place_of(view: BinaryView) -> Option<(u32, u32)> {
+    if view.is_inlined() {
+        return None;
+    }
+    let parts = view.as_view();
+    Some((parts.buffer_index, parts.offset))
+}
+
+#[test]
+fn a_buffer_ends_where_the_next_value_would_pass_the_limit(rt: HostRuntime) -> Result<(), Fail> {
+    let heap = ByteBuffer::copy_from(rt.alloc(), &LETTERS[..18])?;
+    let (buffers, _) = build_views(rt.alloc(), 0, 10, heap, &[6u8, 5, 4, 3])?;
+    assert_eq!(rt; buffers.len(), 3);
+    assert_eq!(rt; buffers[0].len(), 6);
+    assert_eq!(rt; buffers[1].len(), 9);
+    assert_eq!(rt; buffers[2].len(), 3);
+    Ok(())
+}
+
+#[test]
+fn a_value_longer_than_the_limit(rt: HostRuntime) -> Result<(), Fail> {
+    let heap = ByteBuffer::copy_from(rt.alloc(), &LETTERS[..18])?;
+    let made = build_views(rt.alloc(), 0, 5, heap, &[6u8, 5, 4, 3]);
+    assert_eq!(rt; refusal(made), Some(VortexError::ValueTooLong { row: 0 }));
+    Ok(())
+}
+
+#[test]
+fn lengths_that_are_not_the_heap(rt: HostRuntime) -> Result<(), Fail> {
+    let heap = ByteBuffer::copy_from(rt.alloc(), &LETTERS[..18])?;
+    let made = build_views(rt.alloc(), 0, 10, heap, &[6u8, 5]);
+    assert_eq!(rt; refusal(made), Some(VortexError::LengthsNotExact));
+    Ok(())
+}
+
+#[test]
+fn a_limit_past_the_greatest(rt: HostRuntime) -> Result<(), Fail> {
+    let heap = ByteBuffer::copy_from(rt.alloc(), &LETTERS[..18])?;
+    let made = build_views(rt.alloc(), 0, 2147483648, heap, &[6u8, 5, 4, 3]);
+    assert_eq!(rt; refusal(made), Some(VortexError::LimitTooLarge));
+    Ok(())
+}
+
+#[test]
+fn nothing(rt: HostRuntime) -> Result<(), Fail> {
+    let heap = ByteBuffer::copy_from(rt.alloc(), &[])?;
+    let none: [u32; 0] = [];
+    let (buffers, views) = build_views(rt.alloc(), 0, 10, heap, &none)?;
+    assert_eq!(rt; buffers.len(), 0);
+    assert_eq!(rt; views.len(), 0);
+    Ok(())
+}
+
+#[test]
+fn views_name_their_buffers(rt: HostRuntime) -> Result<(), Fail> {
+    let heap = ByteBuffer::copy_from(rt.alloc(), LETTERS)?;
+    let (buffers, views) = build_views(rt.alloc(), 0, 26, heap, &[13u32, 13, 13, 13])?;
+    assert_eq!(rt; buffers.len(), 2);
+    assert_eq!(rt; buffers[0].len(), 26);
+    assert_eq!(rt; buffers[1].len(), 26);
+    assert_eq!(rt; views.len(), 4);
+    assert_eq!(rt; place_of(views.value(0)), Some((0, 0)));
+    assert_eq!(rt; place_of(views.value(1)), Some((0, 13)));
+    assert_eq!(rt; place_of(views.value(2)), Some((1, 0)));
+    assert_eq!(rt; place_of(views.value(3)), Some((1, 13)));
+    assert_eq!(rt; views.value(2).as_u128(), THIRD);
+    Ok(())
+}
+
+#[test]
+fn a_full_buffer_is_not_cut(rt: HostRuntime) -> Result<(), Fail> {
+    let heap = ByteBuffer::copy_from(rt.alloc(), SENTENCES)?;
+    let (buffers, views) = build_views(rt.alloc(), 0, 52, heap, &[29u16, 23])?;
+    assert_eq!(rt; buffers.len(), 1);
+    assert_eq!(rt; buffers[0].len(), 52);
+    assert_eq!(rt; views.len(), 2);
+    assert_eq!(rt; place_of(views.value(0)), Some((0, 0)));
+    assert_eq!(rt; place_of(views.value(1)), Some((0, 29)));
+    Ok(())
+}
+
+#[test]
+fn a_buffer_one_byte_short_is_cut(rt: HostRuntime) -> Result<(), Fail> {
+    let heap = ByteBuffer::copy_from(rt.alloc(), SENTENCES)?;
+    let (buffers, views) = build_views(rt.alloc(), 0, 51, heap, &[29u16, 23])?;
+    assert_eq!(rt; buffers.len(), 2);
+    assert_eq!(rt; buffers[0].len(), 29);
+    assert_eq!(rt; buffers[1].len(), 23);
+    assert_eq!(rt; views.len(), 2);
+    assert_eq!(rt; place_of(views.value(0)), Some((0, 0)));
+    assert_eq!(rt; place_of(views.value(1)), Some((1, 0)));
+    Ok(())
+}
+
+#[test]
+fn places_past_sixteen_bits(rt: HostRuntime) -> Result<(), Fail> {
+    let heap = ByteBuffer::from_vec(rt.alloc(), vec![in rt.alloc(); 0; 9000000]?)?;
+    let lens = vec![in rt.alloc(); 1000u32; 9000]?;
+    let (buffers, views) = build_views(rt.alloc(), 0, MAX_BUFFER_LEN, heap, &lens)?;
+    assert_eq!(rt; buffers.len(), 1);
+    assert_eq!(rt; views.len(), 9000);
+    assert_eq!(rt; place_of(views.value(66)), Some((0, 66000)));
+    assert_eq!(rt; place_of(views.value(8999)), Some((0, 8999000)));
+    Ok(())
+}
+
+#[test]
+fn views_are_those_of_their_values(rt: HostRuntime) -> Result<(), Fail> {
+    let heap = ByteBuffer::copy_from(rt.alloc(), b"inlinethis is a long reference value")?;
+    let (_, views) = build_views(rt.alloc(), 0, MAX_BUFFER_LEN, heap, &[6u32, 30, 0])?;
+    let expected = [
+        BinaryView::make_view(b"inline", 0, 0),
+        BinaryView::make_view(b"this is a long reference value", 0, 6),
+        BinaryView::make_view(b"", 0, 36),
+    ];
+    assert_eq!(rt; views.as_slice(), expected.as_slice());
+    Ok(())
+}
+
+#[test]
+fn offsets_build_as_their_lengths_do(rt: HostRuntime) -> Result<(), Fail> {
+    let heap = ByteBuffer::copy_from(rt.alloc(), TEXT)?;
+    let part = ByteBuffer::copy_from(rt.alloc(), &TEXT[2..38])?;
+    let offsets = [2u32, 34, 38];
+    let lens = offsets_to_lengths(rt.alloc(), &offsets)?;
+    let (cut, views) = build_views_from_offsets(rt.alloc(), 5, 33, heap, &offsets)?;
+    let (others, same) = build_views(rt.alloc(), 5, 33, part, lens.as_slice())?;
+    assert_eq!(rt; views.as_slice(), same.as_slice());
+    assert_eq!(rt; cut.len(), 2);
+    assert_eq!(rt; others.len(), 2);
+    assert_eq!(rt; cut[0].as_slice(), others[0].as_slice());
+    assert_eq!(rt; cut[1].as_slice(), b"tiny".as_slice());
+    Ok(())
+}
+
+#[test]
+fn the_last_number_is_passed(rt: HostRuntime) -> Result<(), Fail> {
+    let heap = ByteBuffer::copy_from(rt.alloc(), LETTERS)?;
+    let made = build_views(rt.alloc(), 4294967295, 26, heap, &[13u32, 13, 13, 13]);
+    assert_eq!(rt; refusal(made), Some(VortexError::Overflow));
+    Ok(())
+}
+
+#[test]
+fn the_last_number_is_named(rt: HostRuntime) -> Result<(), Fail> {
+    let heap = ByteBuffer::copy_from(rt.alloc(), LETTERS)?;
+    let (buffers, views) = build_views(rt.alloc(), 4294967295, 52, heap, &[13u32, 13, 13, 13])?;
+    assert_eq!(rt; buffers.len(), 1);
+    assert_eq!(rt; views.len(), 4);
+    assert_eq!(rt;
+        views.value(0).as_u128(),
+        0x00000000_ffffffff_61616161_0000000d
+    );
+    Ok(())
+}
+
+#[test]
+fn a_negative_length(rt: HostRuntime) -> Result<(), Fail> {
+    let heap = ByteBuffer::copy_from(rt.alloc(), &LETTERS[..3])?;
+    let made = build_views(rt.alloc(), 0, 10, heap, &[-1i8]);
+    assert_eq!(rt; refusal(made), Some(VortexError::Negative { row: 0 }));
+    Ok(())
+}
+
+#[test]
+fn a_last_offset_past_the_heap(rt: HostRuntime) -> Result<(), Fail> {
+    let heap = ByteBuffer::copy_from(rt.alloc(), TEXT)?;
+    let made = build_views_from_offsets(rt.alloc(), 0, 100, heap, &[2u32, 34, 41]);
+    assert!(rt;
+        matches!(
+            refusal(made),
+            Some(VortexError::OutOfBounds { index: 41, .. })
+        )
+    );
+    Ok(())
+}
+
+#[test]
+fn a_negative_offset(rt: HostRuntime) -> Result<(), Fail> {
+    let heap = ByteBuffer::copy_from(rt.alloc(), TEXT)?;
+    let made = build_views_from_offsets(rt.alloc(), 0, 100, heap, &[-1i32, 3]);
+    assert_eq!(rt; refusal(made), Some(VortexError::Negative { row: 0 }));
+    Ok(())
+}
+
+#[test]
+fn the_part_between_the_offsets(rt: HostRuntime) -> Result<(), Fail> {
+    let heap = ByteBuffer::copy_from(rt.alloc(), TEXT)?;
+    let (buffers, views) = build_views_from_offsets(rt.alloc(), 5, 40, heap, &[2u32, 34, 38])?;
+    assert_eq!(rt; buffers.len(), 1);
+    assert_eq!(rt; buffers[0].len(), 36);
+    assert_eq!(rt; buffers[0].as_slice(), &TEXT[2..38]);
+    assert_eq!(rt; views.len(), 2);
+    assert_eq!(rt; views.value(0).len(), 32);
+    assert_eq!(rt; place_of(views.value(0)), Some((5, 0)));
+    assert_eq!(rt;
+        views.value(0).as_u128(),
+        0x00000000_00000005_6f6c2061_00000020
+    );
+    assert_eq!(rt; views.value(1), BinaryView::make_view(b"tiny", 0, 0));
+    Ok(())
+}
+
+#[test]
+fn a_falling_offset(rt: HostRuntime) -> Result<(), Fail> {
+    let heap = ByteBuffer::copy_from(rt.alloc(), TEXT)?;
+    let made = build_views_from_offsets(rt.alloc(), 0, 100, heap, &[2u32, 34, 33]);
+    assert_eq!(rt; refusal(made), Some(VortexError::FallingOffsets { row: 2 }));
+    Ok(())
+}
+
+#[test]
+fn no_offset(rt: HostRuntime) -> Result<(), Fail> {
+    let heap = ByteBuffer::copy_from(rt.alloc(), TEXT)?;
+    let none: [u32; 0] = [];
+    let made = build_views_from_offsets(rt.alloc(), 0, 100, heap, &none);
+    assert_eq!(rt; refusal(made), Some(VortexError::EmptyInput));
+    Ok(())
+}
+
+#[test]
+fn lengths_between_offsets(rt: HostRuntime) -> Result<(), Fail> {
+    let lengths = offsets_to_lengths(rt.alloc(), &[2u32, 34, 38])?;
+    assert_eq!(rt; lengths.as_slice(), [32, 4].as_slice());
+    Ok(())
+}

@@ -1,0 +1,169 @@
+-- Rows in plain layout of which only the validity is given.
+use Rattle.std.proofs.Common.{ℕ, ◌<◌, ◌≡◌, Bool, true, false, List, [], ◌∷◌, length, map, replicate, refl, sym, ◌∙◌, ap, subst, arith}
+use Rattle.std.specs.Prelude.{◌||◌, pos, slice_index_or, Some, None, if◌then◌else◌}
+use Rattle.std.proofs.lemmas.List.{length-map, length-replicate, get_or-replicate}
+use Rattle.vx_base.specs.declared.dtypes.DType.{DType}
+use Rattle.vx_base.specs.declared.ptypes.PType.{PType}
+use Rattle.vx_base.specs.DTypes.{kinds_of as dtype_kinds}
+use Rattle.vx_base.specs.Integers.{numbers}
+use Rattle.vx_base.specs.Kinds.{Kind, booleans, integers, lists, fixed_lists, records, kind, is_nullable_kind, or_nullable, Fits}
+use Rattle.vx_base.specs.Rows.{Row, null}
+use Rattle.vx_base.specs.Defaults.{is_even, default_fault}
+use Rattle.vx_base.specs.Refusals.{mismatched_types}
+use Rattle.vx_views.specs.Views.{number_le, view_of}
+use Rattle.vx_views.specs.Sound.{IsSoundView}
+use Rattle.vx_tree.specs.Tree.{Tree, bools, primitive, constant, fixed_list, list_view, structure, view_array, Valid, all_invalid}
+use Rattle.vx_tree.specs.Meaning.{kind_of, kinds_of, is_valid_at, nullable, trees_from, is_texts}
+use Rattle.vx_tree.specs.Shapes.{state_of, tree_state, taken_state}
+use Rattle.vx_tree.specs.Formed.{ValidFits, AllLen, IsStruct, WellFormed, column_count, value_kind}
+use Rattle.vx_tree.specs.Plain.{ArePlain, IsPlainValid}
+use Rattle.vx_tree.specs.Operations.{IsZeroes, IsValidityOf, IsValidNulls}
+use Rattle.vx_tree.specs.Canonical.{IsCanonical, IsBlank, IsBlankPart, AreBlankParts, IsCanonicalValid, IsPlainNulls}
+use Rattle.vx_tree.proofs.Nulled.{null_row, nullable_nulled}
+use Rattle.vx_tree.proofs.Dictionaries.{nullable_either}
+use Rattle.vx_tree.proofs.Canonical.{same_nullable}
+use Rattle.vx_tree.proofs.Worked.{are_below, are_text}
+use Rattle.vx_tree.proofs.ViewArrays.{empty_is_zeroes}
+
+pub bools_blank : (t : Tree) (k : Kind) (m : Bool) (bits : List Bool) (v : Valid) (n : ℕ) → k ≡ booleans m → nullable v ≡ is_nullable_kind k → IsPlainValid v → t ≡ bools bits v → length bits ≡ n → IsBlank k n v t
+bools_blank t k m bits v n e may p a long =
+    rw a (record { len = long; kind = ap booleans (may ∙ ap is_nullable_kind e) ∙ sym e; plain = p; state = refl; nulls = λ i l. null_row (is_valid_at v i) _ })
+
+pub numbers_blank : (t : Tree) (k : Kind) (p : PType) (m : Bool) (bs : List ℕ) (v : Valid) (n : ℕ) → k ≡ integers p m → nullable v ≡ is_nullable_kind k → IsPlainValid v → t ≡ primitive p bs v
+    → numbers p bs ≡ map pos (replicate n 0) → IsBlank k n v t
+numbers_blank t k p m bs v n e may plain a zeroes =
+    rw a (record {
+      len = ap length zeroes ∙ length-map (replicate n 0) pos ∙ length-replicate {A = ℕ} n 0;
+      kind = ap (integers p) (may ∙ ap is_nullable_kind e) ∙ sym e;
+      plain = plain;
+      state = refl;
+      nulls = λ i l. null_row (is_valid_at v i) _;
+    })
+
+pub lists_blank : (t e o s : Tree) (k j : Kind) (m : Bool) (p q : PType) (v : Valid) (n : ℕ) → k ≡ lists j m → nullable v ≡ is_nullable_kind k → IsPlainValid v → t ≡ list_view e o s v false → IsBlankPart j 0 e → IsZeroes p n o → IsZeroes q n s → IsBlank k n v t
+lists_blank t e o s k j m p q v n same may plain a x y z =
+    rw a (record {
+      len = y.len;
+      kind = (λ i. lists (x.kind i) (may i)) ∙ ap (λ c. lists j (is_nullable_kind c)) same ∙ sym same;
+      plain = (x.plain, y.plain, z.plain, plain);
+      state = refl;
+      nulls = λ i l. null_row (is_valid_at v i) _;
+    })
+
+pub fixed_lists_blank : (t e : Tree) (k j : Kind) (m : Bool) (size h : ℕ) (v : Valid) (n : ℕ) → k ≡ fixed_lists j size m → nullable v ≡ is_nullable_kind k → IsPlainValid v → t ≡ fixed_list e size v n → IsBlankPart j h e → IsBlank k n v t
+fixed_lists_blank t e k j m size h v n same may plain a x =
+    rw a (record {
+      len = refl;
+      kind = (λ i. fixed_lists (x.kind i) size (may i)) ∙ ap (λ c. fixed_lists j size (is_nullable_kind c)) same ∙ sym same;
+      plain = (x.plain, plain);
+      state = refl;
+      nulls = λ i l. null_row (is_valid_at v i) _;
+    })
+
+-- ---- records
+
+pub blank_kinds : (ds : List DType) (n : ℕ) (rs : List Tree) → AreBlankParts ds n rs → kinds_of (trees_from rs) ≡ dtype_kinds ds
+blank_kinds [] n [] h = refl
+blank_kinds [] n (r ∷ rs) h = absurd h
+blank_kinds (d ∷ ds) n [] h = absurd h
+blank_kinds (d ∷ ds) n (r ∷ rs) h = λ i. kind (h.0.kind i) (blank_kinds ds n rs h.1 i)
+
+blank_plain : (ds : List DType) (n : ℕ) (rs : List Tree) → AreBlankParts ds n rs → ArePlain (trees_from rs)
+blank_plain [] n [] h = tt
+blank_plain [] n (r ∷ rs) h = absurd h
+blank_plain (d ∷ ds) n [] h = absurd h
+blank_plain (d ∷ ds) n (r ∷ rs) h = (h.0.plain, blank_plain ds n rs h.1)
+
+blank_lens : (ds : List DType) (n : ℕ) (rs : List Tree) → AreBlankParts ds n rs → AllLen n (trees_from rs)
+blank_lens [] n [] h = tt
+blank_lens [] n (r ∷ rs) h = absurd h
+blank_lens (d ∷ ds) n [] h = absurd h
+blank_lens (d ∷ ds) n (r ∷ rs) h = (h.0.len, blank_lens ds n rs h.1)
+
+blank_count : (ds : List DType) (n : ℕ) (rs : List Tree) → AreBlankParts ds n rs → length ds ≡ column_count (trees_from rs)
+blank_count [] n [] h = refl
+blank_count [] n (r ∷ rs) h = absurd h
+blank_count (d ∷ ds) n [] h = absurd h
+blank_count (d ∷ ds) n (r ∷ rs) h = omega (arith, blank_count ds n rs h.1)
+
+pub blank_columns_fit : (names : List (List ℕ)) (ds : List DType) (n : ℕ) (rs : List Tree) → length names ≡ length ds → AreBlankParts ds n rs → IsStruct names (trees_from rs) n
+blank_columns_fit names ds n rs same h = record { named = same ∙ blank_count ds n rs h; lens = blank_lens ds n rs h }
+
+pub struct_blank : (t : Tree) (k : Kind) (names : List (List ℕ)) (ds : List DType) (rs : List Tree) (m : Bool) (v : Valid) (n : ℕ) → k ≡ records names (dtype_kinds ds) m → nullable v ≡ is_nullable_kind k → IsPlainValid v
+    → t ≡ structure names (trees_from rs) v n → AreBlankParts ds n rs → IsBlank k n v t
+struct_blank t k names ds rs m v n same may plain a x =
+    rw a (record {
+      len = refl;
+      kind = (λ i. records names (blank_kinds ds n rs x i) (may i)) ∙ ap (λ c. records names (dtype_kinds ds) (is_nullable_kind c)) same ∙ sym same;
+      plain = (blank_plain ds n rs x, plain);
+      state = refl;
+      nulls = λ i l. null_row (is_valid_at v i) _;
+    })
+
+-- ---- texts and byte lists
+
+empty_sound : (buffers : List (List ℕ)) (u : Bool) → IsSoundView buffers u (replicate 16 0)
+unfolding number_le are_below
+empty_sound buffers u = record {
+  resolves = λ long. absurd (omega arith);
+  begins = λ long. absurd (omega arith);
+  utf8 = λ on. are_text [] refl;
+}
+
+pub views_blank_formed : (ws : List (List ℕ)) (k : Kind) (v : Valid) (n : ℕ) → k ≡ value_kind (is_texts k) (nullable v) → ValidFits v n → ws ≡ replicate n (view_of [] 0 0) → WellFormed (view_array ws [] k v)
+views_blank_formed ws k v n same fits e =
+    let long : length ws ≡ n = ap length e ∙ length-replicate {A = List ℕ} n (view_of [] 0 0) in
+    let each : (i : ℕ) → i < length ws → slice_index_or ws i [] ≡ replicate 16 0 = λ i l. ap (λ (xs : List (List ℕ)). slice_index_or xs i []) e ∙ get_or-replicate n i (view_of [] 0 0) [] (rw long at l) ∙ empty_is_zeroes in (
+      rw long fits,
+      record {
+        kind = same;
+        sound = λ i l valid. subst (IsSoundView [] (is_texts k)) (sym (each i l)) (empty_sound [] (is_texts k));
+        zeroes = λ i l none. each i l;
+      },
+    )
+
+pub views_blank : (t : Tree) (ws : List (List ℕ)) (k : Kind) (v : Valid) (n : ℕ) → IsPlainValid v → t ≡ view_array ws [] k v → ws ≡ replicate n (view_of [] 0 0) → IsBlank k n v t
+views_blank t ws k v n plain a e =
+    rw a (record { len = ap length e ∙ length-replicate {A = List ℕ} n (view_of [] 0 0); kind = refl; plain = plain; state = refl; nulls = λ i l. null_row (is_valid_at v i) _ })
+
+pub ruleset blanks = (bools_blank, numbers_blank, lists_blank, fixed_lists_blank)
+
+-- ---- rows of null
+
+pub nulls_nullable : (t : Tree) (u x y w : Valid) (n : ℕ) → IsValidityOf t x → IsValidNulls x u n y → IsCanonicalValid y n w → nullable w ≡ is_nullable_kind (or_nullable (nullable u) (kind_of t))
+nulls_nullable t u x y w n of nulls same = same_nullable y w same.state ∙ nullable_nulled x u y nulls.state ∙ ap (λ b. nullable u || b) of.kind ∙ sym (nullable_either (nullable u) (kind_of t))
+
+pub plain_nulls_made : (t r : Tree) (u x y w : Valid) (n : ℕ) → IsValidityOf t x → IsValidNulls x u n y → IsCanonicalValid y n w → IsBlank (or_nullable (nullable u) (kind_of t)) n w r
+    → IsPlainNulls (or_nullable (nullable u) (kind_of t)) n (taken_state (tree_state t) (state_of u)) r
+plain_nulls_made t r u x y w n of nulls same blank =
+    record {
+      len = blank.len;
+      kind = blank.kind;
+      plain = blank.plain;
+      state = blank.state ∙ same.state ∙ nulls.state ∙ ap (λ s. taken_state s (state_of u)) of.state;
+      rows = λ i l. blank.nulls i l (same.bits i l ∙ nulls.bits i l);
+    }
+
+-- a kind with a default has records with as many names as fields
+pub default_even : (k : Kind) → default_fault k ≡ None → is_even k ≡ true
+default_even k h = by_truth (is_even k) refl h
+  where
+    by_truth : (b : Bool) → is_even k ≡ b → (if b then None else Some mismatched_types) ≡ None → is_even k ≡ true
+    by_truth true e h = e
+    by_truth false e h = cc
+
+-- where null fits a kind, it may stand
+pub null_fits : (k : Kind) (r : Row) → Fits k r → r ≡ null → is_nullable_kind k ≡ true
+null_fits k r fits e = subst (Fits k) e fits
+
+-- rows of null made of zeroes are a constant of null in plain layout
+pub null_canonical : (k : Kind) (n : ℕ) (r : Tree) → is_nullable_kind k ≡ true → IsBlank k n all_invalid r → IsCanonical (constant k null n) r
+null_canonical k n r may h =
+    record {
+      same = record { len = h.len; kind = h.kind; rows = λ i l. h.nulls i l refl };
+      plain = h.plain;
+      state = h.state;
+      kept = tt;
+    }
+
+pub ruleset null_rows = (null_canonical, default_even, null_fits)

@@ -1,0 +1,215 @@
+-- The plain layout of each layout, by the plain layout of its parts.
+use Rattle.std.proofs.Common.{ℕ, zero, suc, ◌+◌, ◌*◌, ◌<◌, ◌≤◌, ◌≡◌, ◌++◌, Bool, false, List, [], ◌∷◌, length, map, take, get_or, Option, Some, None, refl, sym, ◌∙◌, ap, zero-add, inl, inr, arith}
+use Rattle.std.specs.Prelude.{pos, if◌then◌else◌}
+use Rattle.std.specs.List.{AllZip, range_with_len}
+use Rattle.std.proofs.lemmas.List.{take_more, take_all}
+use Rattle.std.proofs.lemmas.List.FromFn.{length-map-range_with_len, get_or-map-range_with_len}
+use Rattle.vx_base.specs.declared.ptypes.PType.{PType}
+use Rattle.vx_base.specs.Integers.{numbers}
+use Rattle.vx_base.specs.Bits.{bool_at}
+use Rattle.vx_base.specs.Refusals.{Refusal, refusal_of, IsMemoryOr, or_else}
+use Rattle.vx_base.specs.declared.errors.VortexError.{VortexError}
+use Rattle.vx_base.specs.Kinds.{Kind, booleans, integers, lists, fixed_lists, records, is_plain_integers}
+use Rattle.vx_base.specs.Rows.{Row, null, whole, items, record_of, count_in, truth_of}
+use Rattle.vx_tree.specs.Tree.{Tree, bools, primitive, fixed_list, list_view, structure, view_array, Trees, Valid, non_nullable, by_array}
+use Rattle.vx_tree.specs.Meaning.{tree_len, row_at, rows, is_valid_at, nullable, trees_from}
+use Rattle.vx_tree.specs.Shapes.{state_of, is_nullable_state}
+use Rattle.vx_tree.specs.Formed.{ValidFits, IsMask, IsCounts, IsListView, AllLen, WellFormed}
+use Rattle.vx_tree.specs.Plain.{ArePlain}
+use Rattle.vx_tree.specs.Canonical.{HasRowsOf, IsCanonical, AreCanonical, IsCanonicalValid, canonical_fault, columns_fault}
+use Rattle.vx_tree.proofs.RowLists.{rows_by_place}
+use Rattle.vx_tree.proofs.Selected.{nullable-state}
+use Rattle.vx_tree.proofs.FixedLists.{rows_range-same, place_within}
+use Rattle.vx_tree.proofs.ViewArrays.{rows_formed}
+use Rattle.vx_tree.proofs.Dictionaries.{memory_only}
+use Rattle.vx_tree.proofs.Columns.{IsRowsAt, AreRowsAt-from_each, AllZip-all}
+
+pub rows_canonical : (t r : Tree) → IsCanonical t r → rows r ≡ rows t
+rows_canonical t r h = (rows_by_place r t).1 (h.same.len, λ i l. h.same.rows i (rw h.same.len at l))
+
+-- ---- validities
+
+pub same_nullable : (v w : Valid) → state_of w ≡ state_of v → nullable w ≡ nullable v
+same_nullable v w e = nullable-state w ∙ ap is_nullable_state e ∙ sym (nullable-state v)
+
+pub array_canonical : (v w : Valid) (t : Tree) (bits : List Bool) (n : ℕ) → v ≡ by_array t → w ≡ by_array (bools bits non_nullable) → bits ≡ map (λ i. truth_of (row_at t i)) (range_with_len 0 (tree_len t))
+    → ValidFits v n → IsCanonicalValid v n w
+array_canonical v w t bits n a b e fits =
+    let mask : IsMask t n = rw a at fits in
+    rw (a, b) (record {
+      fits = record { len = ap length e ∙ length-map-range_with_len (λ i. truth_of (row_at t i)) 0 (tree_len t) ∙ mask.len; kind = refl };
+      state = refl;
+      plain = tt;
+      bits = λ i l. ap (λ bs. bool_at bs i) e ∙ get_or-map-range_with_len (λ j. truth_of (row_at t j)) 0 (tree_len t) i i false (rw mask.len l) (zero-add i);
+    })
+
+valid_row : (a b : Bool) (r s : Row) → a ≡ b → r ≡ s → (if a then r else null) ≡ (if b then s else null)
+valid_row a b r s e h = λ i. if e i then h i else null
+
+-- ---- leaves
+
+pub bools_canonical : (t r : Tree) (bits : List Bool) (v w : Valid) → t ≡ bools bits v → r ≡ bools bits w → IsCanonicalValid v (length bits) w → IsCanonical t r
+bools_canonical t r bits v w a b h =
+    rw (a, b) (record {
+      same = record { len = refl; kind = ap booleans (same_nullable v w h.state); rows = λ i l. valid_row (is_valid_at w i) (is_valid_at v i) _ _ (h.bits i l) refl };
+      plain = h.plain;
+      state = h.state;
+      kept = tt;
+    })
+
+pub numbers_canonical : (t r : Tree) (p : PType) (bs : List ℕ) (v w : Valid) → t ≡ primitive p bs v → r ≡ primitive p bs w → IsCanonicalValid v (length (numbers p bs)) w → IsCanonical t r
+numbers_canonical t r p bs v w a b h =
+    rw (a, b) (record {
+      same = record { len = refl; kind = ap (integers p) (same_nullable v w h.state); rows = λ i l. valid_row (is_valid_at w i) (is_valid_at v i) _ _ (h.bits i l) refl };
+      plain = h.plain;
+      state = h.state;
+      kept = tt;
+    })
+
+pub views_canonical_formed : (vs bs : List (List ℕ)) (k : Kind) (v w : Valid) → WellFormed (view_array vs bs k v) → IsCanonicalValid v (length vs) w → WellFormed (view_array vs bs k w)
+views_canonical_formed vs bs k v w formed h =
+    rows_formed vs bs vs k v w (λ i. i) (length vs)
+    (record { len = refl; fits = h.fits; kind = same_nullable v w h.state; state = h.state; within = λ i l. l; views = λ i l. refl; bits = h.bits })
+    formed
+
+pub views_canonical : (t r : Tree) (vs bs : List (List ℕ)) (k : Kind) (v w : Valid) → t ≡ view_array vs bs k v → r ≡ view_array vs bs k w → IsCanonicalValid v (length vs) w → IsCanonical t r
+views_canonical t r vs bs k v w a b h =
+    rw (a, b) (record {
+      same = record { len = refl; kind = refl; rows = λ i l. valid_row (is_valid_at w i) (is_valid_at v i) _ _ (h.bits i l) refl };
+      plain = h.plain;
+      state = h.state;
+      kept = (refl, refl);
+    })
+
+-- ---- lists
+
+pub fixed_lists_canonical : (t r e d : Tree) (k n : ℕ) (v w : Valid) → t ≡ fixed_list e k v n → r ≡ fixed_list d k w n → tree_len e ≡ n * k → IsCanonical e d → IsCanonicalValid v n w → IsCanonical t r
+fixed_lists_canonical t r e d k n v w a b long x h =
+    rw (a, b) (record {
+      same = record {
+        len = refl;
+        kind = λ i. fixed_lists (x.same.kind i) k (same_nullable v w h.state i);
+        rows = λ i l. valid_row (is_valid_at w i) (is_valid_at v i) _ _ (h.bits i l) (ap items (rows_range-same (row_at d) (row_at e) (i * k) (i * k) k (λ j m. x.same.rows (i * k + j) (rw long (place_within i j n k l m)))));
+      };
+      plain = (x.plain, h.plain);
+      state = h.state;
+      kept = tt;
+    })
+
+counts_same : (o p : Tree) → HasRowsOf o p → IsCounts o → IsCounts p
+counts_same o p x h =
+    record {
+      kind = ap is_plain_integers x.kind ∙ h.kind;
+      counts = λ i l. let inside : i < tree_len o = rw x.len at l in x.rows i inside ∙ h.counts i inside ∙ ap (λ r. whole (pos (count_in r))) (sym (x.rows i inside));
+    }
+
+count_same : (o p : Tree) (i : ℕ) → HasRowsOf o p → i < tree_len o → count_in (row_at p i) ≡ count_in (row_at o i)
+count_same o p i x l = ap count_in (x.rows i l)
+
+pub lists_canonical_formed : (e o s d p q : Tree) (f : Bool) → IsListView e o s f → IsCanonical e d → IsCanonical o p → IsCanonical s q → IsListView d p q f
+lists_canonical_formed e o s d p q f h x y z =
+    record {
+      offsets = counts_same o p y.same h.offsets;
+      sizes = counts_same s q z.same h.sizes;
+      same_len = z.same.len ∙ h.same_len ∙ sym y.same.len;
+      within = λ i l.
+          let inside : i < tree_len o = rw y.same.len at l in
+          omega (arith, h.within i inside, count_same o p i y.same inside, count_same s q i z.same (rw h.same_len inside), x.same.len);
+      follows = λ on i l.
+          let inside : i + 1 < tree_len o = rw y.same.len at l in
+          omega (arith, h.follows on i inside, count_same o p i y.same (omega (arith, inside)), count_same s q i z.same (omega (arith, inside, h.same_len)), count_same o p (i + 1) y.same inside);
+    }
+
+pub lists_canonical : (t r e o s d p q : Tree) (v w : Valid) (f : Bool) → t ≡ list_view e o s v f → r ≡ list_view d p q w f → IsListView e o s f → IsCanonical e d → IsCanonical o p → IsCanonical s q → IsCanonicalValid v (tree_len o) w
+    → IsCanonical t r
+lists_canonical t r e o s d p q v w f a b view x y z h =
+    rw (a, b) (record {
+      same = record {
+        len = y.same.len;
+        kind = λ i. lists (x.same.kind i) (same_nullable v w h.state i);
+        rows = λ i l.
+            let from = count_same o p i y.same l in
+            let size = count_same s q i z.same (rw view.same_len l) in
+            valid_row (is_valid_at w i) (is_valid_at v i) _ _ (h.bits i l) (ap items (rw (from, size) (rows_range-same (row_at d) (row_at e) (count_in (row_at o i)) (count_in (row_at o i)) (count_in (row_at s i))
+            (λ j m. x.same.rows (count_in (row_at o i) + j) (omega (arith, m, view.within i l))))));
+      };
+      plain = (x.plain, y.plain, z.plain, h.plain);
+      state = h.state;
+      kept = (refl, x.same, y.same, z.same);
+    })
+
+-- ---- records
+
+rows_each : (n : ℕ) (ts us : List Tree) → AllLen n (trees_from ts) → AllZip IsCanonical ts us → AllZip (λ t u. IsRowsAt t (λ i. i) n u) ts us
+rows_each n [] [] lens h = tt
+rows_each n [] (u ∷ us) lens h = absurd h
+rows_each n (t ∷ ts) [] lens h = absurd h
+rows_each n (t ∷ ts) (u ∷ us) lens h =
+    (record { len = h.0.same.len ∙ lens.0; kind = h.0.same.kind; rows = λ i l. h.0.same.rows i (rw lens.0 l) }, rows_each n ts us lens.1 h.1)
+
+plain_each : (ts us : List Tree) → AllZip IsCanonical ts us → ArePlain (trees_from us)
+plain_each [] [] h = tt
+plain_each [] (u ∷ us) h = absurd h
+plain_each (t ∷ ts) [] h = absurd h
+plain_each (t ∷ ts) (u ∷ us) h = (h.0.plain, plain_each ts us h.1)
+
+pub AreCanonical-from_each : (n : ℕ) (ts us : List Tree) (i : ℕ) → AllLen n (trees_from ts) → AllZip IsCanonical (take i ts) us → length ts ≤ i → AreCanonical (trees_from ts) n (trees_from us)
+AreCanonical-from_each n ts us i lens h l =
+    let each = AllZip-all IsCanonical ts us i h l in
+    let full : length ts ≤ length ts = omega arith in
+    record { rows_at = AreRowsAt-from_each (λ i. i) n ts us i (rows_each n (take i ts) us (lens_taken n ts i lens) h) l; plain = plain_each ts us each }
+  where
+    lens_taken : (n : ℕ) (ts : List Tree) (i : ℕ) → AllLen n (trees_from ts) → AllLen n (trees_from (take i ts))
+    lens_taken n [] zero h = tt
+    lens_taken n [] (suc i) h = tt
+    lens_taken n (t ∷ ts) zero h = tt
+    lens_taken n (t ∷ ts) (suc i) h = (h.0, lens_taken n ts i h.1)
+
+pub struct_canonical : (t r : Tree) (ns : List (List ℕ)) (ts us : Trees) (v w : Valid) (n : ℕ) → t ≡ structure ns ts v n → r ≡ structure ns us w n → AreCanonical ts n us → IsCanonicalValid v n w → IsCanonical t r
+struct_canonical t r ns ts us v w n a b x h =
+    rw (a, b) (record {
+      same = record {
+        len = refl;
+        kind = λ i. records ns (x.rows_at.alike.kinds i) (same_nullable v w h.state i);
+        rows = λ i l. valid_row (is_valid_at w i) (is_valid_at v i) _ _ (h.bits i l) (ap record_of (x.rows_at.rows ns i l));
+      };
+      plain = (x.plain, h.plain);
+      state = h.state;
+      kept = tt;
+    })
+
+-- ---- faults of columns, one after another
+
+or_none : (a b : Option Refusal) → or_else a b ≡ None → (a ≡ None) × (b ≡ None)
+or_none None b h = (refl, h)
+or_none (Some r) b h = cc
+
+pub columns_fault-next : (ts : List Tree) (i : ℕ) (t : Tree) → columns_fault (trees_from (take i ts)) ≡ None → i < length ts → t ≡ get_or ts i t → canonical_fault t ≡ None → columns_fault (trees_from (take (i + 1) ts)) ≡ None
+columns_fault-next ts i t h l e here = rw (take_more ts i t l, ← e) (more (take i ts) t h here)
+  where
+    more : (us : List Tree) (u : Tree) → columns_fault (trees_from us) ≡ None → canonical_fault u ≡ None → columns_fault (trees_from (us ++ u ∷ [])) ≡ None
+    more [] u h here = rw here refl
+    more (w ∷ us) u h here =
+        let both = or_none (canonical_fault w) (columns_fault (trees_from us)) h in
+        rw both.0 (more us u both.1 here)
+
+pub columns_fault-all : (ts : List Tree) (i : ℕ) → columns_fault (trees_from (take i ts)) ≡ None → length ts ≤ i → columns_fault (trees_from ts) ≡ None
+columns_fault-all ts i h l = rw (take_all i ts l) at h
+
+-- the first column that has a fault
+pub columns_fault-first : (ts : List Tree) (i : ℕ) (t : Tree) (fault : Refusal) → columns_fault (trees_from (take i ts)) ≡ None → i < length ts → t ≡ get_or ts i t → canonical_fault t ≡ Some fault → columns_fault (trees_from ts) ≡ Some fault
+columns_fault-first [] i t fault h l e here = absurd (omega arith)
+columns_fault-first (u ∷ ts) zero t fault h l e here = rw (← e, here) refl
+columns_fault-first (u ∷ ts) (suc i) t fault h l e here =
+    let both = or_none (canonical_fault u) (columns_fault (trees_from (take i ts))) h in
+    rw both.0 (columns_fault-first ts i t fault both.1 (omega arith) e here)
+
+refused_by : (ts : List Tree) (i : ℕ) (t : Tree) (fault : Option Refusal) (e : VortexError) → columns_fault (trees_from (take i ts)) ≡ None → i < length ts → t ≡ get_or ts i t → canonical_fault t ≡ fault → fault ≡ refusal_of e
+    → IsMemoryOr (columns_fault (trees_from ts)) e
+refused_by ts i t None e h l here none same = inl (memory_only None e refl (inr same))
+refused_by ts i t (Some r) e h l here some same = inr (columns_fault-first ts i t r h l here some ∙ same)
+
+-- the error of the first column that has one is that of the columns
+pub columns_refused : (ts : List Tree) (i : ℕ) (t : Tree) (e : VortexError) → columns_fault (trees_from (take i ts)) ≡ None → i < length ts → t ≡ get_or ts i t → IsMemoryOr (canonical_fault t) e → IsMemoryOr (columns_fault (trees_from ts)) e
+columns_refused ts i t e h l here (inl memory) = inl memory
+columns_refused ts i t e h l here (inr same) = refused_by ts i t (canonical_fault t) e h l here refl same

@@ -1,0 +1,95 @@
+-- Values in plain layout, taken by codes.
+use Rattle.std.proofs.Common.{ℕ, ◌<◌, ◌≡◌, Bool, false, List, length, Option, Some, None, refl, sym, ◌∙◌, ap, inl, arith}
+use Rattle.std.specs.Prelude.{pos, negsuc, is_some, slice_index, if◌then◌else◌}
+use Rattle.vx_base.specs.Refusals.{Refusal, IsMemoryOr}
+use Rattle.vx_base.specs.declared.errors.VortexError.{VortexError}
+use Rattle.vx_base.specs.declared.errors.VortexError.TheVariants.{Memory}
+use Rattle.vx_base.specs.Rows.{Row, null, boolean, whole, bytes, text, items, record_of, position_in}
+use Rattle.vx_base.specs.Kinds.{is_nullable_kind, or_nullable}
+use Rattle.vx_tree.specs.Tree.{Tree, dictionary, Valid}
+use Rattle.vx_tree.specs.Meaning.{tree_len, kind_of, row_at, is_valid_at, nullable, picked}
+use Rattle.vx_tree.specs.Shapes.{state_of, tree_state, taken_state}
+use Rattle.vx_tree.specs.Formed.{IsCode, IsDictionary}
+use Rattle.vx_tree.specs.Plain.{IsPlain}
+use Rattle.vx_tree.specs.Operations.{IsSelected, IsNulled, IsValidityOf, ArePositions, or_zero}
+use Rattle.vx_tree.specs.Canonical.{IsCanonical, IsCanonicalValid, IsPlainNulls}
+use Rattle.vx_tree.proofs.Canonical.{same_nullable}
+use Rattle.vx_tree.proofs.Dictionaries.{state_of_nulled, state_of_selected}
+
+picked_row : (f : ℕ → Row) (k : ℕ) (b : Bool) (p : Option ℕ) → b ≡ is_some p → k ≡ or_zero p → (if b then f k else null) ≡ picked f p
+picked_row f k b None e same = rw e refl
+picked_row f k b (Some n) e same = rw (e, same) refl
+
+-- the values at the positions that codes name, null where a code is null
+pub named_values : (c v s r : Tree) (ps : List ℕ) (x w : Valid) → IsPlain v → IsValidityOf c x → IsCanonicalValid x (tree_len c) w → ArePositions c (tree_len v) ps → IsSelected v ps s → IsNulled s w r → IsCanonical (dictionary c v false) r
+named_values c v s r ps x w plain codes h are selected nulled =
+    record {
+      same = record {
+        len = nulled.len ∙ selected.len ∙ are.len;
+        kind = nulled.kind ∙ (λ i. or_nullable ((same_nullable x w h.state ∙ codes.kind) i) (selected.kind i));
+        rows = λ i l.
+            let inside : i < length ps = rw are.len l in
+            let p = are.each i l in
+            nulled.rows i (rw selected.len inside) ∙ ap (λ y. if is_valid_at w i then y else null) (selected.rows i inside)
+            ∙ picked_row (row_at v) (slice_index ps i) (is_valid_at w i) (position_in (row_at c i)) (h.bits i l ∙ codes.bits i l ∙ sym p.present) p.told;
+      };
+      plain = nulled.plain (selected.plain plain) h.plain;
+      state = state_of_nulled s r w nulled ∙ (λ i. taken_state (state_of_selected v s ps selected i) ((h.state ∙ codes.state) i));
+      kept = tt;
+    }
+
+absent_row : (f : ℕ → Row) (r : Row) → IsCode 0 r → null ≡ picked f (position_in r)
+absent_row f null h = refl
+absent_row f (whole (pos k)) h = absurd (omega (arith, h))
+absent_row f (whole (negsuc k)) h = absurd h
+absent_row f (boolean b) h = absurd h
+absent_row f (bytes b) h = absurd h
+absent_row f (text b) h = absurd h
+absent_row f (items b) h = absurd h
+absent_row f (record_of b) h = absurd h
+
+-- of no values each row is null
+pub named_none : (c v r : Tree) (x w : Valid) → IsDictionary c v false → tree_len v ≡ 0 → IsValidityOf c x → IsCanonicalValid x (tree_len c) w
+    → IsPlainNulls (or_nullable (nullable w) (kind_of v)) (tree_len c) (taken_state (tree_state v) (state_of w)) r → IsCanonical (dictionary c v false) r
+named_none c v r x w d none codes h nulls =
+    record {
+      same = record {
+        len = nulls.len;
+        kind = nulls.kind ∙ ap (λ b. or_nullable b (kind_of v)) (same_nullable x w h.state ∙ codes.kind);
+        rows = λ i l. nulls.rows i l ∙ absent_row (row_at v) (row_at c i) (rw none at d.within i l);
+      };
+      plain = nulls.plain;
+      state = nulls.state ∙ ap (taken_state (tree_state v)) (h.state ∙ codes.state);
+      kept = tt;
+    }
+
+same_pick : (f g : ℕ → Row) (n : ℕ) (r : Row) → ((i : ℕ) → i < n → f i ≡ g i) → IsCode n r → picked f (position_in r) ≡ picked g (position_in r)
+same_pick f g n null same h = refl
+same_pick f g n (whole (pos k)) same h = same k h
+same_pick f g n (whole (negsuc k)) same h = absurd h
+same_pick f g n (boolean b) same h = absurd h
+same_pick f g n (bytes b) same h = absurd h
+same_pick f g n (text b) same h = absurd h
+same_pick f g n (items b) same h = absurd h
+same_pick f g n (record_of b) same h = absurd h
+
+-- and the values may be the canonical ones
+pub dictionary_canonical : (t r c v w : Tree) (f : Bool) → t ≡ dictionary c v f → IsDictionary c v f → IsCanonical v w → IsCanonical (dictionary c w false) r → IsCanonical t r
+dictionary_canonical t r c v w f a d x h =
+    rw a (record {
+      same = record {
+        len = h.same.len;
+        kind = h.same.kind ∙ ap (or_nullable (is_nullable_kind (kind_of c))) x.same.kind;
+        rows = λ i l. h.same.rows i l ∙ same_pick (row_at w) (row_at v) (tree_len v) (row_at c i) x.same.rows (d.within i l);
+      };
+      plain = h.plain;
+      state = h.state ∙ ap (λ s. taken_state s (tree_state c)) x.state;
+      kept = tt;
+    })
+
+pub dictionary_renamed : (c v w : Tree) (f : Bool) → IsDictionary c v f → tree_len w ≡ tree_len v → IsDictionary c w false
+dictionary_renamed c v w f d same = record { codes = d.codes; within = λ i l. rw same (d.within i l); referenced = λ on. absurd (cc) }
+
+-- want of memory may come in place of any fault
+pub refused_for_memory : (fault : Option Refusal) (e : VortexError) → e ≡ Memory → IsMemoryOr fault e
+refused_for_memory fault e h = inl h

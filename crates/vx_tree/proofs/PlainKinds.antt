@@ -1,0 +1,151 @@
+-- What the kind alone tells of arrays in plain layout.
+use Rattle.std.proofs.Common.{ℕ, zero, suc, ◌+◌, ◌*◌, ◌^◌, ◌<◌, ◌≡◌, Bool, true, false, List, [], ◌∷◌, length, drop, ltb, Option, Some, None, refl, sym, ap, subst, arith}
+use Rattle.std.specs.Prelude.{◌&&◌, nat_lt, slice_index_or, if◌then◌else◌}
+use Rattle.std.specs.List.{All}
+use Rattle.std.proofs.lemmas.Bool.{ltb-true}
+use Rattle.vx_base.specs.declared.dtypes.DType.{DType, Struct as struct_dtype}
+use Rattle.vx_base.specs.declared.nullability.Nullability.{Nullability}
+use Rattle.vx_base.specs.declared.struct_fields.StructFields.{StructFields}
+use Rattle.vx_base.proofs.StructKinds.{from_place, struct_kind}
+use Rattle.vx_base.specs.DTypes.{dtype_meaning, field_kinds, kinds_of as dtype_kinds}
+use Rattle.vx_base.specs.Defaults.{is_even, even_fields}
+use Rattle.vx_base.specs.Refusals.{Refusal, overflow, or_else}
+use Rattle.vx_base.specs.Kinds.{Kind, booleans, integers, texts, binaries, lists, fixed_lists, records, Kinds, no_kinds, kind, or_nullable}
+use Rattle.vx_tree.specs.Tree.{Tree, bools, primitive, constant, dictionary, fixed_list, list_view, structure, view_array, Trees, no_trees, tree}
+use Rattle.vx_tree.specs.Meaning.{kind_of, kinds_of, nullable, is_texts}
+use Rattle.vx_tree.specs.Formed.{column_count, value_kind}
+use Rattle.vx_tree.specs.Fitting.{AllFormed, ColumnsFormed}
+use Rattle.vx_tree.specs.Faults.{take_overflow, columns_overflow}
+use Rattle.vx_tree.specs.Plain.{IsPlain, ArePlain}
+use Rattle.vx_tree.specs.Canonical.{plain_overflow, fields_overflow}
+
+All-cons : {A : Type 0} (P : A → Type 0) (x : A) (xs : List A) → P x → All P xs → All P (x ∷ xs)
+All-cons P x xs here rest zero d l = here
+All-cons P x xs here rest (suc i) d l = rest i d (omega arith)
+
+-- ---- how many elements rows need
+
+value_overflow : (u m : Bool) (n : ℕ) → None ≡ plain_overflow (value_kind u m) n
+value_overflow true m n = refl
+value_overflow false m n = refl
+
+mutual
+  pub take_overflow-plain : (t : Tree) → AllFormed t → IsPlain t → (n : ℕ) → take_overflow t n ≡ plain_overflow (kind_of t) n
+  take_overflow-plain (bools bits v) h p n = refl
+  take_overflow-plain (primitive t bs v) h p n = refl
+  take_overflow-plain (constant k r m) h p n = absurd p
+  take_overflow-plain (dictionary c v f) h p n = absurd p
+  take_overflow-plain (fixed_list e k v m) h p n = ap (λ (x : Option Refusal). if nat_lt (n * k) (2 ^ 64) then x else Some overflow) (take_overflow-plain e h.1 p.0 (n * k))
+  take_overflow-plain (list_view e o s v f) h p n = refl
+  take_overflow-plain (structure ns ts v m) h p n = columns_overflow-plain ts h.1 p.0 n
+  take_overflow-plain (view_array vs bs k v) h p n =
+      let P : Kind → Type 0 = λ x. None ≡ plain_overflow x n in
+      subst P (sym h.0.1.kind) (value_overflow (is_texts k) (nullable v) n)
+
+  pub columns_overflow-plain : (ts : Trees) → ColumnsFormed ts → ArePlain ts → (n : ℕ) → columns_overflow ts n ≡ fields_overflow (kinds_of ts) n
+  columns_overflow-plain no_trees h p n = refl
+  columns_overflow-plain (tree t ts) h p n = λ i. or_else (take_overflow-plain t h.0 p.0 n i) (columns_overflow-plain ts h.1 p.1 n i)
+
+pub plain_overflow-or_nullable : (b : Bool) (k : Kind) (n : ℕ) → plain_overflow (or_nullable b k) n ≡ plain_overflow k n
+plain_overflow-or_nullable b (booleans m) n = refl
+plain_overflow-or_nullable b (integers t m) n = refl
+plain_overflow-or_nullable b (texts m) n = refl
+plain_overflow-or_nullable b (binaries m) n = refl
+plain_overflow-or_nullable b (lists k m) n = refl
+plain_overflow-or_nullable b (fixed_lists k size m) n = refl
+plain_overflow-or_nullable b (records names ks m) n = refl
+
+or_none : (a b : Option Refusal) → or_else a b ≡ None → (a ≡ None) × (b ≡ None)
+or_none None b h = (refl, h)
+or_none (Some r) b h = cc
+
+-- no rows need none
+mutual
+  pub plain_overflow-none : (k : Kind) → plain_overflow k 0 ≡ None
+  plain_overflow-none (booleans m) = refl
+  plain_overflow-none (integers t m) = refl
+  plain_overflow-none (texts m) = refl
+  plain_overflow-none (binaries m) = refl
+  plain_overflow-none (lists k m) = refl
+  plain_overflow-none (fixed_lists k size m) = let none : 0 * size ≡ 0 = omega arith in rw none (plain_overflow-none k)
+  plain_overflow-none (records names ks m) = fields_overflow-none ks
+
+  fields_overflow-none : (ks : Kinds) → fields_overflow ks 0 ≡ None
+  fields_overflow-none no_kinds = refl
+  fields_overflow-none (kind k ks) = rw (plain_overflow-none k) (fields_overflow-none ks)
+
+-- where the elements of n lists can be counted, there are fewer than 2^64, and theirs can be counted too
+pub lists_countable : (k : Kind) (size n : ℕ) (m : Bool) → plain_overflow (fixed_lists k size m) n ≡ None → (n * size < 2 ^ 64) × (plain_overflow k (n * size) ≡ None)
+lists_countable k size n m none = few (ltb (n * size) (2 ^ 64)) refl none
+  where
+    few : (b : Bool) → ltb (n * size) (2 ^ 64) ≡ b → (if b then plain_overflow k (n * size) else Some overflow) ≡ None → (n * size < 2 ^ 64) × (plain_overflow k (n * size) ≡ None)
+    few true p h = (ltb-true (n * size) (2 ^ 64) p, h)
+    few false p h = absurd (cc)
+
+-- and so can those of each field
+pub fields_countable : (ds : List DType) (n : ℕ) → fields_overflow (dtype_kinds ds) n ≡ None → All (λ d. plain_overflow (dtype_meaning d) n ≡ None) ds
+fields_countable [] n h = λ i d l. absurd (omega arith)
+fields_countable (e ∷ ds) n h =
+    let both = or_none (plain_overflow (dtype_meaning e) n) (fields_overflow (dtype_kinds ds) n) h in
+    All-cons (λ d. plain_overflow (dtype_meaning d) n ≡ None) e ds both.0 (fields_countable ds n both.1)
+
+-- the kinds from a place on are that of the place, then those from the next on
+pub fields_overflow-from : (ds : List DType) (n i : ℕ) (d : DType) → i < length ds → d ≡ slice_index_or ds i d
+    → fields_overflow (dtype_kinds (drop i ds)) n ≡ or_else (plain_overflow (dtype_meaning d) n) (fields_overflow (dtype_kinds (drop (i + 1) ds)) n)
+fields_overflow-from ds n i d inside here = ap (λ (xs : List DType). fields_overflow (dtype_kinds xs) n) (from_place ds i d inside here)
+
+pub record_overflow : (d : DType) (fs : StructFields) (m : Nullability) (n : ℕ) → d ≡ struct_dtype fs m → plain_overflow (dtype_meaning d) n ≡ fields_overflow (field_kinds fs) n
+record_overflow d fs m n e = ap (λ k. plain_overflow k n) (struct_kind d fs m e)
+
+-- ---- records with as many names as fields
+
+both_true : (a b : Bool) → (a && b) ≡ true → (a ≡ true) × (b ≡ true)
+both_true true b h = (refl, h)
+both_true false b h = cc
+
+pub fields_even : (names : List (List ℕ)) (ds : List DType) → even_fields names (dtype_kinds ds) ≡ true → All (λ d. is_even (dtype_meaning d) ≡ true) ds
+fields_even names [] h = λ i d l. absurd (omega arith)
+fields_even [] (e ∷ ds) h = absurd (cc)
+fields_even (m ∷ names) (e ∷ ds) h =
+    let both = both_true (is_even (dtype_meaning e)) (even_fields names (dtype_kinds ds)) h in
+    All-cons (λ d. is_even (dtype_meaning d) ≡ true) e ds both.0 (fields_even names ds both.1)
+
+pub fields_even-count : (names : List (List ℕ)) (ds : List DType) → even_fields names (dtype_kinds ds) ≡ true → length names ≡ length ds
+fields_even-count [] [] h = refl
+fields_even-count [] (e ∷ ds) h = absurd (cc)
+fields_even-count (m ∷ names) [] h = absurd (cc)
+fields_even-count (m ∷ names) (e ∷ ds) h = ap suc (fields_even-count names ds (both_true (is_even (dtype_meaning e)) (even_fields names (dtype_kinds ds)) h).1)
+
+pub is_even-or_nullable : (b : Bool) (k : Kind) → is_even (or_nullable b k) ≡ is_even k
+is_even-or_nullable b (booleans m) = refl
+is_even-or_nullable b (integers t m) = refl
+is_even-or_nullable b (texts m) = refl
+is_even-or_nullable b (binaries m) = refl
+is_even-or_nullable b (lists k m) = refl
+is_even-or_nullable b (fixed_lists k size m) = refl
+is_even-or_nullable b (records names ks m) = refl
+
+value_even : (u m : Bool) → is_even (value_kind u m) ≡ true
+value_even true m = refl
+value_even false m = refl
+
+mutual
+  pub is_even-plain : (t : Tree) → AllFormed t → IsPlain t → is_even (kind_of t) ≡ true
+  is_even-plain (bools bits v) h p = refl
+  is_even-plain (primitive t bs v) h p = refl
+  is_even-plain (constant k r m) h p = absurd p
+  is_even-plain (dictionary c v f) h p = absurd p
+  is_even-plain (fixed_list e k v m) h p = is_even-plain e h.1 p.0
+  is_even-plain (list_view e o s v f) h p = is_even-plain e h.1 p.0
+  is_even-plain (structure ns ts v m) h p = even_columns ns ts h.0.1.named h.1 p.0
+  is_even-plain (view_array vs bs k v) h p =
+      let P : Kind → Type 0 = λ x. is_even x ≡ true in
+      subst P (sym h.0.1.kind) (value_even (is_texts k) (nullable v))
+
+  even_columns : (ns : List (List ℕ)) (ts : Trees) → length ns ≡ column_count ts → ColumnsFormed ts → ArePlain ts → even_fields ns (kinds_of ts) ≡ true
+  even_columns [] no_trees e h p = refl
+  even_columns (m ∷ ns) no_trees e h p = absurd (omega arith)
+  even_columns [] (tree t ts) e h p = absurd (omega arith)
+  even_columns (m ∷ ns) (tree t ts) e h p = rw (is_even-plain t h.0 p.0) (even_columns ns ts (omega arith) h.1 p.1)
+
+pub ruleset plain_kinds = (take_overflow-plain, columns_overflow-plain)

@@ -1,0 +1,25 @@
+use Rattle.std.proofs.Common.{◌≡◌, ◌≤◌, ◌+◌, ap, sym, ◌∙◌, subst, map, drop, arith}
+use Rattle.vx_tree.specs.Tree.{Tree}
+use Rattle.vx_tree.specs.Meaning.{tree_len}
+use Rattle.vx_tree.specs.Parts.{tree_of}
+use Rattle.vx_tree.specs.Joined.{joined_len, elements_in, offsets_in, AreLists}
+use Rattle.vx_tree.proofs.JoinedListViews.{sums_short, elements-step, offsets-more}
+use Rattle.vx_tree.proofs.layouts.list_view.joined_offsets.Goals as goal
+
+pub add_counts-requires-clause-short : goal.add_counts-requires-clause-short
+add_counts-requires-clause-short c =
+    let ts = c.args.arrays.now in
+    let t = c.array-item.result in
+    let same = sym c.layout.ensures.parts ∙ ap tree_of c.in-ListView.is in
+    let lists : AreLists t = subst AreLists (sym c.array-item.is) (c.requires.lists c.loop-array.array-index t c.loop-array-test.true) in
+    let step = elements-step ts c.loop-array.array-index t c.loop-array-test.true c.array-item.is in
+    let within : c.loop-array.base + tree_len (elements_in t) ≤ joined_len (map elements_in ts) = omega (arith, step, c.loop-array.invariant.1) in
+    let short = sums_short t c.loop-array.base (joined_len (map elements_in ts)) lists within c.requires.short in
+    rw (ap offsets_in same) at short
+
+pub loop-array-preserved : goal.loop-array-preserved
+loop-array-preserved c =
+    let same = sym c.layout.ensures.parts ∙ ap tree_of c.in-ListView.is in
+    offsets-more c.args.arrays.now c.loop-array.array-index c.array-item.result c.in-ListView.offsets c.loop-array.base c.len-base.result c.loop-array.joined.items c.add_counts.new.out.items
+    c.loop-array-test.true c.array-item.is (sym (ap offsets_in same)) (c.len-base.ensures ∙ sym (ap (λ u. tree_len (elements_in u)) same))
+    c.loop-array.invariant.0 c.loop-array.invariant.1 c.in_ok-add_counts.ensures

@@ -1,0 +1,20 @@
+use Rattle.std.proofs.Common.{◌≡◌, ap, sym, ◌∙◌, subst, arith}
+use Rattle.vx_tree.specs.Meaning.{tree_len}
+use Rattle.vx_tree.specs.Parts.{tree_of}
+use Rattle.vx_tree.specs.Joined.{elements_in, sizes_in, AreLists}
+use Rattle.vx_tree.proofs.JoinedListViews.{sums_zero, sizes-more}
+use Rattle.vx_tree.proofs.layouts.list_view.joined_sizes.Goals as goal
+
+pub add_counts-requires-clause-short : goal.add_counts-requires-clause-short
+add_counts-requires-clause-short c =
+    let t = c.array-item.result in
+    let same = sym c.layout.ensures.parts ∙ ap tree_of c.in-ListView.is in
+    let lists : AreLists t = subst AreLists (sym c.array-item.is) (c.requires c.loop-array.array-index t c.loop-array-test.true) in
+    let short = sums_zero t lists (rw (ap (λ u. tree_len (elements_in u)) same) c.known_len.ensures) in
+    rw (ap sizes_in same) at short
+
+pub loop-array-preserved : goal.loop-array-preserved
+loop-array-preserved c =
+    let same = sym c.layout.ensures.parts ∙ ap tree_of c.in-ListView.is in
+    sizes-more c.args.arrays.now c.loop-array.array-index c.array-item.result c.loop-array.joined.items c.add_counts.new.out.items
+    c.loop-array-test.true c.array-item.is c.loop-array.invariant (rw (sym (ap sizes_in same)) at c.in_ok-add_counts.ensures)

@@ -1,0 +1,117 @@
+-- The same rows in plain layout.
+use Rattle.std.specs.Prelude.{◌≡◌, ◌<◌, ◌*◌, ◌^◌, ℕ, false, List, Option, Some, None, nat_lt, if◌then◌else◌}
+use Rattle.std.specs.List.{AllZip}
+use Rattle.vx_base.specs.DTypes.{dtype_meaning}
+use Rattle.vx_base.specs.declared.dtypes.DType.{DType}
+use Rattle.vx_base.specs.Rows.{Row, null, is_present}
+use Rattle.vx_base.specs.Defaults.{default_fault}
+use Rattle.vx_base.specs.Refusals.{Refusal, not_implemented, overflow, or_else}
+use Rattle.vx_base.specs.Kinds.{Kind, booleans, integers, texts, binaries, fixed_lists, records, Kinds, no_kinds, kind}
+use Rattle.vx_tree.specs.Tree.{Tree, bools, primitive, constant, dictionary, fixed_list, list_view, structure, view_array, Trees, no_trees, tree, Valid}
+use Rattle.vx_tree.specs.Meaning.{tree_len, kind_of, row_at, is_valid_at}
+use Rattle.vx_tree.specs.Shapes.{State, state_of, tree_state}
+use Rattle.vx_tree.specs.Formed.{ValidFits}
+use Rattle.vx_tree.specs.Plain.{IsPlain, ArePlain, IsPlainValid}
+use Rattle.vx_tree.specs.Columns.{AreRowsAt}
+
+-- the same rows, of the same kind
+pub record HasRowsOf (t r : Tree) : Type 0 where
+  pub len : tree_len r ≡ tree_len t
+  pub kind : kind_of r ≡ kind_of t
+  pub rows : (i : ℕ) → i < tree_len t → row_at r i ≡ row_at t i
+
+-- a list view keeps its numbers, its flag and the rows of its elements, a view array its views and buffers
+abbrev pub KeepsParts : Tree → Tree → Type 0
+KeepsParts (list_view e o s v f) (list_view e2 o2 s2 w g) = (g ≡ f) × HasRowsOf e e2 × HasRowsOf o o2 × HasRowsOf s s2
+KeepsParts (list_view e o s v f) _ = ⊥
+KeepsParts (view_array vs bs k v) (view_array ws cs k2 w) = (ws ≡ vs) × (cs ≡ bs)
+KeepsParts (view_array vs bs k v) _ = ⊥
+KeepsParts _ _ = Unit {0}
+
+-- the same rows in plain layout, in the same state
+pub record IsCanonical (t r : Tree) : Type 0 where
+  pub same : HasRowsOf t r
+  pub plain : IsPlain r
+  pub state : tree_state r ≡ tree_state t
+  pub kept : KeepsParts t r
+
+-- n rows of each column, in plain layout
+pub record AreCanonical (ts : Trees) (n : ℕ) (us : Trees) : Type 0 where
+  pub rows_at : AreRowsAt ts (λ i. i) n us
+  pub plain : ArePlain us
+
+-- the validity of the same n rows, its array a plain one
+pub record IsCanonicalValid (v : Valid) (n : ℕ) (w : Valid) : Type 0 where
+  pub fits : ValidFits w n
+  pub state : state_of w ≡ state_of v
+  pub plain : IsPlainValid w
+  pub bits : (i : ℕ) → i < n → is_valid_at w i ≡ is_valid_at v i
+
+-- n rows of a kind need more elements in plain layout than can be counted
+abbrev mutual
+  pub plain_overflow : Kind → ℕ → Option Refusal
+  plain_overflow (fixed_lists k size m) n = if nat_lt (n * size) (2 ^ 64) then plain_overflow k (n * size) else Some overflow
+  plain_overflow (records names ks m) n = fields_overflow ks n
+  plain_overflow _ n = None
+
+  pub fields_overflow : Kinds → ℕ → Option Refusal
+  fields_overflow no_kinds n = None
+  fields_overflow (kind k ks) n = or_else (plain_overflow k n) (fields_overflow ks n)
+
+-- rows of null need a record with as many names as kinds, and elements that can be counted
+abbrev pub nulls_fault : Kind → ℕ → Option Refusal
+nulls_fault k n = or_else (default_fault k) (plain_overflow k n)
+
+-- of the values those that are lists or records are not made plain as yet
+abbrev pub value_fault : Kind → Option Refusal
+value_fault (booleans m) = None
+value_fault (integers t m) = None
+value_fault (texts m) = None
+value_fault (binaries m) = None
+value_fault _ = Some not_implemented
+
+-- a row, however often: null stands beside no value
+abbrev pub constant_fault : Kind → Row → ℕ → Option Refusal
+constant_fault k r n = if is_present r then value_fault k else nulls_fault k n
+
+-- the first fault of the parts; taking the values of a dictionary by its codes needs elements for each code
+abbrev mutual
+  pub canonical_fault : Tree → Option Refusal
+  canonical_fault (bools bits v) = None
+  canonical_fault (primitive t bs v) = None
+  canonical_fault (constant k r n) = constant_fault k r n
+  canonical_fault (dictionary c v f) = or_else (canonical_fault v) (plain_overflow (kind_of v) (tree_len c))
+  canonical_fault (fixed_list e k v n) = canonical_fault e
+  canonical_fault (list_view e o s v f) = or_else (canonical_fault e) (or_else (canonical_fault o) (canonical_fault s))
+  canonical_fault (structure ns ts v n) = columns_fault ts
+  canonical_fault (view_array vs bs k v) = None
+
+  pub columns_fault : Trees → Option Refusal
+  columns_fault no_trees = None
+  columns_fault (tree t ts) = or_else (canonical_fault t) (columns_fault ts)
+
+-- n rows of a kind in plain layout, of which a validity is known
+pub record IsBlank (k : Kind) (n : ℕ) (v : Valid) (r : Tree) : Type 0 where
+  pub len : tree_len r ≡ n
+  pub kind : kind_of r ≡ k
+  pub plain : IsPlain r
+  pub state : tree_state r ≡ state_of v
+  pub nulls : (i : ℕ) → i < n → is_valid_at v i ≡ false → row_at r i ≡ null
+
+-- n rows of a kind in plain layout
+pub record IsBlankPart (k : Kind) (n : ℕ) (r : Tree) : Type 0 where
+  pub len : tree_len r ≡ n
+  pub kind : kind_of r ≡ k
+  pub plain : IsPlain r
+
+-- n rows of the kind of each data type, in plain layout
+abbrev pub AreBlankParts : List DType → ℕ → List Tree → Type 0
+AreBlankParts ds n rs = AllZip (λ d r. IsBlankPart (dtype_meaning d) n r) ds rs
+
+-- n rows of null of a kind in plain layout, in a state
+pub record IsPlainNulls (k : Kind) (n : ℕ) (s : State) (r : Tree) : Type 0 where
+  pub len : tree_len r ≡ n
+  pub kind : kind_of r ≡ k
+  pub plain : IsPlain r
+  pub state : tree_state r ≡ s
+  pub rows : (i : ℕ) → i < n → row_at r i ≡ null

@@ -1,0 +1,176 @@
+-- Arrays that are joined, one after another.
+use Rattle.std.specs.Prelude.{◌≡◌, ◌<◌, ◌≤◌, ◌++◌, ◌+◌, ◌-◌, ◌*◌, ℕ, pos, zero, suc, Bool, true, false, slice_index, List, [], ◌∷◌, length, map, nat_lt, if◌then◌else◌, Option, Some, None, slice_index_or}
+use Rattle.vx_base.specs.Integers.{byte_width, numbers}
+use Rattle.vx_base.specs.Kinds.{Kind, integers, texts, binaries, lists, fixed_lists, records, Kinds, no_kinds, kind}
+use Rattle.vx_base.specs.Booleans.{count_fault}
+use Rattle.vx_base.specs.Refusals.{Refusal, not_implemented, or_else}
+use Rattle.vx_base.specs.Selections.{number_of_position}
+use Rattle.vx_base.specs.declared.ptypes.PType.{PType}
+use Rattle.vx_base.specs.declared.ptypes.PType.TheVariants.{U64}
+use Rattle.vx_base.specs.Rows.{Row, null, whole, items, record_of, is_present, count_in}
+use Rattle.vx_tree.specs.Tree.{Tree, bools, primitive, fixed_list, list_view, structure, Trees, no_trees, tree, Valid, non_nullable}
+use Rattle.vx_tree.specs.Meaning.{tree_len, kind_of, row_at, fields_at, rows_range, is_valid_at, nullable}
+use Rattle.vx_tree.specs.Formed.{ValidFits, IsCounts, AllLen, column_count}
+use Rattle.std.specs.List.{All, flat_map, range_with_len}
+use Rattle.vx_tree.specs.Layouts.{is_primitive, is_fixed_list, is_list_view, is_struct}
+use Rattle.vx_tree.specs.Fitting.{AllFormed}
+use Rattle.vx_tree.specs.Plain.{IsPlain, IsPlainValid}
+use Rattle.vx_tree.specs.declared.array.Validity.{Validity}
+use Rattle.vx_tree.specs.Parts.{valid_of}
+use Rattle.vx_tree.specs.Operations.{IsValidityOf}
+
+-- how many rows all of them have
+abbrev pub joined_len : List Tree → ℕ
+joined_len [] = 0
+joined_len (t ∷ ts) = tree_len t + joined_len ts
+
+-- what f says of row i of all of them: of the array that has it, and the place there
+abbrev pub joined_at : {A : Type 0} → (Tree → ℕ → A) → A → List Tree → ℕ → A
+joined_at f d [] i = d
+joined_at f d (t ∷ ts) i = if nat_lt i (tree_len t) then f t i else joined_at f d ts (i - tree_len t)
+
+-- row i of all of them
+abbrev pub joined_row : List Tree → ℕ → Row
+joined_row ts i = joined_at row_at null ts i
+
+-- the rows of arrays, one array after another, in plain layouts
+pub record IsJoined (k : Kind) (ts : List Tree) (r : Tree) : Type 0 where
+  pub len : tree_len r ≡ joined_len ts
+  pub kind : kind_of r ≡ k
+  pub plain : IsPlain r
+  pub rows : (i : ℕ) → i < joined_len ts → row_at r i ≡ joined_row ts i
+
+-- their validity
+pub record IsValidJoined (n : Bool) (ts : List Tree) (v : Valid) : Type 0 where
+  pub fits : ValidFits v (joined_len ts)
+  pub kind : nullable v ≡ n
+  pub plain : IsPlainValid v
+  pub bits : (i : ℕ) → i < joined_len ts → is_valid_at v i ≡ is_present (joined_row ts i)
+
+-- the bits of an array of booleans
+abbrev pub bits_in : Tree → List Bool
+bits_in (bools bits v) = bits
+bits_in _ = []
+
+-- the bytes of an array of numbers
+abbrev pub bytes_in : Tree → List ℕ
+bytes_in (primitive t bs v) = bs
+bytes_in _ = []
+
+-- validities and lengths, each that of an array
+abbrev pub ArePartsOf : List Tree → List (Validity × ℕ) → Type 0
+ArePartsOf [] [] = Unit {0}
+ArePartsOf (t ∷ ts) (part ∷ parts) = IsValidityOf t (valid_of part.0) × (part.1 ≡ tree_len t) × ArePartsOf ts parts
+ArePartsOf _ _ = ⊥
+
+-- numbers of a type, in whole numbers of bytes
+pub record AreNumbers (p : PType) (t : Tree) : Type 0 where
+  pub layout : is_primitive t ≡ true
+  pub bytes : length (bytes_in t) ≡ tree_len t * byte_width p
+  pub content : (j : ℕ) → j < tree_len t → row_at t j ≡ (if is_present (row_at t j) then whole (number_of_position (numbers p (bytes_in t)) j) else null)
+
+-- the elements of an array of lists
+abbrev pub elements_in : Tree → Tree
+elements_in (fixed_list e k v n) = e
+elements_in (list_view e o s v f) = e
+elements_in t = t
+
+-- lists of one size
+pub record AreFixedLists (k : ℕ) (t : Tree) : Type 0 where
+  pub layout : is_fixed_list t ≡ true
+  pub elements : tree_len (elements_in t) ≡ tree_len t * k
+  pub content : (j : ℕ) → j < tree_len t → row_at t j ≡ (if is_present (row_at t j) then items (rows_range (row_at (elements_in t)) (j * k) k) else null)
+
+-- the columns of an array of records
+abbrev pub columns_in : Tree → Trees
+columns_in (structure ns ts v n) = ts
+columns_in _ = no_trees
+
+-- a column by its place
+abbrev pub column_at : Trees → ℕ → Tree
+column_at no_trees c = bools [] non_nullable
+column_at (tree t ts) zero = t
+column_at (tree t ts) (suc c) = column_at ts c
+
+-- a column of an array of records
+abbrev pub column_of : ℕ → Tree → Tree
+column_of c t = column_at (columns_in t) c
+
+-- records of so many columns under these names
+pub record AreRecords (ns : List (List ℕ)) (t : Tree) : Type 0 where
+  pub layout : is_struct t ≡ true
+  pub count : column_count (columns_in t) ≡ length ns
+  pub lens : AllLen (tree_len t) (columns_in t)
+  pub content : (j : ℕ) → j < tree_len t → row_at t j ≡ (if is_present (row_at t j) then record_of (fields_at (columns_in t) ns j) else null)
+
+-- each column is that column of the arrays, one array after another
+pub record AreColumnsJoined (ts : List Tree) (m : ℕ) (cs : Trees) : Type 0 where
+  pub count : column_count cs ≡ m
+  pub each : (c : ℕ) → c < m → IsJoined (kind_of (column_at cs c)) (map (column_of c) ts) (column_at cs c)
+
+-- the counts that the rows of an array are
+abbrev pub counts_in : Tree → List ℕ
+counts_in t = map (λ i. count_in (row_at t i)) (range_with_len 0 (tree_len t))
+
+abbrev pub offsets_in : Tree → Tree
+offsets_in (list_view e o s v f) = o
+offsets_in t = t
+
+abbrev pub sizes_in : Tree → Tree
+sizes_in (list_view e o s v f) = s
+sizes_in t = t
+
+-- the offsets of arrays of lists, each further by a base and by the elements of the arrays before
+abbrev pub offsets_from : ℕ → List Tree → List ℕ
+offsets_from base [] = []
+offsets_from base (t ∷ ts) = map (λ n. base + n) (counts_in (offsets_in t)) ++ offsets_from (base + tree_len (elements_in t)) ts
+
+-- the sizes of them
+abbrev pub joined_sizes : List Tree → List ℕ
+joined_sizes ts = flat_map (λ t. counts_in (sizes_in t)) ts
+
+-- lists that lie within their elements
+pub record AreLists (t : Tree) : Type 0 where
+  pub layout : is_list_view t ≡ true
+  pub offsets : IsCounts (offsets_in t) × (is_primitive (offsets_in t) ≡ true) × (tree_len (offsets_in t) ≡ tree_len t)
+  pub sizes : IsCounts (sizes_in t) × (is_primitive (sizes_in t) ≡ true) × (tree_len (sizes_in t) ≡ tree_len t)
+  pub within : (j : ℕ) → j < tree_len t → count_in (row_at (offsets_in t) j) + count_in (row_at (sizes_in t) j) ≤ tree_len (elements_in t)
+  pub content : (j : ℕ) → j < tree_len t
+      → row_at t j ≡ (if is_present (row_at t j) then items (rows_range (row_at (elements_in t)) (count_in (row_at (offsets_in t) j)) (count_in (row_at (sizes_in t) j))) else null)
+
+-- plain numbers that are these counts
+pub record IsCountsOf (ns : List ℕ) (t : Tree) : Type 0 where
+  pub len : tree_len t ≡ length ns
+  pub kind : kind_of t ≡ integers U64 false
+  pub plain : IsPlain t
+  pub rows : (i : ℕ) → i < length ns → row_at t i ≡ whole (pos (slice_index ns i))
+
+-- plain arrays of one kind
+pub record AreJoinable (k : Kind) (ts : List Tree) : Type 0 where
+  pub plain : All IsPlain ts
+  pub formed : All AllFormed ts
+  pub alike : All (λ t. kind_of t ≡ k) ts
+
+-- each column of the arrays is plain and of the kind of one of these
+abbrev pub AreColumnsJoinable : List Tree → List Tree → Type 0
+AreColumnsJoinable ps ts = (c : ℕ) (d : Tree) → c < length ps → AreJoinable (kind_of (slice_index_or ps c d)) (map (column_of c) ts)
+
+-- the elements of lists, or of the lists in the columns of records, cannot be counted; texts and byte lists are not joined as yet
+abbrev mutual
+  pub parts_join_fault : Kind → List Tree → Option Refusal
+  parts_join_fault (lists k n) ts = or_else (count_fault (joined_len (map elements_in ts))) (parts_join_fault k (map elements_in ts))
+  parts_join_fault (fixed_lists k size n) ts = or_else (count_fault (joined_len (map elements_in ts))) (parts_join_fault k (map elements_in ts))
+  parts_join_fault (records names ks n) ts = columns_join_fault ks 0 ts
+  parts_join_fault (texts n) ts = Some not_implemented
+  parts_join_fault (binaries n) ts = Some not_implemented
+  parts_join_fault _ ts = None
+
+  -- of the columns from place c on
+  pub columns_join_fault : Kinds → ℕ → List Tree → Option Refusal
+  columns_join_fault no_kinds c ts = None
+  columns_join_fault (kind k ks) c ts =
+      or_else (or_else (count_fault (joined_len (map (column_of c) ts))) (parts_join_fault k (map (column_of c) ts))) (columns_join_fault ks (suc c) ts)
+
+-- plain arrays of a kind have more rows than can be counted, or their parts have
+abbrev pub join_fault : Kind → List Tree → Option Refusal
+join_fault k ts = or_else (count_fault (joined_len ts)) (parts_join_fault k ts)

@@ -1,0 +1,65 @@
+// The plain layout of an array.
+
+ghost use Rattle.std.specs.Prelude.{◌≡◌, IfOk};
+ghost use Rattle.vx_base.specs.Refusals.{Gives, Refuses};
+ghost use Rattle.vx_tree.specs.Meaning.{rows};
+ghost use Rattle.vx_tree.specs.Formed.{ValidFits};
+ghost use Rattle.vx_tree.specs.Parts.{valid_of};
+ghost use Rattle.vx_tree.specs.Canonical.{IsCanonical, IsCanonicalValid, canonical_fault};
+
+use crate::array::{ArrayRef, Layout, Validity};
+use crate::validity::told_by;
+use std::alloc::Global;
+use vx_base::VortexError;
+
+impl ArrayRef {
+    /// The same rows in the plain layout of their data type: no part is a constant or a dictionary,
+    /// also not in a validity. A list view keeps its numbers, its flag and the rows of its
+    /// elements, texts and byte lists their views and buffers. Refuses by the first fault of the
+    /// parts in their order, the values of a dictionary first: a constant that is not null with
+    /// `NotImplemented` where it is one of lists, of lists of one size or of records as yet; one of
+    /// null with `MismatchedTypes` where a record has not as many names as fields; then it and a
+    /// dictionary with `Overflow` where lists of one size would need more elements than can be
+    /// counted. Of the values 7, 9 and the codes 1, null, 0, 1 it makes the numbers 9, null, 7, 9.
+    #[tactic(auto, using(crate::proofs::Canonical::rows_canonical))]
+    pub fn to_canonical(&self, alloc: Global) -> Result<ArrayRef, VortexError>
+        ensures rows { IfOk result (λ a. rows a ≡ rows self.now) }
+        ensures canonical { IfOk result (IsCanonical self.now) }
+        ensures refuses { Refuses result (canonical_fault self.now) }
+    {
+        self.canonical(alloc)
+    }
+
+    // The same rows in the plain layout of the data type, in the parts too.
+    #[cycle(canonical)]
+    pub(crate) fn canonical(&self, alloc: Global) -> Result<ArrayRef, VortexError>
+        ensures ok { IfOk result (IsCanonical self.now) }
+        ensures refuses { Refuses result (canonical_fault self.now) }
+    {
+        match self.layout() {
+            Layout::Bool { .. } => Ok(self.canonical_bools(alloc)?),
+            Layout::Primitive { .. } => Ok(self.canonical_primitive(alloc)?),
+            Layout::Constant { .. } => self.canonical_constant(alloc),
+            Layout::Dict { .. } => self.canonical_dictionary(alloc),
+            Layout::FixedSizeList { .. } => self.canonical_fixed_lists(alloc),
+            Layout::ListView { .. } => self.canonical_list_view(alloc),
+            Layout::VarBinView { .. } => Ok(self.canonical_views(alloc)?),
+            Layout::Struct { .. } => self.canonical_struct(alloc),
+        }
+    }
+}
+
+impl Validity {
+    // The same state, its array a plain one.
+    pub(crate) fn canonical(&self, alloc: Global, len: usize) -> Result<Validity, VortexError>
+        requires { ValidFits (valid_of self.now) len }
+        ensures { Gives result (λ w. IsCanonicalValid (valid_of self.now) len (valid_of w)) }
+    {
+        match self {
+            Validity::NonNullable => Ok(Validity::NonNullable),
+            Validity::AllValid => Ok(Validity::AllValid),
+            Validity::AllInvalid => Ok(Validity::AllInvalid),
+            Validity::Array(array) => told_by(alloc, array.plain_bits(alloc)?),
+        }
+    }
+}

@@ -1,0 +1,196 @@
+// Validities that are joined, and gathered from iterators.
+
+ghost use Rattle.std.specs.Prelude.{◌≡◌, ◌⊎◌, Bool, List, None, length, map, IfOk, IfErr};
+ghost use Rattle.std.specs.Option.{option_map};
+ghost use Rattle.std.specs.List.{All};
+ghost use Rattle.std.specs.Iterator.{IsFinite, Drains};
+ghost use Rattle.vx_base.specs.Booleans.{joined, count_fault};
+ghost use Rattle.vx_base.specs.Refusals.{Gives, Refuses, Tests, refusal_of};
+ghost use Rattle.vx_base.specs.declared.errors.VortexError.TheVariants.{Memory};
+ghost use Rattle.vx_tree.specs.Tree.{Valid, all_valid};
+ghost use Rattle.vx_tree.specs.Formed.{IsLenOf};
+ghost use Rattle.vx_tree.specs.Parts.{valid_of};
+ghost use Rattle.vx_tree.specs.Faults.{valid_type_fault};
+ghost use Rattle.vx_tree.specs.Validities.{valid_from};
+ghost use Rattle.vx_tree.specs.Joins.{executed, AreLens, mask_of, joined_mask, are_all, joined_validity, types_fault, join_fault};
+
+use crate::array::Validity;
+use crate::validity::told_by;
+use std::alloc::Global;
+use std::fmt;
+use vx_base::{BitBuffer, Mask, Nullability, VortexError};
+
+impl Validity {
+    /// A state without an array as it is, and an array as one of plain booleans of its own, neither
+    /// a constant nor a dictionary. Refuses `MismatchedTypes` where the array is not one of plain
+    /// booleans.
+    pub fn execute(self, alloc: Global) -> Result<Validity, VortexError>
+        ensures ok { IfOk result (λ w. valid_of w ≡ executed (valid_of self)) }
+        ensures refuses { Refuses result (valid_type_fault (valid_of self)) }
+    {
+        match self {
+            Validity::NonNullable => Ok(Validity::NonNullable),
+            Validity::AllValid => Ok(Validity::AllValid),
+            Validity::AllInvalid => Ok(Validity::AllInvalid),
+            Validity::Array(array) => {
+                if !array.dtype().is_plain_bool() {
+                    return Err(VortexError::MismatchedTypes);
+                }
+                let bits = array.plain_bits(alloc)?;
+                Ok(told_by(alloc, bits)?)
+            }
+        }
+    }
+
+    /// The rows of validities, one validity after another, each of so many rows: nothing of none,
+    /// the state that all of them are where it is one without an array, and then no number of rows
+    /// is looked at; else an array. Asks that an array has as many rows as stand beside it. Refuses
+    /// `MismatchedTypes` where an array is not one of plain booleans, then `Overflow` where the rows
+    /// are 2^64 or more. Two rows of `AllValid` and one of `AllInvalid` are true, true, false.
+    #[tactic(auto, using(crate::proofs::Joins::lens_each))]
+    pub fn concat(
+        alloc: Global,
+        parts: Vec<(Validity, usize)>,
+    ) -> Result<Option<Validity>, VortexError>
+        requires { AreLens parts.items }
+        ensures joined { IfOk result (λ o. option_map valid_of o ≡ joined_validity parts.items) }
+        ensures refuses { Refuses result (join_fault parts.items) }
+    {
+        let Some((first, _)) = parts.first() else {
+            return Ok(None);
+        };
+        if first.are_all(&parts) {
+            return Ok(Some(first.try_clone(alloc)?));
+        }
+        check_types(&parts)?;
+        let bits = joined_bits(alloc, &parts)?;
+        Ok(Some(told_by(alloc, bits)?))
+    }
+
+    /// Valid where the item is true, as `from_buffer` says it. The size hint is not looked at. Asks
+    /// that the iterator ends. Fails only for want of memory.
+    pub fn from_iter<I: Iterator<Item = bool> + Drop>(
+        alloc: Global,
+        items: I,
+    ) -> Result<Validity, VortexError>
+        requires can { I.can_next items }
+        requires ends { IsFinite (I.remaining items) }
+        ensures { Gives result (λ v. (bits : List Bool) × Drains I.next_gives items bits
+            × (valid_of v ≡ valid_from bits all_valid)) }
+    {
+        let bools = collect_items(alloc, items)?;
+        let bits = BitBuffer::from_bools(alloc, &bools)?;
+        Validity::from_buffer(alloc, bits)
+    }
+
+    /// Valid where the masks are true, one mask after another, as `from_mask` says it of a nullable
+    /// data type. The size hint is not looked at. Asks that the iterator ends. Refuses `Overflow`
+    /// where the rows are 2^64 or more.
+    pub fn from_mask_iter<I: Iterator<Item = Mask> + Drop>(
+        alloc: Global,
+        items: I,
+    ) -> Result<Validity, VortexError>
+        requires can { I.can_next items }
+        requires ends { IsFinite (I.remaining items) }
+        ensures ok { IfOk result (λ v. (masks : List (List Bool)) × Drains I.next_gives items masks
+            × (count_fault (length (joined masks)) ≡ None) × (valid_of v ≡ valid_from (joined masks) all_valid)) }
+        ensures err { IfErr result (λ e. (e ≡ Memory) ⊎ ((masks : List (List Bool)) × Drains I.next_gives items masks
+            × (count_fault (length (joined masks)) ≡ refusal_of e))) }
+    {
+        let masks = collect_items(alloc, items)?;
+        let mask = Mask::concat(alloc, &masks)?;
+        Validity::from_mask(alloc, mask, Nullability::Nullable)
+    }
+
+    // Whether all of them are this state, and it is one without an array.
+    fn are_all(&self, parts: &[(Validity, usize)]) -> bool
+        ensures { result ≡ are_all (valid_of self.now) parts.now }
+    {
+        for (part, _) in parts {
+            if !self.is_unchanged(part) {
+                return false;
+            }
+        }
+        true
+    }
+}
+
+impl fmt::Debug for Validity {
+    fn fmt<W: fmt::Write>(&self, f: &mut fmt::Formatter<W>) -> fmt::Result {
+        let name = match self {
+            Validity::NonNullable => "NonNullable",
+            Validity::AllValid => "AllValid",
+            Validity::AllInvalid => "AllInvalid",
+            Validity::Array(_) => "Array(..)",
+        };
+        write!(f, "{name}")
+    }
+}
+
+// Whether each array is one of plain booleans.
+fn check_types(parts: &[(Validity, usize)]) -> Result<(), VortexError>
+    ensures each { IfOk result (λ _. All (λ part. valid_type_fault (valid_of part.0) ≡ None) parts.now) }
+    ensures tests { Tests result (types_fault parts.now) }
+{
+    for (part, _) in parts {
+        part.check_type()?;
+    }
+    Ok(())
+}
+
+// Their booleans, one validity after another.
+fn joined_bits(alloc: Global, parts: &[(Validity, usize)]) -> Result<BitBuffer, VortexError>
+    requires lens { All (λ part. IsLenOf (valid_of part.0) part.1) parts.now }
+    requires types { All (λ part. valid_type_fault (valid_of part.0) ≡ None) parts.now }
+    ensures ok { IfOk result (λ b. b.bits ≡ joined_mask parts.now) }
+    ensures refuses { Refuses result (count_fault (length (joined_mask parts.now))) }
+{
+    let masks = masks_of(alloc, parts)?;
+    let mask = Mask::concat(alloc, &masks)?;
+    Ok(bits_of_mask(alloc, &mask)?)
+}
+
+// The booleans of each.
+fn masks_of(alloc: Global, parts: &[(Validity, usize)]) -> Result<Vec<Mask>, VortexError>
+    requires lens { All (λ part. IsLenOf (valid_of part.0) part.1) parts.now }
+    requires types { All (λ part. valid_type_fault (valid_of part.0) ≡ None) parts.now }
+    ensures { Gives result (λ masks. masks.items ≡ map mask_of parts.now) }
+{
+    let mut masks = Vec::with_capacity(alloc, parts.len())?;
+    for (part, len) in parts {
+        masks.push(part.execute_mask(alloc, *len)?)?;
+    }
+    Ok(masks)
+}
+
+// The booleans of a mask as bits, which are shared where both values stand.
+pub(crate) fn bits_of_mask(alloc: Global, mask: &Mask) -> Result<BitBuffer, VortexError>
+    ensures { Gives result (λ b. b.bits ≡ mask.now) }
+{
+    if mask.all_true() {
+        return BitBuffer::new_set(alloc, mask.len());
+    }
+    if mask.all_false() {
+        return BitBuffer::new_unset(alloc, mask.len());
+    }
+    match mask.values() {
+        Some(values) => values.bit_buffer(alloc),
+        None => unreachable!(),
+    }
+}
+
+// The items, in order.
+fn collect_items<T: Drop, I: Iterator<Item = T> + Drop>(
+    alloc: Global,
+    items: I,
+) -> Result<Vec<T>, VortexError>
+    requires can { I.can_next items }
+    requires ends { IsFinite (I.remaining items) }
+    ensures { Gives result (λ list. Drains I.next_gives items list.items) }
+{
+    let mut list = Vec::new(alloc);
+    for item in items {
+        list.push(item)?;
+    }
+    Ok(list)
+}
