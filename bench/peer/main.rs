@@ -283,6 +283,87 @@ fn take_bits(bits: &Bits, indices: &[u32]) -> Bits {
     Bits::collect(indices.len(), |i| bits.value(indices[i] as usize))
 }
 
+#[inline(never)]
+fn take_views(views: &[View], indices: &[u32]) -> Vec<View> {
+    indices.iter().map(|index| views[*index as usize]).collect()
+}
+
+#[inline(never)]
+fn take_fixed_lists(elements: &[u32], indices: &[u32]) -> Vec<u32> {
+    let mut taken = Vec::with_capacity(indices.len() * 4);
+    for index in indices {
+        let start = *index as usize * 4;
+        taken.extend_from_slice(&elements[start..start + 4]);
+    }
+    taken
+}
+
+#[inline(never)]
+fn filter_items<T: Copy>(items: &[T], mask: &Bits) -> Vec<T> {
+    let mut kept = Vec::with_capacity(mask.true_count());
+    for (i, item) in items.iter().enumerate() {
+        if mask.value(i) {
+            kept.push(*item);
+        }
+    }
+    kept
+}
+
+#[inline(never)]
+fn filter_fixed_lists(elements: &[u32], mask: &Bits) -> Vec<u32> {
+    let mut kept = Vec::with_capacity(mask.true_count() * 4);
+    for i in 0..mask.len {
+        if mask.value(i) {
+            kept.extend_from_slice(&elements[4 * i..4 * i + 4]);
+        }
+    }
+    kept
+}
+
+#[inline(never)]
+fn filter_bits(bits: &Bits, mask: &Bits) -> Bits {
+    let count = mask.true_count();
+    let mut words = Vec::with_capacity(count.div_ceil(64));
+    let (mut packed, mut filled) = (0u64, 0);
+    for i in 0..bits.len {
+        if mask.value(i) {
+            packed |= (bits.value(i) as u64) << filled;
+            filled += 1;
+            if filled == 64 {
+                words.push(packed);
+                (packed, filled) = (0, 0);
+            }
+        }
+    }
+    if filled > 0 {
+        words.push(packed);
+    }
+    Bits { words: Buffer::new(words), len: count }
+}
+
+/// The numbers as those of the least width: here u16, where all fit.
+#[inline(never)]
+fn narrow(numbers: &[u32]) -> Vec<u16> {
+    let greatest = numbers.iter().copied().max().unwrap_or(0);
+    assert!(greatest > 255 && greatest < 65536);
+    numbers.iter().map(|number| *number as u16).collect()
+}
+
+#[inline(never)]
+fn referenced_values(codes: &[u32], count: usize) -> Bits {
+    let mut words = vec![0u64; count.div_ceil(64)];
+    for code in codes {
+        words[*code as usize / 64] |= 1 << (code % 64);
+    }
+    Bits { words: Buffer::new(words), len: count }
+}
+
+#[inline(never)]
+fn mask_views(views: &[View], mask: &Bits) -> Vec<View> {
+    let rows = views.iter().enumerate();
+    rows.map(|(i, view)| if mask.value(i) { *view } else { View(0) }).collect()
+}
+
 /// Numbers of a type that is known at run time.
 #[allow(dead_code)]
 enum Numbers<'a> {
@@ -573,6 +654,10 @@ impl Checksum {
         made.0.iter().fold(sum, |sum, buffer| sum.with_bytes(buffer.as_slice()))
     }
 
+    fn with_views(self, views: &[View]) -> Checksum {
+        self.with_words(views.iter().flat_map(|view| [view.0 as u64, (view.0 >> 64) as u64]))
+    }
+
     fn with_list_view(self, lists: &ListViewArray) -> Checksum {
         self.with_numbers(lists.offsets.numbers())
             .with_numbers(lists.sizes.numbers())
@@ -749,6 +834,143 @@ impl Operation for TakeListView {
 
     fn checksum(&self, made: Arc<ListViewArray>) -> u64 {
         EMPTY.with_list_view(&made).0
+    }
+}
+
+/// Rows of any layout, of which some are picked or kept.
+enum Rows {
+    Numbers(Vec<u32>),
+    Bools(Bits),
+    Lists(Arc<ListViewArray>),
+    Views(Vec<View>),
+    FixedLists(Vec<u32>),
+    Records(Vec<u32>, Bits),
+    Dictionary(Vec<u32>, Arc<Vec<u32>>),
+}
+
+impl Rows {
+    fn checksum(&self) -> u64 {
+        match self {
+            Rows::Numbers(numbers) | Rows::FixedLists(numbers) => EMPTY.with_numbers(numbers).0,
+            Rows::Bools(bits) => EMPTY.with_bits(bits).0,
+            Rows::Lists(lists) => EMPTY.with_list_view(lists).0,
+            Rows::Views(views) => EMPTY.with_views(views).0,
+            Rows::Records(numbers, bits) => EMPTY.with_numbers(numbers).with_bits(bits).0,
+            Rows::Dictionary(codes, values) => EMPTY.with_numbers(codes).with_numbers(values).0,
+        }
+    }
+}
+
+struct TakeRows {
+    rows: Rows,
+    indices: Vec<u32>,
+}
+
+impl Operation for TakeRows {
+    type Made = Rows;
+
+    fn run(&mut self) -> Result<Rows> {
+        let indices = &self.indices;
+        Ok(match &self.rows {
+            Rows::Numbers(numbers) => Rows::Numbers(take_numbers(numbers, indices)),
+            Rows::Bools(bits) => Rows::Bools(take_bits(bits, indices)),
+            Rows::Lists(lists) => Rows::Lists(lists.take(indices)),
+            Rows::Views(views) => Rows::Views(take_views(views, indices)),
+            Rows::FixedLists(elements) => Rows::FixedLists(take_fixed_lists(elements, indices)),
+            Rows::Records(numbers, bits) => {
+                Rows::Records(take_numbers(numbers, indices), take_bits(bits, indices))
+            }
+            Rows::Dictionary(codes, values) => {
+                Rows::Dictionary(take_numbers(codes, indices), values.clone())
+            }
+        })
+    }
+
+    fn checksum(&self, made: Rows) -> u64 {
+        made.checksum()
+    }
+}
+
+struct FilterRows {
+    rows: Rows,
+    mask: Bits,
+}
+
+impl Operation for FilterRows {
+    type Made = Rows;
+
+    fn run(&mut self) -> Result<Rows> {
+        let mask = &self.mask;
+        Ok(match &self.rows {
+            Rows::Numbers(numbers) => Rows::Numbers(filter_items(numbers, mask)),
+            Rows::Bools(bits) => Rows::Bools(filter_bits(bits, mask)),
+            Rows::Lists(lists) => Rows::Lists(Arc::new(ListViewArray {
+                dtype: lists.dtype.clone(),
+                elements: lists.elements.clone(),
+                offsets: number_array(filter_items(lists.offsets.numbers(), mask)),
+                sizes: number_array(filter_items(lists.sizes.numbers(), mask)),
+                validity: None,
+                zero_copy_to_list: false,
+            })),
+            Rows::Views(views) => Rows::Views(filter_items(views, mask)),
+            Rows::FixedLists(elements) => Rows::FixedLists(filter_fixed_lists(elements, mask)),
+            Rows::Records(numbers, bits) => {
+                Rows::Records(filter_items(numbers, mask), filter_bits(bits, mask))
+            }
+            Rows::Dictionary(codes, values) => {
+                Rows::Dictionary(filter_items(codes, mask), values.clone())
+            }
+        })
+    }
+
+    fn checksum(&self, made: Rows) -> u64 {
+        made.checksum()
+    }
+}
+
+struct Narrow(Vec<u32>);
+
+impl Operation for Narrow {
+    type Made = Vec<u16>;
+
+    fn run(&mut self) -> Result<Vec<u16>> {
+        Ok(narrow(&self.0))
+    }
+
+    fn checksum(&self, made: Vec<u16>) -> u64 {
+        let bytes: Vec<u8> = made.iter().flat_map(|number| number.to_le_bytes()).collect();
+        EMPTY.with_bytes(&bytes).0
+    }
+}
+
+struct ReferencedValues(Vec<u32>);
+
+impl Operation for ReferencedValues {
+    type Made = Bits;
+
+    fn run(&mut self) -> Result<Bits> {
+        Ok(referenced_values(&self.0, 1000))
+    }
+
+    fn checksum(&self, made: Bits) -> u64 {
+        EMPTY.with_bits(&made).0
+    }
+}
+
+struct MaskViews {
+    views: Vec<View>,
+    mask: Bits,
+}
+
+impl Operation for MaskViews {
+    type Made = Vec<View>;
+
+    fn run(&mut self) -> Result<Vec<View>> {
+        Ok(mask_views(&self.views, &self.mask))
+    }
+
+    fn checksum(&self, made: Vec<View>) -> u64 {
+        EMPTY.with_views(&made).0
     }
 }
 
@@ -1052,7 +1274,7 @@ impl Operation for WriteCounts {
     }
 }
 
-const OPERATIONS: [&str; 28] = [
+const OPERATIONS: [&str; 41] = [
     "rebuild_in_order",
     "rebuild_at_random",
     "rebuild_in_order_null",
@@ -1061,6 +1283,17 @@ const OPERATIONS: [&str; 28] = [
     "take_numbers",
     "take_bools",
     "take_list_view",
+    "take_views",
+    "take_fixed_lists",
+    "take_records",
+    "take_dictionary",
+    "filter_numbers",
+    "filter_bools",
+    "filter_list_view",
+    "filter_views",
+    "filter_fixed_lists",
+    "filter_records",
+    "mask_views",
     "slice_list_view",
     "list_view_try_new",
     "is_consecutive",
@@ -1081,6 +1314,8 @@ const OPERATIONS: [&str; 28] = [
     "from_byte_buffer",
     "read_counts",
     "write_counts",
+    "narrow",
+    "referenced_values",
 ];
 
 fn byte_buffer(numbers: &[u32]) -> Buffer<u8> {
@@ -1091,6 +1326,42 @@ fn measure_check(bench: &Bench, mixed: bool, check: fn(&[View], &[Buffer<u8>]) -
     let (heap, lengths) = text_heap(bench.rows, mixed);
     let made = build_views(MAX_BUFFER_LEN, &heap, &lengths)?;
     bench.measure(CheckViews { made, check })
+}
+
+/// The rows of an operation, by the last word of its name.
+fn rows_of(rows: usize, name: &str) -> Result<Rows> {
+    let numbers = || random_numbers(rows, u32::MAX, 6);
+    Ok(match name.split_once('_').map_or("", |(_, layout)| layout) {
+        "numbers" => Rows::Numbers(numbers()),
+        "bools" => Rows::Bools(random_bits(rows, 2, 7)),
+        "list_view" => Rows::Lists(list_view(rows, AT_RANDOM)?),
+        "views" => Rows::Views(views_of(rows)?),
+        "fixed_lists" => Rows::FixedLists(random_numbers(4 * rows, u32::MAX, 1)),
+        "records" => Rows::Records(numbers(), random_bits(rows, 2, 7)),
+        _ => {
+            let values = Arc::new(random_numbers(1000, u32::MAX, 6));
+            Rows::Dictionary(random_numbers(rows, 1000, 9), values)
+        }
+    })
+}
+
+fn views_of(rows: usize) -> Result<Vec<View>> {
+    let (heap, lengths) = text_heap(rows, false);
+    let made = build_views(MAX_BUFFER_LEN, &heap, &lengths)?;
+    Ok(made.1.as_slice().to_vec())
+}
+
+fn measure_rows(bench: &Bench, name: &str) -> Result<()> {
+    let rows = rows_of(bench.rows, name)?;
+    let mask = || random_bits(bench.rows, 4, 8);
+    if name.starts_with("take") {
+        let indices = random_numbers(bench.rows, bench.rows as u32, 5);
+        bench.measure(TakeRows { rows, indices })
+    } else if name.starts_with("filter") {
+        bench.measure(FilterRows { rows, mask: mask() })
+    } else {
+        bench.measure(MaskViews { views: views_of(bench.rows)?, mask: mask() })
+    }
 }
 
 fn measure_lists(bench: &Bench, name: &str) -> Result<()> {
@@ -1120,6 +1391,9 @@ fn measure_lists(bench: &Bench, name: &str) -> Result<()> {
         "slice_list_view" => {
             bench.measure(SliceListView { array: list_view(rows, AT_RANDOM)?, count: rows / 10 })
         }
+        "take_views" | "take_fixed_lists" | "take_records" | "take_dictionary" | "filter_numbers" | "filter_bools"
+        | "filter_list_view" | "filter_views" | "filter_fixed_lists" | "filter_records"
+        | "mask_views" => measure_rows(bench, name),
         "list_view_try_new" => bench.measure(ListViewTryNew(list_view(rows, AT_RANDOM)?)),
         "is_consecutive" => bench.measure(IsConsecutive(list_view(rows, IN_ORDER)?)),
         _ => measure_flat(bench, name),
@@ -1130,6 +1404,8 @@ fn measure_flat(bench: &Bench, name: &str) -> Result<()> {
     let rows = bench.rows;
     let numbers = || random_numbers(rows, u32::MAX, 6);
     match name {
+        "narrow" => bench.measure(Narrow(random_numbers(rows, 60000, 10))),
+        "referenced_values" => bench.measure(ReferencedValues(random_numbers(rows, 1000, 9))),
         "build_views" => {
             let (heap, lengths) = text_heap(rows, false);
             bench.measure(BuildViews { heap, lengths })

@@ -88,4 +88,32 @@ impl Checksum {
             .with_array(lists.sizes())
             .with_array(lists.elements())
     }
+
+    // The parts of an array but for its validity, where they are numbers or truth values.
+    pub(crate) fn with_parts(self, array: &ArrayRef) -> Checksum {
+        match array.layout() {
+            Layout::Dict { codes, values, .. } => self.with_array(codes).with_array(values),
+            Layout::FixedSizeList { elements, .. } => self.with_array(elements),
+            Layout::ListView {
+                elements,
+                offsets,
+                sizes,
+                ..
+            } => self
+                .with_array(offsets)
+                .with_array(sizes)
+                .with_array(elements),
+            Layout::VarBinView { views, .. } => self.with_views(views.as_slice()),
+            Layout::Struct { columns, .. } => self.with_arrays(columns),
+            _ => self.with_array(array),
+        }
+    }
+
+    fn with_arrays(self, arrays: &[ArrayRef]) -> Checksum {
+        let mut sum = self;
+        for array in arrays {
+            sum = sum.with_array(array);
+        }
+        sum
+    }
 }

@@ -4,10 +4,11 @@ ghost use Rattle.std.specs.Prelude.{◌≤◌, ◌<◌};
 
 use crate::fault::Fault;
 use std::alloc::Global;
-use vx_base::{BitBuffer, Buffer, ByteBuffer};
-use vx_leaves::{BoolArray, PrimitiveArray};
+use vx_base::{BitBuffer, Buffer, ByteBuffer, DType, FieldNames, Mask, Nullability};
+use vx_leaves::{BoolArray, DictArray, PrimitiveArray};
 use vx_lists::ListViewArray;
 use vx_tree::{ArrayRef, TypedArray, Validity};
+use vx_views::{MAX_BUFFER_LEN, build_views, check_views};
 
 // How much data there is.
 #[derive(Clone, Copy)]
@@ -203,4 +204,51 @@ pub(crate) fn offsets_of(alloc: Global, lengths: &[u32]) -> Result<Vec<u32>, Fau
         offsets.push(end)?;
     }
     Ok(offsets)
+}
+
+// Texts of 8 or 24 bytes.
+pub(crate) fn text_array(alloc: Global, rows: usize) -> Result<ArrayRef, Fault> {
+    let heap = text_heap(alloc, rows, false)?;
+    let (buffers, views) = build_views(alloc, 0, MAX_BUFFER_LEN, heap.bytes, &heap.lengths)?;
+    let mask = Mask::new_true(views.len());
+    check_views(alloc, views.as_slice(), &mask, &buffers, true, usize::MAX)?;
+    let dtype = DType::Utf8(Nullability::NonNullable);
+    Ok(ArrayRef::var_bin_view(alloc, views, buffers, dtype, Validity::NonNullable)?)
+}
+
+// Lists of four numbers each.
+pub(crate) fn fixed_size_lists(alloc: Global, scale: Scale) -> Result<ArrayRef, Fault> {
+    let rows = scale.rows();
+    let elements = number_array(alloc, random_numbers(alloc, 4 * rows, u32::MAX, 1)?)?;
+    if elements.len() != 4 * rows {
+        return Err(Fault::Usage);
+    }
+    Ok(ArrayRef::fixed_size_list(alloc, elements, 4, Validity::NonNullable, rows)?)
+}
+
+// Records of a number and a truth value.
+pub(crate) fn records(alloc: Global, rows: usize) -> Result<ArrayRef, Fault> {
+    let numbers = number_array(alloc, random_numbers(alloc, rows, u32::MAX, 6)?)?;
+    let truths = bool_array(alloc, random_bits(alloc, rows, 2, 7)?)?;
+    if numbers.len() != rows || truths.len() != rows {
+        return Err(Fault::Usage);
+    }
+    let mut columns = Vec::with_capacity(alloc, 2)?;
+    columns.push(numbers)?;
+    columns.push(truths)?;
+    let names = FieldNames::try_new(alloc, &["number", "truth"])?;
+    Ok(ArrayRef::structure(alloc, names, columns, Validity::NonNullable, rows)?)
+}
+
+// So many codes of a thousand numbers.
+pub(crate) fn dictionary(alloc: Global, rows: usize) -> Result<DictArray, Fault> {
+    let codes = number_array(alloc, random_numbers(alloc, rows, 1000, 9)?)?;
+    let values = number_array(alloc, random_numbers(alloc, 1000, u32::MAX, 6)?)?;
+    Ok(DictArray::try_new(alloc, codes, values)?)
+}
+
+// So many numbers below 60000.
+pub(crate) fn small_numbers(alloc: Global, rows: usize) -> Result<PrimitiveArray, Fault> {
+    let buffer = Buffer::from_vec(alloc, random_numbers(alloc, rows, 60000, 10)?)?;
+    Ok(PrimitiveArray::try_new(alloc, buffer, Validity::NonNullable)?)
 }

@@ -1,15 +1,17 @@
 // The operations by name.
 
 mod bits;
+mod encodings;
 mod lists;
 mod numbers;
+mod trees;
 mod views;
 
 use crate::fault::Fault;
 use crate::operation::Bench;
 
 // The names of the operations.
-pub(crate) const OPERATIONS: [&str; 28] = [
+pub(crate) const OPERATIONS: [&str; 41] = [
     "rebuild_in_order",
     "rebuild_at_random",
     "rebuild_in_order_null",
@@ -18,6 +20,17 @@ pub(crate) const OPERATIONS: [&str; 28] = [
     "take_numbers",
     "take_bools",
     "take_list_view",
+    "take_views",
+    "take_fixed_lists",
+    "take_records",
+    "take_dictionary",
+    "filter_numbers",
+    "filter_bools",
+    "filter_list_view",
+    "filter_views",
+    "filter_fixed_lists",
+    "filter_records",
+    "mask_views",
     "slice_list_view",
     "list_view_try_new",
     "is_consecutive",
@@ -38,6 +51,8 @@ pub(crate) const OPERATIONS: [&str; 28] = [
     "from_byte_buffer",
     "read_counts",
     "write_counts",
+    "narrow",
+    "referenced_values",
 ];
 
 // Measures the operation of a name.
@@ -51,9 +66,20 @@ pub(crate) fn measure(rt: &HostRuntime, bench: &Bench, name: &str) -> Result<(),
         "take_numbers"
         | "take_bools"
         | "take_list_view"
-        | "slice_list_view"
-        | "list_view_try_new"
-        | "is_consecutive" => lists::measure(rt, bench, name),
+        | "take_views"
+        | "take_fixed_lists"
+        | "take_records"
+        | "take_dictionary" => trees::measure_take(rt, bench, name),
+        "filter_numbers"
+        | "filter_bools"
+        | "filter_list_view"
+        | "filter_views"
+        | "filter_fixed_lists"
+        | "filter_records" => trees::measure_filter(rt, bench, name),
+        "mask_views" => trees::measure_mask(rt, bench, name),
+        "slice_list_view" | "list_view_try_new" | "is_consecutive" => {
+            lists::measure(rt, bench, name)
+        }
         "build_views"
         | "build_views_from_offsets"
         | "check_views_ascii"
@@ -65,6 +91,8 @@ pub(crate) fn measure(rt: &HostRuntime, bench: &Bench, name: &str) -> Result<(),
         | "equal_bits"
         | "fill_bits"
         | "execute_mask" => bits::measure(rt, bench, name),
+        "narrow" => encodings::measure_narrow(rt, bench),
+        "referenced_values" => encodings::measure_scan(rt, bench),
         _ => numbers::measure(rt, bench, name),
     }
 }

@@ -1,9 +1,7 @@
 // Operations on list views.
 
 use crate::checksum::Checksum;
-use crate::data::{
-    ListShape, Scale, bool_array, list_view, number_array, random_bits, random_numbers,
-};
+use crate::data::{ListShape, list_view};
 use crate::fault::Fault;
 use crate::operation::{Bench, Operation};
 use std::alloc::Global;
@@ -39,28 +37,6 @@ impl Operation for Rebuild {
 
     fn checksum(&self, made: ListViewArray) -> Result<u64, Fault> {
         Ok(Checksum::new().with_list_view(&made).value())
-    }
-}
-
-// Taking rows of an array at indices of which each is any.
-#[derive(Drop)]
-struct Take {
-    array: ArrayRef,
-    indices: ArrayRef,
-}
-
-impl Operation for Take {
-    type Made = ArrayRef;
-
-    fn run(&mut self, alloc: Global) -> Result<ArrayRef, Fault> {
-        Ok(self.array.take(alloc, &self.indices)?)
-    }
-
-    fn checksum(&self, made: ArrayRef) -> Result<u64, Fault> {
-        match ListViewArray::try_from_array(made) {
-            Ok(lists) => Ok(Checksum::new().with_list_view(&lists).value()),
-            Err(array) => Ok(Checksum::new().with_array(&array).value()),
-        }
     }
 }
 
@@ -154,28 +130,10 @@ pub(crate) fn measure_rebuild(rt: &HostRuntime, bench: &Bench, name: &str) -> Re
     bench.measure(rt, Rebuild { lists })
 }
 
-// The array from which an operation takes.
-fn taken_array(alloc: Global, scale: Scale, name: &str) -> Result<ArrayRef, Fault> {
-    match name {
-        "take_numbers" => { number_array(alloc, random_numbers(alloc, scale.rows(), u32::MAX, 6)?) }
-        "take_bools" => bool_array(alloc, random_bits(alloc, scale.rows(), 2, 7)?),
-        _ => Ok(list_view(alloc, scale, AT_RANDOM)?.into_array()),
-    }
-}
-
-fn measure_take(rt: &HostRuntime, bench: &Bench, name: &str) -> Result<(), Fault> {
-    let alloc = rt.alloc();
-    let array = taken_array(alloc, bench.scale, name)?;
-    let rows = bench.scale.rows();
-    let indices = number_array(alloc, random_numbers(alloc, rows, rows as u32, 5)?)?;
-    bench.measure(rt, Take { array, indices })
-}
-
 // Measures another operation on lists.
 pub(crate) fn measure(rt: &HostRuntime, bench: &Bench, name: &str) -> Result<(), Fault> {
     let alloc = rt.alloc();
     match name {
-        "take_numbers" | "take_bools" | "take_list_view" => measure_take(rt, bench, name),
         "slice_list_view" => {
             let array = list_view(alloc, bench.scale, AT_RANDOM)?.into_array();
             let count = bench.scale.rows() / 10;
