@@ -16,6 +16,7 @@ use vx_tree::{
 
 mod fixed_size_lists;
 mod into_array;
+mod joined_arrays;
 mod joined_validities;
 mod masks;
 mod records;

@@ -1,12 +1,11 @@
 -- The layout of a plain array, by its kind.
-use Rattle.std.proofs.Common.{ℕ, ◌+◌, ◌*◌, ◌<◌, ◌≤◌, ◌≡◌, Bool, true, false, List, [], ◌∷◌, length, refl, sym, ◌∙◌, ap, subst, arith}
-use Rattle.std.specs.Prelude.{if◌then◌else◌}
-use Rattle.vx_base.specs.Rows.{Row, null, items, record_of, is_present, count_in}
-use Rattle.vx_base.specs.Kinds.{Kind, Kinds, lists, fixed_lists, records, is_plain_integers, integers, texts, binaries}
+use Rattle.std.proofs.Common.{ℕ, ◌*◌, ◌≡◌, Bool, true, false, List, refl, sym, ◌∙◌, ap}
+use Rattle.vx_base.specs.Rows.{items, record_of, count_in}
+use Rattle.vx_base.specs.Kinds.{Kind, Kinds, lists, fixed_lists, records, is_plain_integers}
 use Rattle.vx_tree.specs.Tree.{Tree, bools, primitive, constant, dictionary, fixed_list, list_view, structure, view_array, Trees, Valid}
 use Rattle.vx_tree.specs.Layouts.{is_primitive}
-use Rattle.vx_tree.specs.Meaning.{tree_len, kind_of, kinds_of, row_at, rows_range, fields_at, is_valid_at, nullable, is_texts}
-use Rattle.vx_tree.specs.Formed.{WellFormed, IsCounts, value_kind}
+use Rattle.vx_tree.specs.Meaning.{tree_len, kind_of, row_at, rows_range, fields_at, is_valid_at, nullable, is_texts}
+use Rattle.vx_tree.specs.Formed.{WellFormed, value_kind}
 use Rattle.vx_tree.specs.Fitting.{AllFormed}
 use Rattle.vx_tree.specs.Plain.{IsPlain}
 use Rattle.vx_tree.specs.Joined.{AreFixedLists, AreLists, AreRecords}

@@ -1,5 +1,5 @@
 -- Booleans and numbers that are joined.
-use Rattle.std.proofs.Common.{ℕ, zero, suc, ◌+◌, ◌-◌, ◌*◌, ◌/◌, ◌<◌, ◌≤◌, ◌≡◌, Bool, true, false, cond, List, [], ◌∷◌, ◌++◌, length, map, get_or, take, drop, refl, sym, ◌∙◌, ap, inl, inr, arith}
+use Rattle.std.proofs.Common.{ℕ, suc, ◌+◌, ◌-◌, ◌*◌, ◌/◌, ◌<◌, ◌≤◌, ◌≡◌, Bool, true, false, List, [], ◌∷◌, ◌++◌, length, get_or, take, drop, refl, sym, ◌∙◌, ap, inl, inr, arith}
 use Rattle.std.specs.Prelude.{ℤ, pos, if◌then◌else◌}
 use Rattle.std.specs.List.{All, flat_map}
 use Rattle.std.proofs.Math.Nat.{mul-le-mul_right, add-mul}
@@ -13,13 +13,13 @@ use Rattle.vx_base.specs.Selections.{number_of_position}
 use Rattle.vx_base.specs.declared.ptypes.PType.{PType}
 use Rattle.vx_base.proofs.NumberLists.{whole as whole_numbers, length_numbers, get_numbers, numbers_none}
 use Rattle.vx_tree.specs.Tree.{Tree, bools, primitive, constant, dictionary, fixed_list, list_view, structure, view_array, Valid}
-use Rattle.vx_tree.specs.Layouts.{is_bools, is_primitive}
-use Rattle.vx_tree.specs.Meaning.{tree_len, kind_of, row_at, is_valid_at, nullable, is_texts}
+use Rattle.vx_tree.specs.Layouts.{is_bools}
+use Rattle.vx_tree.specs.Meaning.{tree_len, kind_of, is_valid_at, nullable, is_texts}
 use Rattle.vx_tree.specs.Formed.{WellFormed, value_kind}
 use Rattle.vx_tree.specs.Fitting.{AllFormed}
 use Rattle.vx_tree.specs.Plain.{IsPlain}
-use Rattle.vx_tree.specs.Joined.{joined_len, joined_at, joined_row, IsJoined, IsValidJoined, bits_in, bytes_in, AreNumbers}
-use Rattle.vx_tree.proofs.JoinedRows.{HoldEach, HasContent, length-joined, joined_item, joined_content, rows_of_content}
+use Rattle.vx_tree.specs.Joined.{joined_len, IsJoined, IsValidJoined, bits_in, bytes_in, AreNumbers}
+use Rattle.vx_tree.proofs.JoinedRows.{HoldEach, HasContent, length-joined, joined_item, rows_of_content}
 
 -- what stands where the row is not null
 pub shown : (b : Bool) (r : Row) → is_present r ≡ true → (if b then r else null) ≡ (if is_present (if b then r else null) then r else null)

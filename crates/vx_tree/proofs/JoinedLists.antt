@@ -1,11 +1,10 @@
 -- Lists that are joined, by their elements.
-use Rattle.std.proofs.Common.{ℕ, zero, suc, ◌+◌, ◌-◌, ◌*◌, ◌<◌, ◌≤◌, ◌≡◌, Bool, true, false, List, [], ◌∷◌, length, map, get_or, refl, sym, ◌∙◌, ap, inl, inr, arith}
-use Rattle.std.specs.Prelude.{if◌then◌else◌}
+use Rattle.std.proofs.Common.{ℕ, suc, ◌+◌, ◌-◌, ◌*◌, ◌<◌, ◌≡◌, List, [], ◌∷◌, map, refl, sym, ◌∙◌, ap, inl, inr, arith}
 use Rattle.std.specs.List.{All}
-use Rattle.std.proofs.Math.Nat.{mul-le-mul_right, add-mul}
+use Rattle.std.proofs.Math.Nat.{add-mul}
 use Rattle.std.proofs.lemmas.Bool.{cases_lt}
-use Rattle.vx_base.specs.Rows.{Row, null, items, is_present}
-use Rattle.vx_base.specs.Kinds.{Kind, fixed_lists}
+use Rattle.vx_base.specs.Rows.{Row, null, items}
+use Rattle.vx_base.specs.Kinds.{fixed_lists}
 use Rattle.vx_tree.specs.Tree.{Tree, fixed_list, Valid}
 use Rattle.vx_tree.specs.Meaning.{tree_len, kind_of, row_at, rows_range, is_valid_at, nullable}
 use Rattle.vx_tree.specs.Formed.{WellFormed}

@@ -1,23 +1,25 @@
 -- The parts of plain arrays of one kind, and the faults of joining them.
 use Rattle.std.proofs.Common.{ℕ, zero, suc, ◌+◌, ◌<◌, ◌≤◌, ◌≡◌, ◌^◌, ◌++◌, Bool, true, false, List, [], ◌∷◌, length, map, take, get_or, Option, Some, None, refl, sym, ◌∙◌, ap, subst, inl, inr, arith}
 use Rattle.std.specs.List.{All}
-use Rattle.std.proofs.lemmas.Bool.{cases_lt, lt-ltb, le-ltb}
+use Rattle.std.proofs.lemmas.Bool.{cases_lt, le-ltb}
 use Rattle.std.proofs.lemmas.List.{take_more, take_all, length-map, length-take-le, get_or-map}
 use Rattle.vx_base.specs.declared.ptypes.PType.{PType}
 use Rattle.vx_base.specs.declared.errors.VortexError.{VortexError}
 use Rattle.vx_base.specs.Booleans.{count_fault}
-use Rattle.vx_base.specs.Refusals.{Refusal, not_implemented, refusal_of, IsMemoryOr, Names, or_else}
+use Rattle.vx_base.specs.Refusals.{Refusal, refusal_of, IsMemoryOr, Names, or_else}
 use Rattle.vx_base.specs.Kinds.{Kind, booleans, integers, lists, fixed_lists, records, Kinds, no_kinds, kind}
 use Rattle.vx_tree.specs.Tree.{Tree, bools, primitive, constant, dictionary, fixed_list, list_view, structure, view_array, Trees, no_trees, tree, Valid}
 use Rattle.vx_tree.specs.Layouts.{is_bools, is_fixed_list, is_list_view, is_struct}
-use Rattle.vx_tree.specs.Meaning.{tree_len, kind_of, kinds_of, trees_from, nullable, is_texts}
-use Rattle.vx_tree.specs.Formed.{column_count, value_kind}
+use Rattle.vx_tree.specs.Meaning.{kind_of, kinds_of, trees_from, nullable, is_texts}
+use Rattle.vx_tree.specs.Formed.{value_kind}
 use Rattle.vx_tree.specs.Fitting.{AllFormed, ColumnsFormed}
 use Rattle.vx_tree.specs.Plain.{IsPlain, ArePlain}
-use Rattle.vx_tree.specs.Joined.{joined_len, IsJoined, IsValidJoined, AreNumbers, AreFixedLists, AreLists, AreRecords, AreJoinable, AreColumnsJoinable, AreColumnsJoined, elements_in, columns_in, column_of, column_at, parts_join_fault, columns_join_fault, join_fault}
+use Rattle.vx_tree.specs.PlainValues.{buffers_overflow}
+use Rattle.vx_tree.specs.Joined.{IsJoined, IsValidJoined, AreNumbers, AreFixedLists, AreLists, AreRecords, AreValues, joined_buffers, AreJoinable, AreColumnsJoinable, AreColumnsJoined, elements_in, columns_in, column_of, column_at, parts_join_fault, columns_join_fault, join_fault}
 use Rattle.vx_tree.proofs.JoinedLeaves.{bools_of_kind, numbers_of_kind}
 use Rattle.vx_tree.proofs.JoinedKinds.{fixed_lists_of_kind, lists_of_kind, records_of_kind}
 use Rattle.vx_tree.proofs.JoinedRecords.{count_of_list}
+use Rattle.vx_tree.proofs.JoinedViews.{values_of_kind}
 use Rattle.vx_tree.proofs.Dictionaries.{memory_only}
 
 -- ---- faults
@@ -48,6 +50,9 @@ all_bools n ts h = each-of (booleans n) ts h (λ t p f e. bools_of_kind t n p f 
 
 pub all_numbers : (p : PType) (n : Bool) (ts : List Tree) → AreJoinable (integers p n) ts → All (AreNumbers p) ts
 all_numbers p n ts h = each-of (integers p n) ts h (λ t q f e. numbers_of_kind t p n q f e)
+
+pub all_values : (k : Kind) (u n : Bool) (ts : List Tree) → k ≡ value_kind u n → AreJoinable k ts → All (AreValues (is_texts k)) ts
+all_values k u n ts e h = each-of k ts h (λ t p f q. values_of_kind t u n k e p f q)
 
 pub all_fixed : (k : Kind) (s : ℕ) (n : Bool) (ts : List Tree) → AreJoinable (fixed_lists k s n) ts → All (AreFixedLists s) ts
 all_fixed k s n ts h = each-of (fixed_lists k s n) ts h (λ t p f e. fixed_lists_of_kind t k s n p f e)
@@ -283,6 +288,6 @@ columns_join_refused ts ps i m p e s h l here (inr same) = refused-by ts ps i m 
 
 -- ---- texts and byte lists
 
-pub values_refused : (b n : Bool) (ts : List Tree) → parts_join_fault (value_kind b n) ts ≡ Some not_implemented
-values_refused true n ts = refl
-values_refused false n ts = refl
+pub values_fault : (b n : Bool) (ts : List Tree) → parts_join_fault (value_kind b n) ts ≡ buffers_overflow (length (joined_buffers ts))
+values_fault true n ts = refl
+values_fault false n ts = refl

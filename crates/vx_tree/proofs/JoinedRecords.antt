@@ -1,12 +1,11 @@
 -- Records that are joined, column by column.
-use Rattle.std.proofs.Common.{ℕ, zero, suc, ◌+◌, ◌-◌, ◌<◌, ◌≤◌, ◌≡◌, Bool, true, false, List, [], ◌∷◌, length, map, get_or, refl, sym, ◌∙◌, ap, inl, inr, arith}
-use Rattle.std.specs.Prelude.{if◌then◌else◌}
+use Rattle.std.proofs.Common.{ℕ, zero, suc, ◌+◌, ◌-◌, ◌<◌, ◌≡◌, List, [], ◌∷◌, length, map, get_or, refl, sym, ◌∙◌, ap, inl, inr, arith}
 use Rattle.std.specs.List.{All}
 use Rattle.std.proofs.lemmas.Bool.{cases_lt}
-use Rattle.vx_base.specs.Rows.{Row, null, record_of, Fields, no_fields, field, is_present}
-use Rattle.vx_base.specs.Kinds.{Kind, records}
+use Rattle.vx_base.specs.Rows.{Row, null, record_of, field}
+use Rattle.vx_base.specs.Kinds.{records}
 use Rattle.vx_tree.specs.Tree.{Tree, structure, Trees, no_trees, tree, Valid}
-use Rattle.vx_tree.specs.Meaning.{tree_len, kind_of, kinds_of, trees_from, row_at, fields_at, is_valid_at, nullable}
+use Rattle.vx_tree.specs.Meaning.{tree_len, kinds_of, trees_from, row_at, fields_at, is_valid_at, nullable}
 use Rattle.vx_tree.specs.Formed.{WellFormed, AllLen, column_count}
 use Rattle.vx_tree.specs.Plain.{IsPlain, ArePlain}
 use Rattle.vx_tree.specs.Joined.{joined_len, joined_at, joined_row, IsJoined, IsValidJoined, columns_in, column_at, column_of, AreRecords, AreColumnsJoined}

@@ -1,21 +1,13 @@
 -- Rows of arrays that are joined: of the array that has the row, and the place there.
-use Rattle.std.proofs.Common.{ℕ, zero, suc, ◌+◌, ◌-◌, ◌<◌, ◌≤◌, ◌≡◌, Bool, true, false, cond, ltb, List, [], ◌∷◌, ◌++◌, length, map, get_or, take, refl, sym, ◌∙◌, ap, inl, inr, arith}
-use Rattle.std.specs.Prelude.{if◌then◌else◌, slice_index_or, IsSome, Some, None}
+use Rattle.std.proofs.Common.{ℕ, suc, ◌-◌, ◌<◌, ◌≤◌, ◌≡◌, Bool, List, [], ◌∷◌, length, get_or, refl, sym, ◌∙◌, ap, inl, inr, arith}
+use Rattle.std.specs.Prelude.{if◌then◌else◌}
 use Rattle.std.specs.List.{All, flat_map}
 use Rattle.std.proofs.lemmas.Bool.{cases_lt, lt-ltb, le-ltb}
 use Rattle.std.proofs.lemmas.List.{length-append, get_or_append_left, get_or-append_right}
 use Rattle.vx_base.specs.Rows.{Row, null, is_present}
-use Rattle.vx_base.specs.Bits.{bool_at}
-use Rattle.vx_base.specs.Kinds.{is_nullable_kind}
-use Rattle.vx_tree.specs.declared.array.Validity.{Validity}
-use Rattle.vx_tree.specs.Tree.{Tree, bools, primitive, Valid, non_nullable, all_valid, all_invalid, by_array}
-use Rattle.vx_tree.specs.Meaning.{tree_len, kind_of, row_at, is_valid_at, nullable, valid_mask}
-use Rattle.vx_tree.specs.Parts.{valid_of}
-use Rattle.vx_tree.specs.Formed.{ValidFits, IsLenOf}
-use Rattle.vx_tree.specs.Patches.{is_unchanged}
-use Rattle.vx_tree.specs.Operations.{IsValidityOf}
-use Rattle.vx_tree.specs.Joins.{mask_of, joined_mask, are_all, joined_validity, types_fault}
-use Rattle.vx_tree.specs.Joined.{joined_len, joined_at, joined_row, IsValidJoined}
+use Rattle.vx_tree.specs.Tree.{Tree}
+use Rattle.vx_tree.specs.Meaning.{tree_len, row_at}
+use Rattle.vx_tree.specs.Joined.{joined_len, joined_at, joined_row}
 
 -- ---- the array that has a row
 

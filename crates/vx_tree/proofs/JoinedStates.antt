@@ -1,5 +1,5 @@
 -- The validity of arrays that are joined.
-use Rattle.std.proofs.Common.{ℕ, zero, suc, ◌+◌, ◌-◌, ◌<◌, ◌≤◌, ◌≡◌, Bool, true, false, List, [], ◌∷◌, ◌++◌, length, map, get_or, take, refl, sym, ◌∙◌, ap, inl, inr, arith}
+use Rattle.std.proofs.Common.{ℕ, suc, ◌+◌, ◌-◌, ◌<◌, ◌≡◌, Bool, true, false, List, [], ◌∷◌, ◌++◌, length, get_or, take, refl, sym, ◌∙◌, ap, inl, inr, arith}
 use Rattle.std.specs.Prelude.{◌^◌, Option, Some, None, ◌&&◌, if◌then◌else◌}
 use Rattle.std.specs.List.{All}
 use Rattle.std.proofs.lemmas.Bool.{cases_lt}
@@ -10,12 +10,12 @@ use Rattle.vx_base.specs.Booleans.{count_fault}
 use Rattle.vx_base.specs.Refusals.{Refusal, or_else}
 use Rattle.vx_base.specs.Bits.{bool_at}
 use Rattle.vx_base.specs.Rows.{null, is_present}
-use Rattle.vx_base.specs.Kinds.{is_nullable_kind, booleans}
+use Rattle.vx_base.specs.Kinds.{is_nullable_kind}
 use Rattle.vx_tree.specs.declared.array.Validity.{Validity}
 use Rattle.vx_tree.specs.Tree.{Tree, bools, Valid, non_nullable, all_valid, all_invalid, by_array}
-use Rattle.vx_tree.specs.Meaning.{tree_len, kind_of, row_at, is_valid_at, nullable, valid_mask}
+use Rattle.vx_tree.specs.Meaning.{tree_len, kind_of, row_at, is_valid_at, nullable}
 use Rattle.vx_tree.specs.Parts.{valid_of}
-use Rattle.vx_tree.specs.Formed.{ValidFits, IsLenOf}
+use Rattle.vx_tree.specs.Formed.{ValidFits}
 use Rattle.vx_tree.specs.Faults.{valid_type_fault}
 use Rattle.vx_tree.specs.Patches.{is_unchanged}
 use Rattle.vx_tree.specs.Plain.{IsPlainValid}

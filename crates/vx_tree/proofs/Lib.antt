@@ -35,3 +35,5 @@ pub mod JoinedRecords
 pub mod JoinedListViews
 pub mod JoinedKinds
 pub mod JoinedParts
+pub mod JoinedViews
+pub mod Concatenated

@@ -227,10 +227,10 @@ texts_made k t vs ws bs v kind e fit x a =
 
 -- ---- one by one
 
-few_fault : (n : ℕ) → n ≤ 2 ^ 32 → buffers_overflow n ≡ None
+pub few_fault : (n : ℕ) → n ≤ 2 ^ 32 → buffers_overflow n ≡ None
 few_fault n h = rw (le-ltb (2 ^ 32) n h) refl
 
-many_fault : (n : ℕ) → 2 ^ 32 < n → buffers_overflow n ≡ Some overflow
+pub many_fault : (n : ℕ) → 2 ^ 32 < n → buffers_overflow n ≡ Some overflow
 many_fault n h = rw (lt-ltb (2 ^ 32) n h) refl
 
 refused_of : (some all : ℕ) (e : VortexError) → some ≤ all → buffers_overflow some ≡ refusal_of e → IsMemoryOr (buffers_overflow all) e

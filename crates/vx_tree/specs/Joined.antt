@@ -1,19 +1,22 @@
 -- Arrays that are joined, one after another.
-use Rattle.std.specs.Prelude.{◌≡◌, ◌<◌, ◌≤◌, ◌++◌, ◌+◌, ◌-◌, ◌*◌, ℕ, pos, zero, suc, Bool, true, false, slice_index, List, [], ◌∷◌, length, map, nat_lt, if◌then◌else◌, Option, Some, None, slice_index_or}
+use Rattle.std.specs.Prelude.{◌≡◌, ◌<◌, ◌≤◌, ◌++◌, ◌+◌, ◌-◌, ◌*◌, ℕ, pos, zero, suc, Bool, true, false, slice_index, List, [], ◌∷◌, length, map, replicate, nat_lt, if◌then◌else◌, Option, None, slice_index_or}
 use Rattle.vx_base.specs.Integers.{byte_width, numbers}
 use Rattle.vx_base.specs.Kinds.{Kind, integers, texts, binaries, lists, fixed_lists, records, Kinds, no_kinds, kind}
 use Rattle.vx_base.specs.Booleans.{count_fault}
-use Rattle.vx_base.specs.Refusals.{Refusal, not_implemented, or_else}
+use Rattle.vx_base.specs.Refusals.{Refusal, or_else}
 use Rattle.vx_base.specs.Selections.{number_of_position}
 use Rattle.vx_base.specs.declared.ptypes.PType.{PType}
 use Rattle.vx_base.specs.declared.ptypes.PType.TheVariants.{U64}
 use Rattle.vx_base.specs.Rows.{Row, null, whole, items, record_of, is_present, count_in}
-use Rattle.vx_tree.specs.Tree.{Tree, bools, primitive, fixed_list, list_view, structure, Trees, no_trees, tree, Valid, non_nullable}
-use Rattle.vx_tree.specs.Meaning.{tree_len, kind_of, row_at, fields_at, rows_range, is_valid_at, nullable}
+use Rattle.vx_views.specs.Views.{view_size, view_prefix, view_block, view_offset, is_inline, view_value, ref_view, Resolves}
+use Rattle.vx_views.specs.Sound.{IsSoundView}
+use Rattle.vx_tree.specs.Tree.{Tree, bools, primitive, fixed_list, list_view, structure, view_array, Trees, no_trees, tree, Valid, non_nullable}
+use Rattle.vx_tree.specs.Meaning.{tree_len, kind_of, row_at, fields_at, rows_range, is_valid_at, nullable, value_row}
 use Rattle.vx_tree.specs.Formed.{ValidFits, IsCounts, AllLen, column_count}
 use Rattle.std.specs.List.{All, flat_map, range_with_len}
-use Rattle.vx_tree.specs.Layouts.{is_primitive, is_fixed_list, is_list_view, is_struct}
-use Rattle.vx_tree.specs.Fitting.{AllFormed}
+use Rattle.vx_tree.specs.Layouts.{is_primitive, is_fixed_list, is_list_view, is_struct, is_view_array}
+use Rattle.vx_tree.specs.Fitting.{AllFormed, AreViews}
+use Rattle.vx_tree.specs.PlainValues.{buffers_overflow}
 use Rattle.vx_tree.specs.Plain.{IsPlain, IsPlainValid}
 use Rattle.vx_tree.specs.declared.array.Validity.{Validity}
 use Rattle.vx_tree.specs.Parts.{valid_of}
@@ -145,6 +148,44 @@ pub record IsCountsOf (ns : List ℕ) (t : Tree) : Type 0 where
   pub plain : IsPlain t
   pub rows : (i : ℕ) → i < length ns → row_at t i ≡ whole (pos (slice_index ns i))
 
+-- the views of an array of texts or of byte lists
+abbrev pub views_in : Tree → List (List ℕ)
+views_in (view_array vs bs k v) = vs
+views_in _ = []
+
+-- the buffers that they refer to
+abbrev pub buffers_in : Tree → List (List ℕ)
+buffers_in (view_array vs bs k v) = bs
+buffers_in _ = []
+
+-- the buffers of arrays, one array after another
+abbrev pub joined_buffers : List Tree → List (List ℕ)
+joined_buffers ts = flat_map buffers_in ts
+
+-- the same view, its buffer numbered further by n; a view that holds its value refers to none
+abbrev pub shifted_view : ℕ → List ℕ → List ℕ
+shifted_view n view = if is_inline view then view else ref_view (view_size view) (view_prefix view) (n + view_block view) (view_offset view)
+
+-- the views of arrays, their buffers numbered further by n and by the buffers of the arrays before
+abbrev pub views_from : ℕ → List Tree → List (List ℕ)
+views_from n [] = []
+views_from n (t ∷ ts) = map (shifted_view n) (views_in t) ++ views_from (n + length (buffers_in t)) ts
+
+-- views that resolve in the buffers beside them
+pub record AreResolved (t : Tree) : Type 0 where
+  pub layout : is_view_array t ≡ true
+  pub resolves : (j : ℕ) → j < length (views_in t) → Resolves (buffers_in t) (slice_index_or (views_in t) j [])
+
+-- texts or byte lists by sound views, those of null rows 16 zero bytes
+pub record AreValues (is_text : Bool) (t : Tree) : Type 0 where
+  pub len : length (views_in t) ≡ tree_len t
+  pub views : AreViews (views_in t) (buffers_in t)
+  pub resolved : AreResolved t
+  pub sound : (j : ℕ) → j < tree_len t → is_present (row_at t j) ≡ true → IsSoundView (buffers_in t) is_text (slice_index_or (views_in t) j [])
+  pub zeroes : (j : ℕ) → j < tree_len t → is_present (row_at t j) ≡ false → slice_index_or (views_in t) j [] ≡ replicate 16 0
+  pub content : (j : ℕ) → j < tree_len t
+      → row_at t j ≡ (if is_present (row_at t j) then value_row is_text (view_value (buffers_in t) (slice_index_or (views_in t) j [])) else null)
+
 -- plain arrays of one kind
 pub record AreJoinable (k : Kind) (ts : List Tree) : Type 0 where
   pub plain : All IsPlain ts
@@ -155,14 +196,14 @@ pub record AreJoinable (k : Kind) (ts : List Tree) : Type 0 where
 abbrev pub AreColumnsJoinable : List Tree → List Tree → Type 0
 AreColumnsJoinable ps ts = (c : ℕ) (d : Tree) → c < length ps → AreJoinable (kind_of (slice_index_or ps c d)) (map (column_of c) ts)
 
--- the elements of lists, or of the lists in the columns of records, cannot be counted; texts and byte lists are not joined as yet
+-- the elements of lists, or of the lists in the columns of records, cannot be counted, or the buffers of texts or of byte lists not numbered
 abbrev mutual
   pub parts_join_fault : Kind → List Tree → Option Refusal
   parts_join_fault (lists k n) ts = or_else (count_fault (joined_len (map elements_in ts))) (parts_join_fault k (map elements_in ts))
   parts_join_fault (fixed_lists k size n) ts = or_else (count_fault (joined_len (map elements_in ts))) (parts_join_fault k (map elements_in ts))
   parts_join_fault (records names ks n) ts = columns_join_fault ks 0 ts
-  parts_join_fault (texts n) ts = Some not_implemented
-  parts_join_fault (binaries n) ts = Some not_implemented
+  parts_join_fault (texts n) ts = buffers_overflow (length (joined_buffers ts))
+  parts_join_fault (binaries n) ts = buffers_overflow (length (joined_buffers ts))
   parts_join_fault _ ts = None
 
   -- of the columns from place c on

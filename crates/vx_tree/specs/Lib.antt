@@ -15,6 +15,7 @@ pub mod Patches
 pub mod Joins
 pub mod Becomes
 pub mod Joined
+pub mod Concatenated
 pub mod Columns
 pub mod Composed
 pub mod Fitting

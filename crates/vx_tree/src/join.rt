@@ -98,7 +98,9 @@ impl ArrayRef {
             Layout::FixedSizeList { .. } => self.join_fixed_like(alloc, arrays, len, validity),
             Layout::ListView { .. } => self.join_lists_like(alloc, arrays, len, validity),
             Layout::Struct { .. } => self.join_structs_like(alloc, arrays, len, validity),
-            Layout::VarBinView { .. } => Err(VortexError::NotImplemented),
+            Layout::VarBinView { dtype, .. } => {
+                ArrayRef::join_views(alloc, dtype, arrays, len, validity)
+            }
             Layout::Constant { .. } | Layout::Dict { .. } => unreachable!(),
         }
     }

@@ -2,6 +2,7 @@
 #![tactic(auto)]
 
 mod array;
+mod concat;
 mod execute_scalar;
 mod filter;
 mod indices;

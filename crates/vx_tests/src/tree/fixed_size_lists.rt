@@ -9,7 +9,7 @@ use vx_base::{DType, Nullability, PType, Scalar, VortexError};
 use vx_tree::{ArrayRef, Layout, Validity, fewer_rows_are_countable};
 
 // The lists [1, 2], [3, 4], [5, 6].
-fn pairs(alloc: Global) -> Result<ArrayRef, VortexError> {
+pub(crate) fn pairs(alloc: Global) -> Result<ArrayRef, VortexError> {
     let elements = numbers(alloc, PType::U8, &[1, 2, 3, 4, 5, 6], Validity::NonNullable)?;
     let validity = Validity::NonNullable;
     ArrayRef::from_parts(
@@ -41,7 +41,7 @@ fn huge_list(alloc: Global) -> Result<ArrayRef, VortexError> {
 }
 
 // Stops unless these numbers stand among the elements, from a place on.
-fn expect_elements(rt: &impl Abort, array: &ArrayRef, start: usize, want: &[i128]) {
+pub(crate) fn expect_elements(rt: &impl Abort, array: &ArrayRef, start: usize, want: &[i128]) {
     let Layout::FixedSizeList { elements, .. } = array.layout() else {
         panic!(rt; "no lists of one size");
     };

@@ -33,7 +33,7 @@ fn pairs(
 }
 
 // The records {a:1,b:true}, null, {a:3,b:true}.
-fn records(alloc: Global) -> Result<ArrayRef, VortexError> {
+pub(crate) fn records(alloc: Global) -> Result<ArrayRef, VortexError> {
     let first = numbers(alloc, PType::U8, &[1, 2, 3], Validity::NonNullable)?;
     let second = booleans(alloc, &[true, false, true])?;
     let validity = Validity::Array(booleans(alloc, &[true, false, true])?);
@@ -41,7 +41,7 @@ fn records(alloc: Global) -> Result<ArrayRef, VortexError> {
 }
 
 // Stops unless row `i` is the record of these rows of its two columns, or null where there is none.
-fn expect_pair(
+pub(crate) fn expect_pair(
     rt: &impl Abort,
     alloc: Global,
     array: &ArrayRef,

@@ -10,10 +10,10 @@ use vx_base::{BitBuffer, Buffer, ByteBuffer, DType, Mask, Nullability, ScalarVal
 use vx_tree::{ArrayRef, Layout, Validity};
 use vx_views::{BinaryView, check_views};
 
-const LONG: &[u8] = b"this value is definitely long";
+pub(crate) const LONG: &[u8] = b"this value is definitely long";
 
 // The texts `hi`, null, `é` and a long one, which stands in a buffer.
-fn texts(alloc: Global) -> Result<ArrayRef, VortexError>
+pub(crate) fn texts(alloc: Global) -> Result<ArrayRef, VortexError>
     ensures layout { IfOk result (λ a. is_view_array a ≡ true) }
     ensures len { IfOk result (λ a. tree_len a ≡ 4) }
 {
@@ -35,7 +35,7 @@ fn texts(alloc: Global) -> Result<ArrayRef, VortexError>
 }
 
 // Whether row `i` is this text.
-fn is_text(alloc: Global, array: &ArrayRef, i: usize, text: &[u8]) -> Result<bool, VortexError> {
+pub(crate) fn is_text(alloc: Global, array: &ArrayRef, i: usize, text: &[u8]) -> Result<bool, VortexError> {
     let row = array.execute_scalar(alloc, i)?;
     Ok(match row.value() {
         Some(ScalarValue::Text(value)) => value.as_slice() == text,
@@ -44,7 +44,7 @@ fn is_text(alloc: Global, array: &ArrayRef, i: usize, text: &[u8]) -> Result<boo
 }
 
 // Whether row `i` is null.
-fn is_null(alloc: Global, array: &ArrayRef, i: usize) -> Result<bool, VortexError> {
+pub(crate) fn is_null(alloc: Global, array: &ArrayRef, i: usize) -> Result<bool, VortexError> {
     Ok(array.execute_scalar(alloc, i)?.is_null())
 }
 

@@ -1,4 +1,4 @@
-use Rattle.std.proofs.Common.{sym, subst, ap, refl, ◌∙◌}
+use Rattle.std.proofs.Common.{sym}
 use Rattle.std.proofs.lemmas.Result.{err_from_is_err_and}
 use Rattle.vx_base.specs.DTypes.{is_nullable}
 use Rattle.vx_tree.specs.Joins.{join_fault}

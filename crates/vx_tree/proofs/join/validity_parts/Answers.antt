@@ -1,8 +1,3 @@
-use Rattle.std.proofs.Common.{sym, subst, ap, take, ◌++◌, ◌∷◌, [], List, ℕ, refl, ◌∙◌}
-use Rattle.std.proofs.lemmas.List.{take_more}
-use Rattle.vx_tree.specs.declared.array.Validity.{Validity}
-use Rattle.vx_tree.specs.Tree.{Tree}
-use Rattle.vx_tree.specs.Joined.{ArePartsOf}
 use Rattle.vx_tree.proofs.JoinedStates.{parts-more}
 use Rattle.vx_tree.proofs.join.validity_parts.Goals as goal
 

@@ -1,16 +1,17 @@
-use Rattle.std.proofs.Common.{ℕ, ◌≡◌, ◌<◌, ◌≤◌, List, length, map, true, ap, sym, subst, ◌∙◌, arith}
+use Rattle.std.proofs.Common.{◌≡◌, length, map, ap, sym, subst, ◌∙◌, arith}
 use denote.Param.Weighed.{at_most}
 use Rattle.std.proofs.lemmas.Result.{err_from_is_err_and}
 use Rattle.vx_tree.specs.declared.array.ArrayRef.TheDeep.{size-ArrayRef}
-use Rattle.vx_tree.specs.Tree.{Tree, depth, fixed_list, list_view, structure}
-use Rattle.vx_tree.specs.Meaning.{kind_of, kinds_of, trees_from, nullable}
+use Rattle.vx_base.specs.DTypes.{dtype_meaning}
+use Rattle.vx_tree.specs.Tree.{depth, fixed_list, list_view, structure, view_array}
+use Rattle.vx_tree.specs.Meaning.{kind_of, kinds_of, trees_from, nullable, is_texts}
 use Rattle.vx_tree.specs.Parts.{tree_of, valid_of}
 use Rattle.vx_tree.specs.Plain.{IsPlain}
 use Rattle.vx_tree.specs.Formed.{WellFormed}
-use Rattle.vx_tree.specs.Joined.{elements_in, column_of, AreJoinable, AreColumnsJoined}
+use Rattle.vx_tree.specs.Joined.{elements_in, column_of, AreJoinable}
 use Rattle.vx_tree.proofs.Columns.{columns_below}
 use Rattle.vx_tree.proofs.JoinedRecords.{count_of_list}
-use Rattle.vx_tree.proofs.JoinedParts.{plain_at, joinable_at, joined_done, joined_next, columns_joined, kinds_joined, columns_fault_next, columns_fault_all, columns_join_refused, fixed_elements_joinable, list_elements_joinable, all_lists, all_records, columns_joinable}
+use Rattle.vx_tree.proofs.JoinedParts.{plain_at, joinable_at, joined_done, joined_next, columns_joined, kinds_joined, columns_fault_next, columns_fault_all, columns_join_refused, fixed_elements_joinable, list_elements_joinable, all_values, all_lists, all_records, columns_joinable}
 use Rattle.vx_tree.proofs.array.ArrayRef.+join.Goals as goal
 
 pub join_columns-columns_of-requires-clause-place : goal.join_columns-columns_of-requires-clause-place
@@ -70,6 +71,16 @@ join_columns-returns-clause-kinds t c =
 pub join_columns-returns-clause-refuses : goal.join_columns-returns-clause-refuses
 join_columns-returns-clause-refuses t c =
     columns_fault_all c.args.arrays.now c.args.columns.now c.loop-column.column-index c.loop-column.invariant.1 c.loop-column-test.false
+
+pub join_like-join_views-requires-clause-values : goal.join_like-join_views-requires-clause-values
+join_like-join_views-requires-clause-values t c =
+    let parts = c.in-VarBinView in
+    let v = valid_of parts.validity in
+    let k = dtype_meaning parts.dtype in
+    let same = sym c.layout.ensures.parts ∙ ap tree_of parts.is in
+    let formed : WellFormed (view_array parts.views parts.buffers.items k v) = rw parts.is at c.layout.ensures.formed in
+    let arrays : AreJoinable (kind_of (view_array parts.views parts.buffers.items k v)) c.args.arrays.now = rw same at c.requires.arrays in
+    all_values k (is_texts k) (nullable v) c.args.arrays.now formed.1.kind arrays
 
 pub join_fixed_like-join_like-requires : goal.join_fixed_like-join_like-requires
 join_fixed_like-join_like-requires t c =

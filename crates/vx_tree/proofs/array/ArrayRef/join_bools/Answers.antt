@@ -1,7 +1,6 @@
-use Rattle.std.proofs.Common.{◌≡◌, length, sym, ap, refl}
 use Rattle.vx_base.specs.Kinds.{booleans}
 use Rattle.vx_base.proofs.Refused.{Gives-weaker}
-use Rattle.vx_tree.specs.Tree.{Tree, bools}
+use Rattle.vx_tree.specs.Tree.{bools}
 use Rattle.vx_tree.specs.Parts.{valid_of}
 use Rattle.vx_tree.specs.Meaning.{nullable}
 use Rattle.vx_tree.specs.Joined.{IsJoined}

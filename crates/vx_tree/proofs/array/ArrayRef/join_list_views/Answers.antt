@@ -3,7 +3,6 @@ use Rattle.vx_base.proofs.Refused.{Gives-weaker}
 use Rattle.vx_tree.specs.Parts.{valid_of}
 use Rattle.vx_tree.specs.Joined.{IsCountsOf}
 use Rattle.vx_tree.proofs.JoinedListViews.{list_views_joined}
-use Rattle.vx_tree.proofs.JoinedKinds.{lists_of_kind}
 use Rattle.vx_tree.proofs.array.ArrayRef.join_list_views.Goals as goal
 
 pub list_view-requires : goal.list_view-requires

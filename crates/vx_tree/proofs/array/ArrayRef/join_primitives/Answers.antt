@@ -1,4 +1,4 @@
-use Rattle.std.proofs.Common.{◌≡◌, length, sym, ap, refl, ◌∙◌}
+use Rattle.std.proofs.Common.{◌∙◌}
 use Rattle.vx_base.proofs.Refused.{Gives-weaker}
 use Rattle.vx_tree.specs.Parts.{valid_of}
 use Rattle.vx_tree.proofs.JoinedLeaves.{primitives_joined}

@@ -1,5 +1,4 @@
-use Rattle.std.proofs.Common.{◌≡◌, ◌≤◌, ◌+◌, ap, sym, ◌∙◌, subst, map, drop, arith}
-use Rattle.vx_tree.specs.Tree.{Tree}
+use Rattle.std.proofs.Common.{◌≤◌, ◌+◌, ap, sym, ◌∙◌, subst, map, arith}
 use Rattle.vx_tree.specs.Meaning.{tree_len}
 use Rattle.vx_tree.specs.Parts.{tree_of}
 use Rattle.vx_tree.specs.Joined.{joined_len, elements_in, offsets_in, AreLists}

@@ -1,7 +1,7 @@
 use Rattle.std.proofs.Common.{sym, ap, ◌∙◌}
 use Rattle.vx_base.proofs.Refused.{Gives-weaker}
 use Rattle.vx_tree.specs.Parts.{tree_of, valid_of}
-use Rattle.vx_tree.proofs.JoinedListViews.{counts_not_negative, counts_read, list-joined}
+use Rattle.vx_tree.proofs.JoinedListViews.{counts_not_negative, counts_read}
 use Rattle.vx_tree.proofs.layouts.list_view.plain_counts.Goals as goal
 
 pub read_counts-requires : goal.read_counts-requires

@@ -1,0 +1,125 @@
+// Arrays one after another, of each layout once, with rows written by hand.
+
+use super::fixed_size_lists::{expect_elements, pairs};
+use super::records::{expect_pair, records};
+use super::views::{LONG, is_null, is_text, texts};
+use super::{booleans, dictionary, expect_bool, expect_list, indices, lists, number};
+use std::alloc::Global;
+use vx_base::{Nullability, PType, Scalar, VortexError};
+use vx_tree::{ArrayRef, Layout};
+
+// The rows of two arrays.
+fn both(alloc: Global, first: ArrayRef, second: ArrayRef) -> Result<ArrayRef, VortexError> {
+    let arrays = vec![in alloc; first, second]?;
+    ArrayRef::concat(alloc, &arrays)
+}
+
+#[test]
+fn numbers_and_a_dictionary(rt: HostRuntime) -> Result<(), VortexError> {
+    let alloc = rt.alloc();
+    let joined = both(alloc, indices(alloc)?, dictionary(alloc)?)?;
+    assert!(rt; joined.len() == 8 && matches!(joined.layout(), Layout::Primitive { .. }));
+    let want = [Some(2), None, Some(0), None, None, Some(9), None, Some(6)];
+    for (i, row) in want.iter().enumerate() {
+        assert!(rt; number(&rt, &joined, i) == *row, "at {i}");
+    }
+    Ok(())
+}
+
+#[test]
+fn booleans_and_a_constant(rt: HostRuntime) -> Result<(), VortexError> {
+    let alloc = rt.alloc();
+    let constant = ArrayRef::constant(alloc, Scalar::bool(true, Nullability::NonNullable), 2)?;
+    let joined = both(alloc, booleans(alloc, &[false, true, false])?, constant)?;
+    assert!(rt; joined.len() == 5 && !joined.dtype().is_nullable());
+    for (i, row) in [false, true, false, true, true].iter().enumerate() {
+        expect_bool(&rt, alloc, &joined, i, Some(*row))?;
+    }
+    Ok(())
+}
+
+#[test]
+fn lists_and_lists(rt: HostRuntime) -> Result<(), VortexError> {
+    let alloc = rt.alloc();
+    let joined = both(alloc, lists(alloc)?.slice(alloc, 1..3)?, lists(alloc)?)?;
+    assert_eq!(rt; joined.len(), 5);
+    expect_list(&rt, alloc, &joined, 0, Some(&[1]))?;
+    expect_list(&rt, alloc, &joined, 1, Some(&[2, 3]))?;
+    expect_list(&rt, alloc, &joined, 2, Some(&[3, 4]))?;
+    expect_list(&rt, alloc, &joined, 3, Some(&[1]))?;
+    expect_list(&rt, alloc, &joined, 4, Some(&[2, 3]))?;
+    let found = match joined.layout() {
+        Layout::ListView { elements, flag, .. } => elements.len() == 8 && !*flag,
+        _ => false,
+    };
+    assert!(rt; found);
+    Ok(())
+}
+
+#[test]
+fn texts_and_texts(rt: HostRuntime) -> Result<(), VortexError> {
+    let alloc = rt.alloc();
+    let joined = both(alloc, texts(alloc)?, texts(alloc)?)?;
+    assert_eq!(rt; joined.len(), 8);
+    assert!(rt; is_text(alloc, &joined, 0, b"hi")? && is_null(alloc, &joined, 1)?);
+    assert!(rt; is_text(alloc, &joined, 3, LONG)? && is_text(alloc, &joined, 4, b"hi")?);
+    assert!(rt; is_null(alloc, &joined, 5)? && is_text(alloc, &joined, 6, b"\xC3\xA9")?);
+    assert!(rt; is_text(alloc, &joined, 7, LONG)?);
+    let found = match joined.layout() {
+        Layout::VarBinView { buffers, .. } => buffers.len() == 2,
+        _ => false,
+    };
+    assert!(rt; found);
+    Ok(())
+}
+
+#[test]
+fn lists_of_one_size(rt: HostRuntime) -> Result<(), VortexError> {
+    let alloc = rt.alloc();
+    let joined = both(alloc, pairs(alloc)?.slice(alloc, 2..3)?, pairs(alloc)?)?;
+    assert_eq!(rt; joined.len(), 4);
+    expect_elements(&rt, &joined, 0, &[5, 6, 1, 2, 3, 4, 5, 6]);
+    Ok(())
+}
+
+#[test]
+fn records_and_records(rt: HostRuntime) -> Result<(), VortexError> {
+    let alloc = rt.alloc();
+    let joined = both(alloc, records(alloc)?, records(alloc)?.slice(alloc, 1..3)?)?;
+    assert_eq!(rt; joined.len(), 5);
+    expect_pair(&rt, alloc, &joined, 0, Some((1, true)))?;
+    expect_pair(&rt, alloc, &joined, 1, None)?;
+    expect_pair(&rt, alloc, &joined, 2, Some((3, true)))?;
+    expect_pair(&rt, alloc, &joined, 3, None)?;
+    expect_pair(&rt, alloc, &joined, 4, Some((3, true)))
+}
+
+#[test]
+fn no_arrays(rt: HostRuntime) -> Result<(), VortexError> {
+    let found = matches!(
+        ArrayRef::concat(rt.alloc(), &[]),
+        Err(VortexError::EmptyInput)
+    );
+    assert!(rt; found);
+    Ok(())
+}
+
+#[test]
+fn arrays_of_two_data_types(rt: HostRuntime) -> Result<(), VortexError> {
+    let alloc = rt.alloc();
+    let joined = both(alloc, lists(alloc)?, indices(alloc)?);
+    assert!(rt; matches!(joined, Err(VortexError::DifferingDtypes)));
+    Ok(())
+}
+
+// More rows than can be counted are refused before any of them takes memory.
+#[test]
+fn huge_constants(rt: HostRuntime) -> Result<(), VortexError> {
+    let alloc = rt.alloc();
+    let half = 9223372036854775808;
+    let scalar = Scalar::int(7, PType::I32, Nullability::NonNullable);
+    let constant = ArrayRef::constant(alloc, scalar, half)?;
+    let joined = both(alloc, constant.try_clone(alloc)?, constant);
+    assert!(rt; matches!(joined, Err(VortexError::Overflow)));
+    Ok(())
+}

@@ -1,0 +1,173 @@
+-- Arrays that are concatenated: in plain layout they have their kinds and their rows.
+use Rattle.std.proofs.Common.{ℕ, zero, suc, ◌+◌, ◌-◌, ◌<◌, ◌≡◌, Bool, true, false, List, [], ◌∷◌, length, get_or, drop, refl, sym, ◌∙◌, ap, subst, inl, inr, Some, None, arith}
+use Rattle.std.specs.Prelude.{◌&&◌, not, if◌then◌else◌, Result, Ok, Err, IfOk}
+use Rattle.std.specs.List.{All, AllZip, flat_map}
+use Rattle.std.proofs.lemmas.Bool.{cases_lt}
+use Rattle.std.proofs.lemmas.List.{at_drop_more, same_lists}
+use Rattle.vx_base.specs.Kinds.{Kind}
+use Rattle.vx_base.specs.SameKind.{kind_eq, kind_eq-Decides}
+use Rattle.vx_base.specs.Rows.{Row, null}
+use Rattle.vx_base.specs.Booleans.{count_fault}
+use Rattle.vx_base.specs.Refusals.{or_else, IsMemoryOr, Names, Refuses, differing_dtypes}
+use Rattle.vx_base.specs.declared.errors.VortexError.{VortexError}
+use Rattle.vx_tree.specs.Tree.{Tree}
+use Rattle.vx_tree.specs.Meaning.{tree_len, kind_of, row_at, rows, trees_from}
+use Rattle.vx_tree.specs.Plain.{IsPlain}
+use Rattle.vx_tree.specs.Fitting.{AllFormed}
+use Rattle.vx_tree.specs.Canonical.{IsCanonical, columns_fault}
+use Rattle.vx_tree.specs.Joined.{joined_len, joined_row, join_fault, IsJoined, AreJoinable}
+use Rattle.vx_tree.specs.Concatenated.{are_alike, given_fault, plain_fault, RefusesJoin}
+use Rattle.vx_tree.proofs.RowLists.{length-rows, get_or-rows}
+use Rattle.vx_tree.proofs.JoinedRows.{HoldEach, length-joined, joined_item, joined_same, joined-here, joined-later}
+use Rattle.vx_tree.proofs.JoinedParts.{first_named}
+
+-- ---- kinds
+
+both_true : (a b : Bool) → (a && b) ≡ true → (a ≡ true) × (b ≡ true)
+both_true true true e = (refl, refl)
+both_true true false e = cc
+both_true false b e = cc
+
+first_and_rest : (P : Tree → Type 0) (t : Tree) (ts : List Tree) → P t → All P ts → All P (t ∷ ts)
+first_and_rest P t ts here rest zero d l = here
+first_and_rest P t ts here rest (suc i) d l = rest i d (omega arith)
+
+pub alike_kinds : (k : Kind) (ts : List Tree) → are_alike k ts ≡ true → All (λ t. kind_of t ≡ k) ts
+alike_kinds k [] e = λ i d l. absurd (omega arith)
+alike_kinds k (t ∷ ts) e =
+    let both = both_true (kind_eq (kind_of t) k) (are_alike k ts) e in
+    first_and_rest (λ u. kind_of u ≡ k) t ts ((kind_eq-Decides (kind_of t) k).0 both.0) (alike_kinds k ts both.1)
+
+-- one array more
+pub alike-step : (k : Kind) (ts : List Tree) (i : ℕ) (t : Tree) → i < length ts → t ≡ get_or ts i t → are_alike k (drop i ts) ≡ (kind_eq (kind_of t) k && are_alike k (drop (i + 1) ts))
+alike-step k ts i t inside same = at_drop_more (are_alike k) ts i t inside ∙ ap (λ u. are_alike k (u ∷ drop (i + 1) ts)) (sym same)
+
+-- no other kind is found
+none_other : (b : Bool) → not b ≡ false → b ≡ true
+none_other true e = refl
+none_other false e = cc
+
+pub alike-more : (k : Kind) (ts : List Tree) (i : ℕ) (t : Tree) (other : Bool) → i < length ts → t ≡ get_or ts i t → other ≡ not (kind_eq (kind_of t) k) → other ≡ false → are_alike k ts ≡ are_alike k (drop i ts)
+    → are_alike k ts ≡ are_alike k (drop (i + 1) ts)
+alike-more k ts i t other inside same told none before =
+    let here : kind_eq (kind_of t) k ≡ true = none_other (kind_eq (kind_of t) k) (sym told ∙ none) in
+    before ∙ alike-step k ts i t inside same ∙ ap (λ b. b && are_alike k (drop (i + 1) ts)) here
+
+-- ---- in plain layout
+
+pub plain_count : (ts ps : List Tree) → AllZip IsCanonical ts ps → length ps ≡ length ts
+plain_count [] [] h = refl
+plain_count [] (p ∷ ps) h = absurd h
+plain_count (t ∷ ts) [] h = absurd h
+plain_count (t ∷ ts) (p ∷ ps) h = ap suc (plain_count ts ps h.1)
+
+pub plain_each : (k : Kind) (ts ps : List Tree) → AllZip IsCanonical ts ps → All (λ t. kind_of t ≡ k) ts → All (λ p. IsPlain p × (kind_of p ≡ k)) ps
+plain_each k ts ps h same = λ i d l. each ts ps h same i d l
+  where
+    each : (us qs : List Tree) → AllZip IsCanonical us qs → All (λ t. kind_of t ≡ k) us → (i : ℕ) (d : Tree) → i < length qs → IsPlain (get_or qs i d) × (kind_of (get_or qs i d) ≡ k)
+    each [] [] h all i d l = absurd (omega arith)
+    each [] (q ∷ qs) h all i d l = absurd h
+    each (u ∷ us) [] h all i d l = absurd h
+    each (u ∷ us) (q ∷ qs) h all zero d l = (h.0.plain, h.0.same.kind ∙ all 0 d (omega arith))
+    each (u ∷ us) (q ∷ qs) h all (suc i) d l = each us qs h.1 (λ j c m. all (suc j) c (omega arith)) i d (omega arith)
+
+pub plain_joinable : (k : Kind) (ts ps : List Tree) → AllZip IsCanonical ts ps → All (λ t. kind_of t ≡ k) ts → All AllFormed ps → AreJoinable k ps
+plain_joinable k ts ps h same formed =
+    record {
+      plain = λ i d l. (plain_each k ts ps h same i d l).0;
+      formed = formed;
+      alike = λ i d l. (plain_each k ts ps h same i d l).1;
+    }
+
+pub plain_len : (ts ps : List Tree) → AllZip IsCanonical ts ps → joined_len ps ≡ joined_len ts
+plain_len [] [] h = refl
+plain_len [] (p ∷ ps) h = absurd h
+plain_len (t ∷ ts) [] h = absurd h
+plain_len (t ∷ ts) (p ∷ ps) h = omega (arith, h.0.same.len, plain_len ts ps h.1)
+
+-- ---- rows
+
+plain_row : (ts ps : List Tree) → AllZip IsCanonical ts ps → (i : ℕ) → i < joined_len ts → joined_row ps i ≡ joined_row ts i
+plain_row [] [] h i l = absurd (omega arith)
+plain_row [] (p ∷ ps) h i l = absurd h
+plain_row (t ∷ ts) [] h i l = absurd h
+plain_row (t ∷ ts) (p ∷ ps) h i l = elim (cases_lt i (tree_len t)) [
+  | inl here ↦ joined-here row_at null p ps i (omega (arith, h.0.same.len)) ∙ h.0.same.rows i here ∙ sym (joined-here row_at null t ts i here)
+  | inr later ↦
+      joined-later row_at null p ps i (omega (arith, h.0.same.len)) ∙ ap (λ n. joined_row ps (i - n)) h.0.same.len
+      ∙ plain_row ts ps h.1 (i - tree_len t) (omega arith) ∙ sym (joined-later row_at null t ts i later)
+]
+
+pub rows_concatenated : (k : Kind) (ts ps : List Tree) (r : Tree) → AllZip IsCanonical ts ps → IsJoined k ps r → rows r ≡ flat_map rows ts
+rows_concatenated k ts ps r h joined =
+    same_lists (rows r) (flat_map rows ts) (length-rows r ∙ long ∙ sym (length-joined rows ts hold)) (λ i d l.
+    let m : i < tree_len r = omega (arith, length-rows r) in
+    let n : i < joined_len ts = omega (arith, long) in
+    get_or-rows r i d m ∙ joined.rows i (omega (arith, joined.len)) ∙ plain_row ts ps h i n ∙ listed_row i d n)
+  where
+    long : tree_len r ≡ joined_len ts
+    long = joined.len ∙ plain_len ts ps h
+
+    hold : HoldEach rows ts
+    hold = λ i d l. length-rows (get_or ts i d)
+
+    listed_row : (i : ℕ) (d : Row) → i < joined_len ts → joined_row ts i ≡ get_or (flat_map rows ts) i d
+    listed_row i d n =
+        joined_same row_at (λ t j. get_or (rows t) j d) null null ts (λ k c m. λ j q. sym (get_or-rows (get_or ts k c) j d q)) i n
+        ∙ sym (joined_item rows (λ x. x) d null ts hold i n)
+
+-- ---- faults
+
+pub given_differing : (ts : List Tree) (t : Tree) → 0 < length ts → t ≡ get_or ts 0 t → are_alike (kind_of t) ts ≡ false → given_fault ts ≡ Some differing_dtypes
+given_differing [] t l e h = absurd (omega arith)
+given_differing (u ∷ ts) t l e h =
+    let no : are_alike (kind_of u) (u ∷ ts) ≡ false = subst (λ x. are_alike (kind_of x) (u ∷ ts) ≡ false) e h in
+    ap (λ b. or_else (if b then None else Some differing_dtypes) (or_else (count_fault (joined_len (u ∷ ts))) (columns_fault (trees_from (u ∷ ts))))) no
+
+pub given_alike : (ts : List Tree) (t : Tree) → 0 < length ts → t ≡ get_or ts 0 t → are_alike (kind_of t) ts ≡ true → given_fault ts ≡ or_else (count_fault (joined_len ts)) (columns_fault (trees_from ts))
+given_alike [] t l e h = absurd (omega arith)
+given_alike (u ∷ ts) t l e h =
+    let yes : are_alike (kind_of u) (u ∷ ts) ≡ true = subst (λ x. are_alike (kind_of x) (u ∷ ts) ≡ true) e h in
+    ap (λ b. or_else (if b then None else Some differing_dtypes) (or_else (count_fault (joined_len (u ∷ ts))) (columns_fault (trees_from (u ∷ ts))))) yes
+
+pub given_long : (ts : List Tree) (t : Tree) (e : VortexError) → 0 < length ts → t ≡ get_or ts 0 t → are_alike (kind_of t) ts ≡ true → Names (count_fault (joined_len ts)) e → IsMemoryOr (given_fault ts) e
+given_long ts t e l first h named = rw (given_alike ts t l first h) (first_named (count_fault (joined_len ts)) (columns_fault (trees_from ts)) e named)
+
+pub given_plain : (ts : List Tree) (t : Tree) (e : VortexError) → 0 < length ts → t ≡ get_or ts 0 t → are_alike (kind_of t) ts ≡ true → count_fault (joined_len ts) ≡ None → IsMemoryOr (columns_fault (trees_from ts)) e → IsMemoryOr (given_fault ts) e
+given_plain ts t e l first h none named = rw (given_alike ts t l first h, none) named
+
+pub given_none : (ts : List Tree) (t : Tree) → 0 < length ts → t ≡ get_or ts 0 t → are_alike (kind_of t) ts ≡ true → count_fault (joined_len ts) ≡ None → columns_fault (trees_from ts) ≡ None → given_fault ts ≡ None
+given_none ts t l first h none plain = given_alike ts t l first h ∙ ap (λ f. or_else f (columns_fault (trees_from ts))) none ∙ plain
+
+plain_fault-first : (ps : List Tree) (p : Tree) → 0 < length ps → p ≡ get_or ps 0 p → plain_fault ps ≡ join_fault (kind_of p) ps
+plain_fault-first [] p l e = absurd (omega arith)
+plain_fault-first (q ∷ ps) p l e = ap (λ x. join_fault (kind_of x) (q ∷ ps)) (sym e)
+
+pub refuses_joined : (r : Result Tree VortexError) (ts ps : List Tree) (p : Tree) → given_fault ts ≡ None → AllZip IsCanonical ts ps → 0 < length ps → p ≡ get_or ps 0 p → Refuses r (join_fault (kind_of p) ps) → RefusesJoin r ts
+refuses_joined (Ok a) ts ps p none h l e refused = (none, (ps, h, plain_fault-first ps p l e ∙ refused))
+refuses_joined (Err x) ts ps p none h l e (inl memory) = inl (inl memory)
+refuses_joined (Err x) ts ps p none h l e (inr same) = inr (none, (ps, h, plain_fault-first ps p l e ∙ same))
+
+-- ---- what is answered
+
+-- the kind of the first array in plain layout
+pub first_kind : (ts ps : List Tree) (t p : Tree) → AllZip IsCanonical ts ps → are_alike (kind_of t) ts ≡ true → 0 < length ps → p ≡ get_or ps 0 p → kind_of p ≡ kind_of t
+first_kind ts ps t p h alike l e = ap kind_of e ∙ (plain_each (kind_of t) ts ps h (alike_kinds (kind_of t) ts alike) 0 p l).1
+
+pub first_plain : (ts ps : List Tree) (t p : Tree) → AllZip IsCanonical ts ps → are_alike (kind_of t) ts ≡ true → 0 < length ps → p ≡ get_or ps 0 p → IsPlain p
+first_plain ts ps t p h alike l e = subst IsPlain (sym e) (plain_each (kind_of t) ts ps h (alike_kinds (kind_of t) ts alike) 0 p l).0
+
+pub kinds_of_first : (ts ps : List Tree) (t p : Tree) → AllZip IsCanonical ts ps → are_alike (kind_of t) ts ≡ true → 0 < length ps → p ≡ get_or ps 0 p → All (λ u. kind_of u ≡ kind_of p) ts
+kinds_of_first ts ps t p h alike l e = subst (λ k. All (λ u. kind_of u ≡ k) ts) (sym (first_kind ts ps t p h alike l e)) (alike_kinds (kind_of t) ts alike)
+
+pub ok_rows : (r : Result Tree VortexError) (k : Kind) (ts ps : List Tree) → AllZip IsCanonical ts ps → IfOk r (IsJoined k ps) → IfOk r (λ a. rows a ≡ flat_map rows ts)
+ok_rows (Ok a) k ts ps h joined = rows_concatenated k ts ps a h joined
+ok_rows (Err e) k ts ps h joined = tt
+
+pub ok_kind : (r : Result Tree VortexError) (k : Kind) (ts ps : List Tree) → All (λ t. kind_of t ≡ k) ts → IfOk r (IsJoined k ps) → IfOk r (λ a. All (λ t. kind_of t ≡ kind_of a) ts)
+ok_kind (Ok a) k ts ps same joined = λ i d l. same i d l ∙ sym joined.kind
+ok_kind (Err e) k ts ps same joined = tt
+
+pub ok_plain : (r : Result Tree VortexError) (k : Kind) (ps : List Tree) → IfOk r (IsJoined k ps) → IfOk r IsPlain
+ok_plain (Ok a) k ps joined = joined.plain
+ok_plain (Err e) k ps joined = tt

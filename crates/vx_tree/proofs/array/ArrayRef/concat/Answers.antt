@@ -1,0 +1,52 @@
+use Rattle.std.proofs.Common.{◌≡◌, ◌<◌, length, true, ap, sym, ◌∙◌, arith}
+use Rattle.vx_tree.specs.Meaning.{kind_of}
+use Rattle.vx_tree.specs.Concatenated.{are_alike}
+use Rattle.vx_tree.proofs.Concatenated.{given_none, refuses_joined, first_plain, kinds_of_first, ok_rows, ok_kind, ok_plain, plain_count, plain_joinable}
+use Rattle.vx_tree.proofs.array.ArrayRef.concat.Goals as goal
+
+pub join_like-requires-clause-plain : goal.join_like-requires-clause-plain
+join_like-requires-clause-plain c =
+    let ts = c.args.arrays.now in
+    let ps = c.in_ok-plain.plain.items in
+    let t = c.in-Some.first.now in
+    let alike : are_alike (kind_of t) ts ≡ true = sym (ap (λ k. are_alike k ts) c.dtype.ensures) ∙ sym c.are_alike.ensures ∙ c.if-not-are_alike.false in
+    let some : 0 < length ps = omega (arith, plain_count ts ps c.in_ok-plain.ensures.ok, c.in-Some.ensures.item.3.0) in
+    first_plain ts ps t c.index.result.now c.in_ok-plain.ensures.ok alike some c.index.ensures
+
+pub join_like-requires-clause-arrays : goal.join_like-requires-clause-arrays
+join_like-requires-clause-arrays c =
+    let ts = c.args.arrays.now in
+    let ps = c.in_ok-plain.plain.items in
+    let t = c.in-Some.first.now in
+    let p = c.index.result.now in
+    let alike : are_alike (kind_of t) ts ≡ true = sym (ap (λ k. are_alike k ts) c.dtype.ensures) ∙ sym c.are_alike.ensures ∙ c.if-not-are_alike.false in
+    let some : 0 < length ps = omega (arith, plain_count ts ps c.in_ok-plain.ensures.ok, c.in-Some.ensures.item.3.0) in
+    rw c.deref-2.ensures.value (plain_joinable (kind_of p) ts ps c.in_ok-plain.ensures.ok (kinds_of_first ts ps t p c.in_ok-plain.ensures.ok alike some c.index.ensures) (rw c.deref.ensures.value at c.all_formed.ensures))
+
+pub returns-clause-rows : goal.returns-clause-rows
+returns-clause-rows c =
+    ok_rows c.join_like.result (kind_of c.index.result.now) c.args.arrays.now c.in_ok-plain.plain.items c.in_ok-plain.ensures.ok (rw c.deref-2.ensures.value at c.join_like.ensures.ok)
+
+pub returns-clause-kind : goal.returns-clause-kind
+returns-clause-kind c =
+    let ts = c.args.arrays.now in
+    let ps = c.in_ok-plain.plain.items in
+    let t = c.in-Some.first.now in
+    let p = c.index.result.now in
+    let alike : are_alike (kind_of t) ts ≡ true = sym (ap (λ k. are_alike k ts) c.dtype.ensures) ∙ sym c.are_alike.ensures ∙ c.if-not-are_alike.false in
+    let some : 0 < length ps = omega (arith, plain_count ts ps c.in_ok-plain.ensures.ok, c.in-Some.ensures.item.3.0) in
+    ok_kind c.join_like.result (kind_of p) ts ps (kinds_of_first ts ps t p c.in_ok-plain.ensures.ok alike some c.index.ensures) (rw c.deref-2.ensures.value at c.join_like.ensures.ok)
+
+pub returns-clause-plain : goal.returns-clause-plain
+returns-clause-plain c = ok_plain c.join_like.result (kind_of c.index.result.now) c.deref-2.result.now c.join_like.ensures.ok
+
+pub returns-clause-refuses : goal.returns-clause-refuses
+returns-clause-refuses c =
+    let ts = c.args.arrays.now in
+    let ps = c.in_ok-plain.plain.items in
+    let t = c.in-Some.first.now in
+    let item = c.in-Some.ensures.item in
+    let alike : are_alike (kind_of t) ts ≡ true = sym (ap (λ k. are_alike k ts) c.dtype.ensures) ∙ sym c.are_alike.ensures ∙ c.if-not-are_alike.false in
+    let some : 0 < length ps = omega (arith, plain_count ts ps c.in_ok-plain.ensures.ok, item.3.0) in
+    let none = given_none ts t item.3.0 item.1 alike c.in_ok-joined_len.ensures.tests c.in_ok-plain.ensures.refuses in
+    refuses_joined c.join_like.result ts ps c.index.result.now none c.in_ok-plain.ensures.ok some c.index.ensures (rw c.deref-2.ensures.value at c.join_like.ensures.refuses)

@@ -1,0 +1,67 @@
+// Arrays, one after another.
+
+ghost use Rattle.std.specs.Prelude.{◌≡◌, IfOk};
+ghost use Rattle.std.specs.List.{All, AllZip, flat_map};
+ghost use Rattle.vx_base.specs.DTypes.{dtype_meaning};
+ghost use Rattle.vx_base.specs.Refusals.{Refuses};
+ghost use Rattle.vx_tree.specs.Meaning.{kind_of, rows, trees_from};
+ghost use Rattle.vx_tree.specs.Plain.{IsPlain};
+ghost use Rattle.vx_tree.specs.Canonical.{IsCanonical, columns_fault};
+ghost use Rattle.vx_tree.specs.Concatenated.{are_alike, RefusesJoin};
+
+use crate::array::ArrayRef;
+use crate::join::{all_formed, joined_len};
+use std::alloc::Global;
+use vx_base::{DType, VortexError};
+
+impl ArrayRef {
+    /// The rows of the arrays, one array after another, in the plain layout of their data type: of
+    /// the numbers 1, 2 and 3, null the numbers 1, 2, 3, null. Of texts, byte lists and lists the
+    /// buffers and the elements of all arrays stand one after another. Refuses in this order: with
+    /// `EmptyInput` where no array is given; with `DifferingDtypes` where one is not of the data type
+    /// of the first; with `Overflow` where there are more rows than can be counted; by the first
+    /// fault of making each array plain, as `to_canonical` has it; then with `Overflow` where in
+    /// plain layout, at any depth, the lists have more elements than can be counted, or texts or
+    /// byte lists more buffers than a view can number, 4294967296.
+    pub fn concat(alloc: Global, arrays: &[ArrayRef]) -> Result<ArrayRef, VortexError>
+        ensures rows { IfOk result (λ a. rows a ≡ flat_map rows arrays.now) }
+        ensures kind { IfOk result (λ a. All (λ t. kind_of t ≡ kind_of a) arrays.now) }
+        ensures plain { IfOk result IsPlain }
+        ensures refuses { RefusesJoin result arrays.now }
+    {
+        let Some(first) = arrays.first() else {
+            return Err(VortexError::EmptyInput);
+        };
+        if !are_alike(first.dtype(), arrays) {
+            return Err(VortexError::DifferingDtypes);
+        }
+        joined_len(arrays)?;
+        let plain = plain_arrays(alloc, arrays)?;
+        all_formed(&plain);
+        plain[0].join_like(alloc, &plain)
+    }
+}
+
+// Whether all arrays are of this data type.
+fn are_alike(dtype: &DType, arrays: &[ArrayRef]) -> bool
+    ensures { result ≡ are_alike (dtype_meaning dtype.now) arrays.now }
+{
+    for array in arrays {
+        if array.dtype() != dtype {
+            return false;
+        }
+    }
+    true
+}
+
+// Each array in plain layout.
+fn plain_arrays(alloc: Global, arrays: &[ArrayRef]) -> Result<Vec<ArrayRef>, VortexError>
+    ensures ok { IfOk result (λ ps. AllZip IsCanonical arrays.now ps.items) }
+    ensures refuses { Refuses result (columns_fault (trees_from arrays.now)) }
+{
+    let mut plain = Vec::with_capacity(alloc, arrays.len())?;
+    for array in arrays {
+        plain.push(array.canonical(alloc)?)?;
+    }
+    Ok(plain)
+}
