@@ -12,10 +12,11 @@ use Rattle.vx_base.specs.Refusals.{or_else, IsMemoryOr, Names, Refuses, differin
 use Rattle.vx_base.specs.declared.errors.VortexError.{VortexError}
 use Rattle.vx_tree.specs.Tree.{Tree}
 use Rattle.vx_tree.specs.Meaning.{tree_len, kind_of, row_at, rows, trees_from}
+use Rattle.vx_tree.specs.Shapes.{tree_state}
 use Rattle.vx_tree.specs.Plain.{IsPlain}
 use Rattle.vx_tree.specs.Fitting.{AllFormed}
 use Rattle.vx_tree.specs.Canonical.{IsCanonical, columns_fault}
-use Rattle.vx_tree.specs.Joined.{joined_len, joined_row, join_fault, IsJoined, AreJoinable}
+use Rattle.vx_tree.specs.Joined.{joined_len, joined_state, joined_states, is_flagged, joined_row, join_fault, IsJoined, AreJoinable}
 use Rattle.vx_tree.specs.Concatenated.{are_alike, given_fault, plain_fault, RefusesJoin}
 use Rattle.vx_tree.proofs.RowLists.{length-rows, get_or-rows}
 use Rattle.vx_tree.proofs.JoinedRows.{HoldEach, length-joined, joined_item, joined_same, joined-here, joined-later}
@@ -84,6 +85,18 @@ plain_len [] [] h = refl
 plain_len [] (p ∷ ps) h = absurd h
 plain_len (t ∷ ts) [] h = absurd h
 plain_len (t ∷ ts) (p ∷ ps) h = omega (arith, h.0.same.len, plain_len ts ps h.1)
+
+pub plain_states : (ts ps : List Tree) → AllZip IsCanonical ts ps → joined_state ps ≡ joined_state ts
+plain_states [] [] h = refl
+plain_states [] (p ∷ ps) h = absurd h
+plain_states (t ∷ ts) [] h = absurd h
+plain_states (t ∷ []) (p ∷ []) h = h.0.state
+plain_states (t ∷ []) (p ∷ q ∷ ps) h = absurd h.1
+plain_states (t ∷ u ∷ ts) (p ∷ []) h = absurd h.1
+plain_states (t ∷ u ∷ ts) (p ∷ q ∷ ps) h =
+    let here = h.0.state in
+    let rest = plain_states (u ∷ ts) (q ∷ ps) h.1 in
+    λ i. joined_states (here i) (rest i)
 
 -- ---- rows
 
@@ -171,3 +184,11 @@ ok_kind (Err e) k ts ps same joined = tt
 pub ok_plain : (r : Result Tree VortexError) (k : Kind) (ps : List Tree) → IfOk r (IsJoined k ps) → IfOk r IsPlain
 ok_plain (Ok a) k ps joined = joined.plain
 ok_plain (Err e) k ps joined = tt
+
+pub ok_state : (r : Result Tree VortexError) (k : Kind) (ts ps : List Tree) → AllZip IsCanonical ts ps → 0 < length ps → IfOk r (IsJoined k ps) → IfOk r (λ a. tree_state a ≡ joined_state ts)
+ok_state (Ok a) k ts ps h some joined = joined.state some ∙ plain_states ts ps h
+ok_state (Err e) k ts ps h some joined = tt
+
+pub ok_flag : (r : Result Tree VortexError) (k : Kind) (ps : List Tree) → IfOk r (IsJoined k ps) → IfOk r (λ a. is_flagged a ≡ false)
+ok_flag (Ok a) k ps joined = joined.flag
+ok_flag (Err e) k ps joined = tt

@@ -43,6 +43,8 @@ bools_joined ts v bits h e valid =
       len = length-joined bits_in ts hold;
       kind = refl;
       plain = valid.plain;
+      state = valid.state;
+      flag = refl;
       rows = λ i l.
           rows_of_content (λ u j. boolean (bool_at (bits_in u) j)) (bools (flat_map bits_in ts) v) ts (λ k d m. bools-content (get_or ts k d) (h k d m)) i l
           (is_valid_at v i) (boolean (bool_at (flat_map bits_in ts) i)) (valid.bits i l) (joined_item bits_in boolean false null ts hold i l) refl;
@@ -138,6 +140,8 @@ primitives_joined p ts v bs h e valid =
         len = long;
         kind = refl;
         plain = valid.plain;
+        state = valid.state;
+        flag = refl;
         rows = λ i l.
             rows_of_content (λ u j. whole (number_of_position (numbers p (bytes_in u)) j)) (primitive p bs v) ts (λ k d m. (h k d m).content) i l
             (is_valid_at v i) (whole (number_of_position (numbers p bs) i)) (valid.bits i l)

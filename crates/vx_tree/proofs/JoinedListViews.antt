@@ -184,6 +184,8 @@ list_views_joined ts r o s v h joined os ss valid =
         len = olen;
         kind = refl;
         plain = (joined.plain, os.plain, ss.plain, valid.plain);
+        state = valid.state;
+        flag = refl;
         rows = λ i l.
             rows_of_content list_in (list_view r o s v false) ts (λ k d q. (h k d q).content) i l (is_valid_at v i) (items (rows_range (row_at r) (count_in (row_at o i)) (count_in (row_at s i)))) (valid.bits i l)
             (ap (λ x. items (rows_range (row_at r) (count_in x) (count_in (row_at s i)))) (os.rows i (rw (length-offsets 0 ts h) l))

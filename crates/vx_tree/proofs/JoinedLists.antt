@@ -52,6 +52,8 @@ fixed_lists_joined k n ts r v h joined e valid = (
     len = e;
     kind = refl;
     plain = (joined.plain, valid.plain);
+    state = valid.state;
+    flag = refl;
     rows = λ i l.
         rows_of_content (list_at k) (fixed_list r k v n) ts (λ m d q. (h m d q).content) i l (is_valid_at v i) (items (rows_range (row_at r) (i * k) k)) (valid.bits i l)
         (ap items (rows_range-same (row_at r) (joined_row (map elements_in ts)) (i * k) (i * k) k

@@ -75,6 +75,8 @@ records_joined ns n ts cs v h joined e valid = (
     len = e;
     kind = refl;
     plain = (plain_of_each cs (λ c l. (joined.each c (omega (arith, joined.count))).plain), valid.plain);
+    state = valid.state;
+    flag = refl;
     rows = λ i l.
         rows_of_content (record_at ns) (structure ns cs v n) ts (λ k d q. (h k d q).content) i l (is_valid_at v i) (record_of (fields_at cs ns i)) (valid.bits i l)
         (record-joined ns cs i ts h joined.count i l (λ c q. (joined.each c q).rows i (rw (column_len ns c ts h q) l))) refl;

@@ -1,5 +1,5 @@
 -- The validity of arrays that are joined.
-use Rattle.std.proofs.Common.{ℕ, suc, ◌+◌, ◌-◌, ◌<◌, ◌≡◌, Bool, true, false, List, [], ◌∷◌, ◌++◌, length, get_or, take, refl, sym, ◌∙◌, ap, inl, inr, arith}
+use Rattle.std.proofs.Common.{ℕ, suc, ◌+◌, ◌-◌, ◌<◌, ◌≡◌, Bool, true, false, List, [], ◌∷◌, ◌++◌, length, get_or, take, refl, sym, ◌∙◌, ap, inl, inr, ◌⊎◌, arith}
 use Rattle.std.specs.Prelude.{◌^◌, Option, Some, None, ◌&&◌, if◌then◌else◌}
 use Rattle.std.specs.List.{All}
 use Rattle.std.proofs.lemmas.Bool.{cases_lt}
@@ -18,11 +18,12 @@ use Rattle.vx_tree.specs.Parts.{valid_of}
 use Rattle.vx_tree.specs.Formed.{ValidFits}
 use Rattle.vx_tree.specs.Faults.{valid_type_fault}
 use Rattle.vx_tree.specs.Patches.{is_unchanged}
+use Rattle.vx_tree.specs.Shapes.{State, never_null, none_null, every_null, told, state_of, tree_state}
 use Rattle.vx_tree.specs.Plain.{IsPlainValid}
 use Rattle.vx_tree.specs.Validities.{full_valid}
 use Rattle.vx_tree.specs.Operations.{IsValidityOf}
 use Rattle.vx_tree.specs.Joins.{AreLens, mask_of, joined_mask, are_all, joined_validity, types_fault, join_fault}
-use Rattle.vx_tree.specs.Joined.{joined_len, joined_row, IsValidJoined, ArePartsOf}
+use Rattle.vx_tree.specs.Joined.{joined_len, joined_row, joined_state, joined_states, IsValidJoined, ArePartsOf}
 use Rattle.vx_tree.proofs.Patched.{len_of_fits}
 use Rattle.vx_tree.proofs.RowLists.{length-valid_mask, get_or-valid_mask}
 use Rattle.vx_tree.proofs.JoinedRows.{joined-here, joined-later}
@@ -165,6 +166,98 @@ plain_states (t ∷ ts) [] h all = absurd h
 plain_states (t ∷ ts) (p ∷ parts) h all =
     rw (plain_state (valid_of p.0) (h.0.kind ∙ all 0 t (omega arith))) (plain_states ts parts h.2 (λ k d l. all (suc k) d (omega arith)))
 
+-- ---- the state of all of them
+
+unchanged_state : (v u : Valid) → is_unchanged v u ≡ true → state_of u ≡ state_of v
+unchanged_state non_nullable non_nullable h = refl
+unchanged_state all_valid all_valid h = refl
+unchanged_state all_invalid all_invalid h = refl
+unchanged_state _ _ h = cc
+
+state_unchanged : (v u : Valid) → is_unchanged v v ≡ true → state_of u ≡ state_of v → is_unchanged v u ≡ true
+state_unchanged non_nullable non_nullable h e = refl
+state_unchanged all_valid all_valid h e = refl
+state_unchanged all_invalid all_invalid h e = refl
+state_unchanged (by_array t) u h e = cc
+state_unchanged _ _ h e = cc
+
+unchanged_same : (v u : Valid) → is_unchanged v u ≡ true → u ≡ v
+unchanged_same non_nullable non_nullable h = refl
+unchanged_same all_valid all_valid h = refl
+unchanged_same all_invalid all_invalid h = refl
+unchanged_same _ _ h = cc
+
+both_one : (v : Valid) → is_unchanged v v ≡ true → joined_states (state_of v) (state_of v) ≡ state_of v
+both_one non_nullable h = refl
+both_one all_valid h = refl
+both_one all_invalid h = refl
+both_one (by_array t) h = cc
+
+either_state : (a b : State) → (joined_states a b ≡ told) ⊎ ((a ≡ joined_states a b) × (b ≡ joined_states a b))
+either_state never_null never_null = inr (refl, refl)
+either_state never_null none_null = inl refl
+either_state never_null every_null = inl refl
+either_state never_null told = inl refl
+either_state none_null never_null = inl refl
+either_state none_null none_null = inr (refl, refl)
+either_state none_null every_null = inl refl
+either_state none_null told = inl refl
+either_state every_null never_null = inl refl
+either_state every_null none_null = inl refl
+either_state every_null every_null = inr (refl, refl)
+either_state every_null told = inl refl
+either_state told b = inl refl
+
+not_told : (v : Valid) → is_unchanged v v ≡ true → told ≡ state_of v → ⊥
+not_told non_nullable h e = cc
+not_told all_valid h e = cc
+not_told all_invalid h e = cc
+not_told (by_array t) h e = cc
+
+each_one : (v : Valid) (a b : State) → is_unchanged v v ≡ true → joined_states a b ≡ state_of v → (a ≡ state_of v) × (b ≡ state_of v)
+each_one v a b h e = by_case (either_state a b)
+  where
+    by_case : (joined_states a b ≡ told) ⊎ ((a ≡ joined_states a b) × (b ≡ joined_states a b)) → (a ≡ state_of v) × (b ≡ state_of v)
+    by_case (inl t) = absurd (not_told v h (sym t ∙ e))
+    by_case (inr p) = (p.0 ∙ e, p.1 ∙ e)
+
+-- where no array tells it
+one_state : (v : Valid) (ts : List Tree) (parts : List (Validity × ℕ)) → ArePartsOf ts parts → is_unchanged v v ≡ true → are_all v parts ≡ true → 0 < length ts → joined_state ts ≡ state_of v
+one_state v [] parts h same all some = absurd (omega arith)
+one_state v (t ∷ ts) [] h same all some = absurd h
+one_state v (t ∷ []) (p ∷ parts) h same all some = sym h.0.state ∙ unchanged_state v (valid_of p.0) (both-first (is_unchanged v (valid_of p.0)) (are_all v parts) all)
+one_state v (t ∷ u ∷ ts) (p ∷ parts) h same all some =
+    let here : tree_state t ≡ state_of v = sym h.0.state ∙ unchanged_state v (valid_of p.0) (both-first (is_unchanged v (valid_of p.0)) (are_all v parts) all) in
+    let rest : joined_state (u ∷ ts) ≡ state_of v = one_state v (u ∷ ts) parts h.2 same (both-second (is_unchanged v (valid_of p.0)) (are_all v parts) all) (omega arith) in
+    (λ i. joined_states (here i) (rest i)) ∙ both_one v same
+
+all_of_state : (v : Valid) (ts : List Tree) (parts : List (Validity × ℕ)) → ArePartsOf ts parts → is_unchanged v v ≡ true → joined_state ts ≡ state_of v → are_all v parts ≡ true
+all_of_state v [] [] h same e = refl
+all_of_state v [] (p ∷ parts) h same e = absurd h
+all_of_state v (t ∷ ts) [] h same e = absurd h
+all_of_state v (t ∷ []) (p ∷ []) h same e = rw (state_unchanged v (valid_of p.0) same (h.0.state ∙ e)) refl
+all_of_state v (t ∷ []) (p ∷ q ∷ parts) h same e = absurd h.2
+all_of_state v (t ∷ u ∷ ts) (p ∷ parts) h same e =
+    let each = each_one v (tree_state t) (joined_state (u ∷ ts)) same e in
+    rw (state_unchanged v (valid_of p.0) same (h.0.state ∙ each.0)) (all_of_state v (u ∷ ts) parts h.2 same each.1)
+
+-- an array tells it where they have not one
+told_state : (t : Tree) (ts : List Tree) (p : Validity × ℕ) (parts : List (Validity × ℕ)) → ArePartsOf (t ∷ ts) (p ∷ parts) → are_all (valid_of p.0) (p ∷ parts) ≡ false → told ≡ joined_state (t ∷ ts)
+told_state t ts p parts h none = by_state (joined_state (t ∷ ts)) refl
+  where
+    never : (v : Valid) → is_unchanged v v ≡ true → joined_state (t ∷ ts) ≡ state_of v → ⊥
+    never v same e =
+        let all : are_all v (p ∷ parts) ≡ true = all_of_state v (t ∷ ts) (p ∷ parts) h same e in
+        let first : valid_of p.0 ≡ v = unchanged_same v (valid_of p.0) (both-first (is_unchanged v (valid_of p.0)) (are_all v parts) all) in
+        let no : are_all v (p ∷ parts) ≡ false = ap (λ w. are_all w (p ∷ parts)) (sym first) ∙ none in
+        cc
+
+    by_state : (s : State) → joined_state (t ∷ ts) ≡ s → told ≡ joined_state (t ∷ ts)
+    by_state told e = sym e
+    by_state never_null e = absurd (never non_nullable refl e)
+    by_state none_null e = absurd (never all_valid refl e)
+    by_state every_null e = absurd (never all_invalid refl e)
+
 -- ---- joined
 
 some_same : {A : Type 0} (x y : A) → Some x ≡ Some y → x ≡ y
@@ -176,15 +269,17 @@ of_one_state n ts parts v h e same all =
       fits = alike-fits v v (joined_len ts) same;
       kind = e;
       plain = alike-plain v v same;
+      state = λ some. sym (one_state v ts parts h same all some);
       bits = states-valid v ts parts h all;
     }
 
-of_booleans : (ts : List Tree) (parts : List (Validity × ℕ)) → ArePartsOf ts parts → IsValidJoined true ts (by_array (bools (joined_mask parts) non_nullable))
-of_booleans ts parts h =
+of_booleans : (ts : List Tree) (parts : List (Validity × ℕ)) → ArePartsOf ts parts → told ≡ joined_state ts → IsValidJoined true ts (by_array (bools (joined_mask parts) non_nullable))
+of_booleans ts parts h state =
     record {
       fits = record { len = length-joined_mask ts parts h; kind = refl };
       kind = refl;
       plain = tt;
+      state = λ some. state;
       bits = joined_mask-at ts parts h;
     }
 
@@ -204,7 +299,7 @@ valid_joined n (t ∷ ts) (p ∷ parts) w h nulls e = tested n (are_all (valid_o
         rw (sym same) (of_one_state m (t ∷ ts) (p ∷ parts) (valid_of p.0) h (h.0.kind ∙ nulls 0 t (omega arith)) (both-first (is_unchanged (valid_of p.0) (valid_of p.0)) (are_all (valid_of p.0) parts) all) all)
     tested true false all nulls =
         let same : by_array (bools (joined_mask (p ∷ parts)) non_nullable) ≡ w = some_same (by_array (bools (joined_mask (p ∷ parts)) non_nullable)) w (rw all at e) in
-        rw (sym same) (of_booleans (t ∷ ts) (p ∷ parts) h)
+        rw (sym same) (of_booleans (t ∷ ts) (p ∷ parts) h (told_state t ts p parts h all))
     tested false false all nulls =
         let plain : valid_of p.0 ≡ non_nullable = plain_state (valid_of p.0) (h.0.kind ∙ nulls 0 t (omega arith)) in
         let every = plain_states (t ∷ ts) (p ∷ parts) h nulls in
@@ -229,5 +324,6 @@ none_joined n ts e = rw e (record {
   fits = empty_fits n;
   kind = empty_nullable n;
   plain = empty_plain n;
+  state = λ some. absurd (omega arith);
   bits = λ i l. absurd (omega arith);
 })

@@ -178,6 +178,8 @@ views_joined k ts ws cs v h few e f kind valid =
         len = long;
         kind = refl;
         plain = valid.plain;
+        state = valid.state;
+        flag = refl;
         rows = λ i l.
             rows_of_content (value_at (is_texts k)) (view_array ws cs k v) ts (λ m d q. (h m d q).content) i l
             (is_valid_at v i) (value_row (is_texts k) (view_value cs (slice_index_or ws i []))) (valid.bits i l) (at_place i l).value refl;

@@ -10,9 +10,10 @@ use Rattle.vx_base.specs.declared.ptypes.PType.TheVariants.{U64}
 use Rattle.vx_base.specs.Rows.{Row, null, whole, items, record_of, is_present, count_in}
 use Rattle.vx_views.specs.Views.{view_size, view_prefix, view_block, view_offset, is_inline, view_value, ref_view, Resolves}
 use Rattle.vx_views.specs.Sound.{IsSoundView}
-use Rattle.vx_tree.specs.Tree.{Tree, bools, primitive, fixed_list, list_view, structure, view_array, Trees, no_trees, tree, Valid, non_nullable}
+use Rattle.vx_tree.specs.Tree.{Tree, bools, primitive, dictionary, fixed_list, list_view, structure, view_array, Trees, no_trees, tree, Valid, non_nullable}
 use Rattle.vx_tree.specs.Meaning.{tree_len, kind_of, row_at, fields_at, rows_range, is_valid_at, nullable, value_row}
 use Rattle.vx_tree.specs.Formed.{ValidFits, IsCounts, AllLen, column_count}
+use Rattle.vx_tree.specs.Shapes.{State, never_null, none_null, every_null, told, state_of, tree_state}
 use Rattle.std.specs.List.{All, flat_map, range_with_len}
 use Rattle.vx_tree.specs.Layouts.{is_primitive, is_fixed_list, is_list_view, is_struct, is_view_array}
 use Rattle.vx_tree.specs.Fitting.{AllFormed, AreViews}
@@ -36,11 +37,32 @@ joined_at f d (t ∷ ts) i = if nat_lt i (tree_len t) then f t i else joined_at 
 abbrev pub joined_row : List Tree → ℕ → Row
 joined_row ts i = joined_at row_at null ts i
 
+-- one state beside another: told by an array, unless both are the same one that no array tells
+abbrev pub joined_states : State → State → State
+joined_states never_null never_null = never_null
+joined_states none_null none_null = none_null
+joined_states every_null every_null = every_null
+joined_states _ _ = told
+
+-- the state that all of them have, told by an array where they have not one that no array tells
+abbrev pub joined_state : List Tree → State
+joined_state [] = told
+joined_state (t ∷ []) = tree_state t
+joined_state (t ∷ u ∷ ts) = joined_states (tree_state t) (joined_state (u ∷ ts))
+
+-- the flag of a list view or of a dictionary is set
+abbrev pub is_flagged : Tree → Bool
+is_flagged (list_view e o s v f) = f
+is_flagged (dictionary c v f) = f
+is_flagged _ = false
+
 -- the rows of arrays, one array after another, in plain layouts
 pub record IsJoined (k : Kind) (ts : List Tree) (r : Tree) : Type 0 where
   pub len : tree_len r ≡ joined_len ts
   pub kind : kind_of r ≡ k
   pub plain : IsPlain r
+  pub state : 0 < length ts → tree_state r ≡ joined_state ts
+  pub flag : is_flagged r ≡ false
   pub rows : (i : ℕ) → i < joined_len ts → row_at r i ≡ joined_row ts i
 
 -- their validity
@@ -48,6 +70,7 @@ pub record IsValidJoined (n : Bool) (ts : List Tree) (v : Valid) : Type 0 where
   pub fits : ValidFits v (joined_len ts)
   pub kind : nullable v ≡ n
   pub plain : IsPlainValid v
+  pub state : 0 < length ts → state_of v ≡ joined_state ts
   pub bits : (i : ℕ) → i < joined_len ts → is_valid_at v i ≡ is_present (joined_row ts i)
 
 -- the bits of an array of booleans

@@ -1,11 +1,13 @@
 // Arrays, one after another.
 
-ghost use Rattle.std.specs.Prelude.{◌≡◌, IfOk};
+ghost use Rattle.std.specs.Prelude.{◌≡◌, false, IfOk};
 ghost use Rattle.std.specs.List.{All, AllZip, flat_map};
 ghost use Rattle.vx_base.specs.DTypes.{dtype_meaning};
 ghost use Rattle.vx_base.specs.Refusals.{Refuses};
 ghost use Rattle.vx_tree.specs.Meaning.{kind_of, rows, trees_from};
+ghost use Rattle.vx_tree.specs.Shapes.{tree_state};
 ghost use Rattle.vx_tree.specs.Plain.{IsPlain};
+ghost use Rattle.vx_tree.specs.Joined.{joined_state, is_flagged};
 ghost use Rattle.vx_tree.specs.Canonical.{IsCanonical, columns_fault};
 ghost use Rattle.vx_tree.specs.Concatenated.{are_alike, RefusesJoin};
 
@@ -27,6 +29,8 @@ impl ArrayRef {
         ensures rows { IfOk result (λ a. rows a ≡ flat_map rows arrays.now) }
         ensures kind { IfOk result (λ a. All (λ t. kind_of t ≡ kind_of a) arrays.now) }
         ensures plain { IfOk result IsPlain }
+        ensures state { IfOk result (λ a. tree_state a ≡ joined_state arrays.now) }
+        ensures flag { IfOk result (λ a. is_flagged a ≡ false) }
         ensures refuses { RefusesJoin result arrays.now }
     {
         let Some(first) = arrays.first() else {

@@ -1,7 +1,7 @@
 use Rattle.std.proofs.Common.{◌≡◌, ◌<◌, length, true, ap, sym, ◌∙◌, arith}
 use Rattle.vx_tree.specs.Meaning.{kind_of}
 use Rattle.vx_tree.specs.Concatenated.{are_alike}
-use Rattle.vx_tree.proofs.Concatenated.{given_none, refuses_joined, first_plain, kinds_of_first, ok_rows, ok_kind, ok_plain, plain_count, plain_joinable}
+use Rattle.vx_tree.proofs.Concatenated.{given_none, refuses_joined, first_plain, kinds_of_first, ok_rows, ok_kind, ok_plain, ok_state, ok_flag, plain_count, plain_joinable}
 use Rattle.vx_tree.proofs.array.ArrayRef.concat.Goals as goal
 
 pub join_like-requires-clause-plain : goal.join_like-requires-clause-plain
@@ -39,6 +39,16 @@ returns-clause-kind c =
 
 pub returns-clause-plain : goal.returns-clause-plain
 returns-clause-plain c = ok_plain c.join_like.result (kind_of c.index.result.now) c.deref-2.result.now c.join_like.ensures.ok
+
+pub returns-clause-state : goal.returns-clause-state
+returns-clause-state c =
+    let ts = c.args.arrays.now in
+    let ps = c.in_ok-plain.plain.items in
+    let some : 0 < length ps = omega (arith, plain_count ts ps c.in_ok-plain.ensures.ok, c.in-Some.ensures.item.3.0) in
+    ok_state c.join_like.result (kind_of c.index.result.now) ts ps c.in_ok-plain.ensures.ok some (rw c.deref-2.ensures.value at c.join_like.ensures.ok)
+
+pub returns-clause-flag : goal.returns-clause-flag
+returns-clause-flag c = ok_flag c.join_like.result (kind_of c.index.result.now) c.deref-2.result.now c.join_like.ensures.ok
 
 pub returns-clause-refuses : goal.returns-clause-refuses
 returns-clause-refuses c =
