@@ -21,6 +21,7 @@ pub mod PlainKinds
 pub mod Blanks
 pub mod PlainValues
 pub mod PlainTexts
+pub mod PlainParts
 pub mod CanonicalDictionaries
 pub mod Filtered
 pub mod Validities

@@ -99,7 +99,7 @@ record_overflow d fs m n e = ap (λ k. plain_overflow k n) (struct_kind d fs m e
 
 -- ---- records with as many names as fields
 
-both_true : (a b : Bool) → (a && b) ≡ true → (a ≡ true) × (b ≡ true)
+pub both_true : (a b : Bool) → (a && b) ≡ true → (a ≡ true) × (b ≡ true)
 both_true true b h = (refl, h)
 both_true false b h = cc
 

@@ -1,18 +1,19 @@
 -- The same rows in plain layout.
-use Rattle.std.specs.Prelude.{◌≡◌, ◌<◌, ◌*◌, ◌^◌, ℕ, false, List, Option, Some, None, nat_lt, if◌then◌else◌}
+use Rattle.std.specs.Prelude.{◌≡◌, ◌<◌, ◌*◌, ◌^◌, ℕ, false, List, [], ◌∷◌, Option, Some, None, nat_lt, if◌then◌else◌}
 use Rattle.std.specs.List.{AllZip}
 use Rattle.vx_base.specs.DTypes.{dtype_meaning}
 use Rattle.vx_base.specs.declared.dtypes.DType.{DType}
 use Rattle.vx_base.specs.Rows.{Row, null, is_present}
 use Rattle.vx_base.specs.Defaults.{default_fault}
-use Rattle.vx_base.specs.Refusals.{Refusal, not_implemented, overflow, or_else}
-use Rattle.vx_base.specs.Kinds.{Kind, booleans, integers, texts, binaries, fixed_lists, records, Kinds, no_kinds, kind}
+use Rattle.vx_base.specs.Refusals.{Refusal, overflow, or_else}
+use Rattle.vx_base.specs.Kinds.{Kind, fixed_lists, records, Kinds, no_kinds, kind}
 use Rattle.vx_tree.specs.Tree.{Tree, bools, primitive, constant, dictionary, fixed_list, list_view, structure, view_array, Trees, no_trees, tree, Valid}
 use Rattle.vx_tree.specs.Meaning.{tree_len, kind_of, row_at, is_valid_at}
 use Rattle.vx_tree.specs.Shapes.{State, state_of, tree_state}
 use Rattle.vx_tree.specs.Formed.{ValidFits}
 use Rattle.vx_tree.specs.Plain.{IsPlain, ArePlain, IsPlainValid}
 use Rattle.vx_tree.specs.Columns.{AreRowsAt}
+use Rattle.vx_tree.specs.PlainValues.{rows_fault}
 
 -- the same rows, of the same kind
 pub record HasRowsOf (t r : Tree) : Type 0 where
@@ -62,17 +63,13 @@ abbrev mutual
 abbrev pub nulls_fault : Kind → ℕ → Option Refusal
 nulls_fault k n = or_else (default_fault k) (plain_overflow k n)
 
--- of the values those that are lists or records are not made plain as yet
-abbrev pub value_fault : Kind → Option Refusal
-value_fault (booleans m) = None
-value_fault (integers t m) = None
-value_fault (texts m) = None
-value_fault (binaries m) = None
-value_fault _ = Some not_implemented
+-- a row that is there, made plain by itself
+abbrev pub value_fault : Kind → Row → Option Refusal
+value_fault k r = if is_present r then rows_fault k (r ∷ []) else None
 
--- a row, however often: null stands beside no value
+-- a row, however often: a record with another number of names than of kinds, the row by itself, then all of them
 abbrev pub constant_fault : Kind → Row → ℕ → Option Refusal
-constant_fault k r n = if is_present r then value_fault k else nulls_fault k n
+constant_fault k r n = or_else (default_fault k) (or_else (value_fault k r) (plain_overflow k n))
 
 -- the first fault of the parts; taking the values of a dictionary by its codes needs elements for each code
 abbrev mutual

@@ -1,11 +1,14 @@
 -- Values, one a row, in plain layout.
-use Rattle.std.specs.Prelude.{◌≡◌, ◌<◌, ◌≤◌, ◌+◌, ◌^◌, ℕ, ℤ, pos, Bool, true, false, List, [], ◌∷◌, length, map, Option, Some, None, is_some, slice_index_or, nat_lt, if◌then◌else◌}
+use Rattle.std.specs.Prelude.{◌≡◌, ◌<◌, ◌≤◌, ◌+◌, ◌*◌, ◌^◌, ℕ, zero, suc, ℤ, pos, Bool, true, false, List, [], ◌∷◌, length, map, take, replicate, count_by, Option, Some, None, is_some, slice_index_or, nat_lt, if◌then◌else◌}
+use Rattle.std.specs.List.{All, flat_map, range_with_len}
+use Rattle.vx_base.specs.declared.dtypes.DType.{DType}
+use Rattle.vx_base.specs.DTypes.{dtype_meaning}
 use Rattle.vx_base.specs.declared.scalar_value.ScalarValue.{ScalarValue}
 use Rattle.vx_base.specs.declared.scalar_value.ScalarValue.TheVariants as value
-use Rattle.vx_base.specs.Kinds.{Kind, Fits, is_nullable_kind}
-use Rattle.vx_base.specs.Rows.{truth_of}
+use Rattle.vx_base.specs.Kinds.{Kind, texts, binaries, lists, fixed_lists, records, Kinds, no_kinds, kind, Fits, is_nullable_kind}
+use Rattle.vx_base.specs.Rows.{Row, null, bytes, text, items, record_of, Fields, no_fields, field, truth_of, list_from}
 use Rattle.vx_base.specs.ValueRows.{value_row, option_row, named, row_under}
-use Rattle.vx_base.specs.Refusals.{Refusal, overflow}
+use Rattle.vx_base.specs.Refusals.{Refusal, overflow, or_else}
 use Rattle.vx_views.specs.Views.{view_of}
 use Rattle.vx_views.specs.declared.view.TheConstants.{MAX_INLINED_SIZE}
 use Rattle.vx_tree.specs.Tree.{Tree, Valid, non_nullable, all_valid}
@@ -70,3 +73,82 @@ pub record ArePlainValues (k : Kind) (vs : List (Option ScalarValue)) (r : Tree)
   pub plain : IsPlain r
   pub state : tree_state r ≡ state_of (values_valid (is_nullable_kind k) vs)
   pub rows : (i : ℕ) → i < length vs → Fits k (row_under k (slice_index_or vs i None)) → row_at r i ≡ row_under k (slice_index_or vs i None)
+
+-- ---- the parts of rows
+
+-- the rows of a list, none where it is null
+abbrev pub items_in : Row → List Row
+items_in (items rs) = list_from rs
+items_in _ = []
+
+-- the rows of a list of a size, so many nulls where it is null
+abbrev pub items_or_nulls : ℕ → Row → List Row
+items_or_nulls size (items rs) = list_from rs
+items_or_nulls size _ = replicate size null
+
+-- the row of the field at a place, null where there is none
+abbrev pub field_at : ℕ → Fields → Row
+field_at c no_fields = null
+field_at zero (field name r fs) = r
+field_at (suc c) (field name r fs) = field_at c fs
+
+abbrev pub field_in : ℕ → Row → Row
+field_in c (record_of fs) = field_at c fs
+field_in c _ = null
+
+-- a text or a byte list that is too long to stand in its view
+abbrev pub is_long_row : Row → Bool
+is_long_row (bytes bs) = is_long bs
+is_long_row (text bs) = is_long bs
+is_long_row _ = false
+
+-- rows of a kind, made plain: the elements of lists of one size cannot be counted, or the long texts cannot be numbered
+abbrev mutual
+  pub rows_fault : Kind → List Row → Option Refusal
+  rows_fault (texts m) rs = buffers_overflow (count_by is_long_row rs)
+  rows_fault (binaries m) rs = buffers_overflow (count_by is_long_row rs)
+  rows_fault (lists k m) rs = rows_fault k (flat_map items_in rs)
+  rows_fault (fixed_lists k size m) rs = if nat_lt (length rs * size) (2 ^ 64) then rows_fault k (flat_map (items_or_nulls size) rs) else Some overflow
+  rows_fault (records names ks m) rs = fields_fault ks 0 rs
+  rows_fault _ rs = None
+
+  -- of the fields from place c on
+  pub fields_fault : Kinds → ℕ → List Row → Option Refusal
+  fields_fault no_kinds c rs = None
+  fields_fault (kind k ks) c rs = or_else (rows_fault k (map (field_in c) rs)) (fields_fault ks (suc c) rs)
+
+-- where each list begins among the rows of all of them
+abbrev pub list_places : List Row → List ℕ
+list_places rs = map (λ i. length (flat_map items_in (take i rs))) (range_with_len 0 (length rs))
+
+-- how many rows each list has
+abbrev pub list_sizes : List Row → List ℕ
+list_sizes rs = map (λ r. length (items_in r)) rs
+
+-- these rows in plain layout, each where it fits the kind
+pub record ArePlainRows (k : Kind) (rs : List Row) (r : Tree) : Type 0 where
+  pub len : tree_len r ≡ length rs
+  pub kind : kind_of r ≡ k
+  pub plain : IsPlain r
+  pub rows : (i : ℕ) → i < length rs → Fits k (slice_index_or rs i null) → row_at r i ≡ slice_index_or rs i null
+
+-- the fields of rows from place c on, each of the kind of a data type, in plain layout
+abbrev pub ArePlainFields : ℕ → List DType → List Row → List Tree → Type 0
+ArePlainFields c [] rs [] = Unit {0}
+ArePlainFields c (d ∷ ds) rs (t ∷ ts) = ArePlainRows (dtype_meaning d) (map (λ r. named (dtype_meaning d) (field_in c r)) rs) t × ArePlainFields (suc c) ds rs ts
+ArePlainFields c _ rs _ = ⊥
+
+-- a row, given the names of a kind, fits it where it is there
+abbrev pub FitsNamed : Kind → Row → Type 0
+FitsNamed k null = Unit {0}
+FitsNamed k r = Fits k (named k r)
+
+-- each field of rows fits the kind of the data type at its place
+abbrev pub FieldsFitNamed : List DType → List Row → Type 0
+FieldsFitNamed ds rs = (c : ℕ) (d : DType) → c < length ds → All (λ r. FitsNamed (dtype_meaning (slice_index_or ds c d)) (field_in c r)) rs
+
+-- the rows of lists, one list after another, with the place and the length of each
+pub record AreSpread (rs qs : List Row) (os ns : List ℕ) : Type 0 where
+  pub items : qs ≡ flat_map items_in rs
+  pub places : os ≡ list_places rs
+  pub sizes : ns ≡ list_sizes rs

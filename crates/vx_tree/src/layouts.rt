@@ -4,7 +4,7 @@ mod bool;
 pub(crate) mod constant;
 mod dict;
 pub(crate) mod fixed_size_list;
-mod list_view;
+pub(crate) mod list_view;
 pub(crate) mod primitive;
 pub(crate) mod structure;
 pub(crate) mod var_bin_view;

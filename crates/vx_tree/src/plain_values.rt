@@ -139,7 +139,7 @@ fn view_of_bytes(
 }
 
 // The validity of values, where null may stand as this says.
-fn validity_of_values(
+pub(crate) fn validity_of_values(
     alloc: Global,
     nullability: Nullability,
     values: &[Option<ScalarValue>],

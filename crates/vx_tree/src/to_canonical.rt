@@ -15,12 +15,14 @@ use vx_base::VortexError;
 impl ArrayRef {
     /// The same rows in the plain layout of their data type: no part is a constant or a dictionary,
     /// also not in a validity. A list view keeps its numbers, its flag and the rows of its
-    /// elements, texts and byte lists their views and buffers. Refuses by the first fault of the
-    /// parts in their order, the values of a dictionary first: a constant that is not null with
-    /// `NotImplemented` where it is one of lists, of lists of one size or of records as yet; one of
-    /// null with `MismatchedTypes` where a record has not as many names as fields; then it and a
-    /// dictionary with `Overflow` where lists of one size would need more elements than can be
-    /// counted. Of the values 7, 9 and the codes 1, null, 0, 1 it makes the numbers 9, null, 7, 9.
+    /// elements, texts and byte lists their views and buffers; a constant list has its elements
+    /// once, a constant text one buffer at most, however often they stand. Refuses by the first
+    /// fault of the parts in their order, the values of a dictionary first: a constant with
+    /// `MismatchedTypes` where a record has not as many names as fields, then with `Overflow` where
+    /// its one row, or then all of its rows, need more elements of lists of one size than can be
+    /// counted, or texts in one layout more than 4294967296 buffers; a dictionary with `Overflow`
+    /// where the rows of its codes need too many elements. Of the values 7, 9 and the codes 1,
+    /// null, 0, 1 it makes the numbers 9, null, 7, 9.
     #[tactic(auto, using(crate::proofs::Canonical::rows_canonical))]
     pub fn to_canonical(&self, alloc: Global) -> Result<ArrayRef, VortexError>
         ensures rows { IfOk result (λ a. rows a ≡ rows self.now) }

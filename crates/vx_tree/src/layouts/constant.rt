@@ -1,11 +1,11 @@
 // One row, however often.
 
-ghost use Rattle.std.specs.Prelude.{◌≡◌, ◌<◌, ◌≤◌, ◌-◌, ℕ, true, false, None, IfOk};
+ghost use Rattle.std.specs.Prelude.{◌≡◌, ◌<◌, ◌≤◌, ◌-◌, ◌∷◌, [], ℕ, true, false, IfOk};
 ghost use Rattle.vx_base.specs.Kinds.{is_nullable_kind};
 ghost use Rattle.vx_base.specs.DTypes.{dtype_meaning};
 ghost use Rattle.vx_base.specs.Rows.{is_present, null};
-ghost use Rattle.vx_base.specs.Defaults.{default_row};
-ghost use Rattle.vx_base.specs.Refusals.{Gives, Refuses};
+ghost use Rattle.vx_base.specs.Defaults.{default_fault, default_row};
+ghost use Rattle.vx_base.specs.Refusals.{Gives, Refuses, or_else};
 ghost use Rattle.vx_base.specs.ValueRows.{row_under};
 ghost use Rattle.vx_tree.specs.Tree.{constant};
 ghost use Rattle.vx_tree.specs.Layouts.{is_constant};
@@ -13,15 +13,15 @@ ghost use Rattle.vx_tree.specs.Meaning.{tree_len, kind_of, row_at, is_valid_at, 
 ghost use Rattle.vx_tree.specs.Shapes.{state_of, row_state};
 ghost use Rattle.vx_tree.specs.Formed.{ValidFits};
 ghost use Rattle.vx_tree.specs.Parts.{valid_of};
-ghost use Rattle.vx_tree.specs.Faults.{take_overflow};
-ghost use Rattle.vx_tree.specs.Canonical.{IsCanonical, canonical_fault, nulls_fault, value_fault};
+ghost use Rattle.vx_tree.specs.PlainValues.{rows_fault};
+ghost use Rattle.vx_tree.specs.Canonical.{IsCanonical, canonical_fault, nulls_fault};
 ghost use Rattle.vx_tree.specs.Operations.{IsSlice, IsSelected, IsNulled, IsNulls, AreBelow};
 
 use crate::array::{ArrayRef, Layout, Validity};
+use crate::plain_parts::plain_values;
 use crate::plain_rows::is_countable;
-use crate::plain_values::{plain_numbers, plain_texts, plain_truths};
 use std::alloc::Global;
-use vx_base::{DType, Scalar, ScalarValue, Selection, VortexError};
+use vx_base::{DType, Nullability, Scalar, ScalarValue, Selection, VortexError};
 
 impl ArrayRef {
     /// The row `len` times.
@@ -112,6 +112,10 @@ impl ArrayRef {
             return null_rows(alloc, scalar.dtype(), *len);
         }
         let row = plain_row(alloc, scalar)?;
+        row.known();
+        if !row.can_select(*len) {
+            return Err(VortexError::Overflow);
+        }
         let zeroes = vec![in alloc; 0; *len]?;
         Ok(row.select_within(alloc, &Selection::at_positions(&zeroes))?)
     }
@@ -163,21 +167,14 @@ fn constant_or_null(
 }
 
 // The one row in plain layout.
-#[tactic(auto, using(crate::proofs::PlainTexts::one_text))]
+#[tactic(auto, using(crate::proofs::PlainParts::one_row))]
 fn plain_row(alloc: Global, scalar: &Scalar) -> Result<ArrayRef, VortexError>
     ensures ok { IfOk result (IsCanonical (constant scalar.now.kind scalar.now.row 1)) }
-    ensures few { IfOk result (λ a. (n : ℕ) → take_overflow a n ≡ None) }
-    ensures refuses { Refuses result (value_fault scalar.now.kind) }
+    ensures refuses { Refuses result (or_else (default_fault scalar.now.kind) (rows_fault scalar.now.kind (scalar.now.row ∷ []))) }
 {
     let dtype = scalar.dtype();
-    let values = std::slice::from_ref(scalar.value());
-    match dtype {
-        DType::Bool(_) => Ok(plain_truths(alloc, dtype, values)?),
-        DType::Primitive(_, _) => Ok(plain_numbers(alloc, dtype, values)?),
-        DType::Utf8(_) | DType::Binary(_) => Ok(plain_texts(alloc, dtype, values)?),
-        DType::List(_, _) | DType::FixedSizeList(_, _, _) => Err(VortexError::NotImplemented),
-        DType::Struct(_, _) => Err(VortexError::NotImplemented),
-    }
+    test_even(alloc, dtype)?;
+    plain_values(alloc, dtype, std::slice::from_ref(scalar.value()))
 }
 
 // Rows of null of a data type in plain layout.
@@ -187,11 +184,22 @@ fn null_rows(alloc: Global, dtype: &DType, len: usize) -> Result<ArrayRef, Vorte
     ensures ok { IfOk result (IsCanonical (constant (dtype_meaning dtype.now) null len)) }
     ensures refuses { Refuses result (nulls_fault (dtype_meaning dtype.now) len) }
 {
-    Scalar::default_value(alloc, dtype.try_clone(alloc)?)?;
+    test_even(alloc, dtype)?;
     if !is_countable(dtype, len) {
         return Err(VortexError::Overflow);
     }
     Ok(ArrayRef::blank(alloc, dtype, len, Validity::AllInvalid)?)
+}
+
+// Refuses `MismatchedTypes` a data type with a record that has another number of names than of data
+// types: null, which is its default where null may stand, takes no memory.
+fn test_even(alloc: Global, dtype: &DType) -> Result<(), VortexError>
+    ensures { Refuses result (default_fault (dtype_meaning dtype.now)) }
+{
+    let dtype = dtype.try_clone(alloc)?;
+    let dtype = dtype.union_nullability(Nullability::Nullable);
+    Scalar::default_value(alloc, dtype)?;
+    Ok(())
 }
 
 // The validity of rows that are all this one.

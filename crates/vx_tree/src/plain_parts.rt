@@ -1,0 +1,262 @@
+// Values that are lists or records, one a row, in plain layout: one recursion through data types.
+
+ghost use Rattle.std.specs.Prelude.{◌≡◌, ◌<◌, ◌*◌, ◌^◌, ◌++◌, [], true, length, map, replicate, IfOk};
+ghost use Rattle.std.specs.List.{All, flat_map};
+ghost use Rattle.vx_base.specs.DTypes.{dtype_meaning, field_kinds, field_names, is_nullable, kinds_of};
+ghost use Rattle.vx_base.specs.Defaults.{is_even};
+ghost use Rattle.vx_base.specs.Kinds.{fixed_lists, lists, records};
+ghost use Rattle.vx_base.specs.Refusals.{Gives, Refuses};
+ghost use Rattle.vx_base.specs.Rows.{null};
+ghost use Rattle.vx_base.specs.ValueRows.{option_row};
+ghost use Rattle.vx_tree.specs.PlainValues.{ArePlainFields, ArePlainValues, AreSpread, FieldsFitNamed, FitsIfThere, field_in, fields_fault, items_in, items_or_nulls, rows_fault};
+
+use crate::array::ArrayRef;
+use crate::layouts::list_view::counts_array;
+use crate::plain_values::{plain_numbers, plain_texts, plain_truths, validity_of_values};
+use std::alloc::Global;
+use vx_base::{DType, Nullability, ScalarValue, StructFields, VortexError};
+
+// Values of a data type.
+#[cycle(plain_values)]
+pub(crate) fn plain_values(
+    alloc: Global,
+    dtype: &DType,
+    values: &[Option<ScalarValue>],
+) -> Result<ArrayRef, VortexError>
+    requires even { is_even (dtype_meaning dtype.now) ≡ true }
+    requires fit { All (FitsIfThere (dtype_meaning dtype.now)) values.now }
+    ensures made { IfOk result (ArePlainValues (dtype_meaning dtype.now) values.now) }
+    ensures refuses { Refuses result (rows_fault (dtype_meaning dtype.now) (map option_row values.now)) }
+{
+    match dtype {
+        DType::Bool(_) => Ok(plain_truths(alloc, dtype, values)?),
+        DType::Primitive(_, _) => Ok(plain_numbers(alloc, dtype, values)?),
+        DType::Utf8(_) | DType::Binary(_) => plain_texts(alloc, dtype, values),
+        DType::List(items, nullability) => plain_lists(alloc, items, *nullability, values),
+        DType::FixedSizeList(items, size, nullability) => {
+            plain_fixed_lists(alloc, items, *size, *nullability, values)
+        }
+        DType::Struct(fields, nullability) => plain_records(alloc, fields, *nullability, values),
+    }
+}
+
+// Lists: their rows stand once, one list after another.
+#[cycle(plain_values)]
+fn plain_lists(
+    alloc: Global,
+    items: &DType,
+    nullability: Nullability,
+    values: &[Option<ScalarValue>],
+) -> Result<ArrayRef, VortexError>
+    requires even { is_even (dtype_meaning items.now) ≡ true }
+    requires fit { All (FitsIfThere (lists (dtype_meaning items.now) (is_nullable nullability))) values.now }
+    ensures made { IfOk result (ArePlainValues (lists (dtype_meaning items.now) (is_nullable nullability)) values.now) }
+    ensures refuses { Refuses result (rows_fault (dtype_meaning items.now) (flat_map items_in (map option_row values.now))) }
+{
+    let mut places = Vec::with_capacity(alloc, values.len())?;
+    let mut sizes = Vec::with_capacity(alloc, values.len())?;
+    let rows = spread_lists(alloc, values, &mut places, &mut sizes)?;
+    let elements = plain_values(alloc, items, &rows)?;
+    let offsets = counts_array(alloc, &places)?;
+    let sizes = counts_array(alloc, &sizes)?;
+    let validity = validity_of_values(alloc, nullability, values)?;
+    Ok(ArrayRef::list_view(alloc, elements, offsets, sizes, validity, false)?)
+}
+
+// Lists of one size: a null has so many rows of null.
+#[cycle(plain_values)]
+fn plain_fixed_lists(
+    alloc: Global,
+    items: &DType,
+    size: u32,
+    nullability: Nullability,
+    values: &[Option<ScalarValue>],
+) -> Result<ArrayRef, VortexError>
+    requires even { is_even (dtype_meaning items.now) ≡ true }
+    requires fit { All (FitsIfThere (fixed_lists (dtype_meaning items.now) size (is_nullable nullability))) values.now }
+    ensures made { IfOk result (ArePlainValues (fixed_lists (dtype_meaning items.now) size (is_nullable nullability)) values.now) }
+    ensures refuses { Refuses result (rows_fault (fixed_lists (dtype_meaning items.now) size (is_nullable nullability)) (map option_row values.now)) }
+{
+    let Some(count) = values.len().checked_mul(size as usize) else {
+        return Err(VortexError::Overflow);
+    };
+    let rows = spread_fixed_lists(alloc, values, size as usize, count)?;
+    let elements = plain_values(alloc, items, &rows)?;
+    let validity = validity_of_values(alloc, nullability, values)?;
+    let len = values.len();
+    Ok(ArrayRef::fixed_size_list(alloc, elements, size, validity, len)?)
+}
+
+// Records: a null has a null in each field.
+#[cycle(plain_values)]
+fn plain_records(
+    alloc: Global,
+    fields: &StructFields,
+    nullability: Nullability,
+    values: &[Option<ScalarValue>],
+) -> Result<ArrayRef, VortexError>
+    requires even { is_even (records (field_names fields.now) (field_kinds fields.now) (is_nullable nullability)) ≡ true }
+    requires fit { All (FitsIfThere (records (field_names fields.now) (field_kinds fields.now) (is_nullable nullability))) values.now }
+    ensures made { IfOk result (ArePlainValues (records (field_names fields.now) (field_kinds fields.now) (is_nullable nullability)) values.now) }
+    ensures refuses { Refuses result (fields_fault (field_kinds fields.now) 0 (map option_row values.now)) }
+{
+    let columns = plain_fields(alloc, fields.fields(), values)?;
+    let names = fields.names().try_clone(alloc)?;
+    let validity = validity_of_values(alloc, nullability, values)?;
+    let len = values.len();
+    Ok(ArrayRef::structure(alloc, names, columns, validity, len)?)
+}
+
+// The fields of records, each of its data type.
+#[cycle(plain_values)]
+fn plain_fields(
+    alloc: Global,
+    dtypes: &[DType],
+    values: &[Option<ScalarValue>],
+) -> Result<Vec<ArrayRef>, VortexError>
+    requires even { All (λ d. is_even (dtype_meaning d) ≡ true) dtypes.now }
+    requires fit { FieldsFitNamed dtypes.now (map option_row values.now) }
+    ensures made { IfOk result (λ cs. ArePlainFields 0 dtypes.now (map option_row values.now) cs.items) }
+    ensures refuses { Refuses result (fields_fault (kinds_of dtypes.now) 0 (map option_row values.now)) }
+{
+    let mut columns = Vec::with_capacity(alloc, dtypes.len())?;
+    for (place, dtype) in dtypes.iter().enumerate() {
+        let rows = fields_at(alloc, values, place)?;
+        columns.push(plain_values(alloc, dtype, &rows)?)?;
+    }
+    Ok(columns)
+}
+
+// The rows of lists, one list after another; a null has none. The place and the length of each are
+// added to these.
+fn spread_lists(
+    alloc: Global,
+    values: &[Option<ScalarValue>],
+    places: &mut Vec<usize>,
+    sizes: &mut Vec<usize>,
+) -> Result<Vec<Option<ScalarValue>>, VortexError>
+    requires no_places { places.old.items ≡ [] }
+    requires no_sizes { sizes.old.items ≡ [] }
+    ensures { Gives result (λ rows. AreSpread (map option_row values.now) (map option_row rows.items) places.new.items sizes.new.items) }
+{
+    let mut rows = Vec::new(alloc);
+    for value in values {
+        let start = rows.len();
+        places.push(start)?;
+        add_items(alloc, value, &mut rows)?;
+        sizes.push(rows.len() - start)?;
+    }
+    Ok(rows)
+}
+
+// The rows of lists of this size, one list after another, of which there are `count`; a null has so
+// many nulls.
+fn spread_fixed_lists(
+    alloc: Global,
+    values: &[Option<ScalarValue>],
+    size: usize,
+    count: usize,
+) -> Result<Vec<Option<ScalarValue>>, VortexError>
+    ensures { Gives result (λ rows. map option_row rows.items ≡ flat_map (items_or_nulls size) (map option_row values.now)) }
+{
+    let mut rows = Vec::with_capacity(alloc, count)?;
+    for value in values {
+        add_items_or_nulls(alloc, value, size, &mut rows)?;
+    }
+    Ok(rows)
+}
+
+// The rows of a list are added to these; a null has none.
+fn add_items(
+    alloc: Global,
+    value: &Option<ScalarValue>,
+    out: &mut Vec<Option<ScalarValue>>,
+) -> Result<(), VortexError>
+    ensures { Gives result (λ _. map option_row out.new.items ≡ map option_row out.old.items ++ items_in (option_row value.now)) }
+{
+    match value {
+        Some(ScalarValue::List(rows)) => add_rows(alloc, rows.as_slice(), out),
+        _ => Ok(()),
+    }
+}
+
+// The same; a null has so many nulls.
+fn add_items_or_nulls(
+    alloc: Global,
+    value: &Option<ScalarValue>,
+    size: usize,
+    out: &mut Vec<Option<ScalarValue>>,
+) -> Result<(), VortexError>
+    ensures { Gives result (λ _. map option_row out.new.items ≡ map option_row out.old.items ++ items_or_nulls size (option_row value.now)) }
+{
+    match value {
+        Some(ScalarValue::List(rows)) => add_rows(alloc, rows.as_slice(), out),
+        _ => add_nulls(size, out),
+    }
+}
+
+// These rows are added, shared.
+fn add_rows(
+    alloc: Global,
+    rows: &[Option<ScalarValue>],
+    out: &mut Vec<Option<ScalarValue>>,
+) -> Result<(), VortexError>
+    ensures { Gives result (λ _. out.new.items ≡ out.old.items ++ rows.now) }
+{
+    for row in rows {
+        out.push(share(alloc, row)?)?;
+    }
+    Ok(())
+}
+
+// So many nulls are added.
+fn add_nulls(count: usize, out: &mut Vec<Option<ScalarValue>>) -> Result<(), VortexError>
+    ensures { Gives result (λ _. map option_row out.new.items ≡ map option_row out.old.items ++ replicate count null) }
+{
+    for _i in 0..count {
+        out.push(None)?;
+    }
+    Ok(())
+}
+
+// The field at a place of each record, shared; a null has a null there.
+fn fields_at(
+    alloc: Global,
+    values: &[Option<ScalarValue>],
+    place: usize,
+) -> Result<Vec<Option<ScalarValue>>, VortexError>
+    ensures { Gives result (λ rows. map option_row rows.items ≡ map (field_in place) (map option_row values.now)) }
+{
+    let mut rows = Vec::with_capacity(alloc, values.len())?;
+    for value in values {
+        rows.push(field_at(alloc, value, place)?)?;
+    }
+    Ok(rows)
+}
+
+// The field at a place of a record, shared, `None` where there is none.
+fn field_at(
+    alloc: Global,
+    value: &Option<ScalarValue>,
+    place: usize,
+) -> Result<Option<ScalarValue>, VortexError>
+    ensures { Gives result (λ v. option_row v ≡ field_in place (option_row value.now)) }
+{
+    match value {
+        Some(ScalarValue::Record(fields)) => match fields.as_slice().get(place) {
+            Some(field) => share(alloc, field),
+            None => Ok(None),
+        },
+        _ => Ok(None),
+    }
+}
+
+// The same value, or none, its parts shared.
+fn share(alloc: Global, value: &Option<ScalarValue>) -> Result<Option<ScalarValue>, VortexError>
+    ensures { Gives result (λ v. v ≡ value.now) }
+{
+    match value {
+        Some(value) => Ok(Some(value.try_clone(alloc)?)),
+        None => Ok(None),
+    }
+}
