@@ -15,15 +15,16 @@ class Fault(Exception):
 
 
 class Array(NamedTuple):
-    layout: str  # bool, primitive, constant, dict or listview
+    layout: str  # bool, primitive, constant, dict, listview or views
     kind: str  # bool, utf8, binary, list or an integer type
     nullable: bool
     rows: List[Any]  # None where a row is null
-    elements: Optional["Array"] = None
+    elements: Optional["Array"] = None  # of lists, also of those that a dictionary names
     offsets: Optional["Array"] = None
     sizes: Optional["Array"] = None
     codes: Optional["Array"] = None
     count: int = 0  # of a dictionary's values
+    buffers: int = 0  # that its texts or byte lists have in plain layout
     flag: bool = False
     is_exact: bool = True  # whether a rule fixes each offset and size
 
@@ -114,7 +115,8 @@ def dictionary(codes: Array, values: Array) -> Array:
         want(code is None or code < len(values.rows), "OutOfBounds")
     rows = [None if code is None else values.rows[code] for code in codes.rows]
     nullable = values.nullable or codes.nullable
-    return Array("dict", values.kind, nullable, rows, codes=codes, count=len(values.rows))
+    kept = {"elements": values.elements, "buffers": values.buffers if values.rows else 0}
+    return Array("dict", values.kind, nullable, rows, codes=codes, count=len(values.rows), **kept)
 
 
 def narrow(array: Array) -> Array:
@@ -154,7 +156,7 @@ def rebuild(array: Array, mode: str) -> Array:
     offsets = [sum(sizes[:i]) for i in range(len(sizes))]
     rows = [item for row in array.rows if row is not None for item in row]
     return array._replace(
-        elements=Array("rows", array.elements.kind, array.elements.nullable, rows),
+        elements=array.elements._replace(layout="rows", rows=rows),
         offsets=Array("primitive", offset_type, False, offsets),
         sizes=Array("primitive", array.sizes.kind, False, sizes),
         flag=True,
@@ -217,6 +219,35 @@ def mask_array(array: Array, mask: Array) -> Array:
     return masked
 
 
+def same_type(array: Array, other: Array) -> bool:
+    if (array.kind, array.nullable) != (other.kind, other.nullable):
+        return False
+    return array.kind != "list" or same_type(array.elements, other.elements)
+
+
+def concat(*arrays: Array) -> Array:
+    want(arrays, "EmptyInput")
+    kind = arrays[0].kind
+    want(all(same_type(arrays[0], array) for array in arrays), "DifferingDtypes")
+    rows = [row for array in arrays for row in array.rows]
+    layouts = {"bool": "bool", "utf8": "views", "binary": "views", "list": "listview"}
+    buffers = sum(array.buffers for array in arrays)
+    joined = Array(layouts.get(kind, "primitive"), kind, arrays[0].nullable, rows, buffers=buffers)
+    if kind != "list":
+        return joined
+    joined = joined._replace(elements=concat(*[array.elements for array in arrays]))
+    if not all(array.layout == "listview" and array.is_exact for array in arrays):
+        zeroes = Array("primitive", "u64", False, [0] * len(rows))
+        return joined._replace(offsets=zeroes, sizes=zeroes, is_exact=False)
+    before = [sum(len(array.elements.rows) for array in arrays[:i]) for i in range(len(arrays))]
+    offsets = [n + base for array, base in zip(arrays, before) for n in array.offsets.rows]
+    sizes = [size for array in arrays for size in array.sizes.rows]
+    return joined._replace(
+        offsets=Array("primitive", "u64", False, offsets),
+        sizes=Array("primitive", "u64", False, sizes),
+    )
+
+
 # ---- text
 
 
@@ -236,6 +267,8 @@ def parts_text(array: Array) -> str:
         return f"listview offsets {counts[0]} sizes {counts[1]} elements {count} flag {flag}"
     if array.layout == "dict":
         return f"dict codes {row_text(array.codes.rows)} values {array.count} flag false"
+    if array.layout == "views":
+        return f"views {len(array.rows)} buffers {array.buffers}"
     kind = f" {array.kind}" if array.layout == "primitive" else ""
     return f"{array.layout}{kind} {len(array.rows)}"
 
@@ -253,7 +286,7 @@ def run_line(arrays: List[Array], words: List[str]) -> Optional[str]:
 
     counts = {"ints": 2, "bools": 2, "const": 3, "listview": 4, "slice": 3, "take": 2}
     counts.update({"filter": 2, "mask": 2, "rebuild": 2, "dict": 2, "narrow": 1})
-    want(len(operands) == counts.get(name, 1), "Syntax")
+    want(name == "concat" or len(operands) == counts.get(name, 1), "Syntax")
     if name in ("ints", "bools"):
         kind, nullable = read_type(operands[0])
         want(kind == "bool" if name == "bools" else kind in RANGES, "Syntax")
@@ -266,7 +299,9 @@ def run_line(arrays: List[Array], words: List[str]) -> Optional[str]:
         count = read_number(operands[2])
         want(nullable or item is not None, "HasNulls")
         want(fits(kind, item), "MismatchedTypes")
-        arrays.append(literal("constant", kind, nullable, [item] * count))
+        constant = literal("constant", kind, nullable, [item] * count)
+        is_long = isinstance(item, bytes) and len(item) > 12
+        arrays.append(constant._replace(buffers=int(is_long)))
     elif name == "listview":
         registers = [read_register(word) for word in operands[:3]]
         validity = operands[3] if operands[3] in VALIDITIES else read_register(operands[3])
@@ -275,9 +310,9 @@ def run_line(arrays: List[Array], words: List[str]) -> Optional[str]:
     elif name == "slice":
         register, start, end = read_register(operands[0]), *map(read_number, operands[1:])
         arrays.append(slice_array(get(register), start, end))
-    elif name in ("take", "filter", "mask", "dict", "narrow"):
+    elif name in ("take", "filter", "mask", "concat", "dict", "narrow"):
         registers = [read_register(word) for word in operands]
-        calls = {"take": take, "filter": filter_array, "mask": mask_array}
+        calls = {"take": take, "filter": filter_array, "mask": mask_array, "concat": concat}
         call = {**calls, "dict": dictionary, "narrow": narrow}[name]
         arrays.append(call(*[get(register) for register in registers]))
     elif name == "rebuild":

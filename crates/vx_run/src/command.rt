@@ -47,6 +47,10 @@ pub(crate) enum Command {
         array: RegisterWord,
         mask: RegisterWord,
     },
+    // `concat R ...`: the rows of arrays, one array after another.
+    Concat {
+        arrays: Vec<RegisterWord>,
+    },
     // `rebuild R MODE`: a list view rebuilt.
     Rebuild {
         array: RegisterWord,
@@ -83,6 +87,7 @@ pub(crate) fn parse_command(alloc: Global, line: &[u8]) -> Result<Option<Command
         b"take" => take(&mut words)?,
         b"filter" => filter(&mut words)?,
         b"mask" => mask(&mut words)?,
+        b"concat" => concat(alloc, &mut words)?,
         b"rebuild" => rebuild(&mut words)?,
         b"narrow" => Command::Narrow {
             array: register(&mut words)?,
@@ -167,6 +172,14 @@ fn mask(words: &mut Words<'_>) -> Result<Command, LineFault> {
         array: register(words)?,
         mask: register(words)?,
     })
+}
+
+fn concat(alloc: Global, words: &mut Words<'_>) -> Result<Command, LineFault> {
+    let mut arrays = Vec::new(alloc);
+    for word in words.by_ref() {
+        arrays.push(RegisterWord::from_word(word).ok_or(LineFault::Syntax)?)?;
+    }
+    Ok(Command::Concat { arrays })
 }
 
 fn rebuild(words: &mut Words<'_>) -> Result<Command, LineFault> {

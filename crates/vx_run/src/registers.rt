@@ -57,6 +57,7 @@ impl Registers {
             Command::Take { array, indices } => self.get(array)?.take(alloc, self.get(indices)?)?,
             Command::Filter { array, mask } => self.filter(alloc, array, mask)?,
             Command::Mask { array, mask } => self.get(array)?.mask(alloc, self.get(mask)?)?,
+            Command::Concat { arrays } => self.concat(alloc, &arrays)?,
             Command::Rebuild { array, mode } => self.rebuild(alloc, array, mode)?,
             Command::Narrow { array } => self.narrow(alloc, array)?,
             Command::Show { array } => return Ok(Some(self.show(alloc, array)?)),
@@ -139,6 +140,15 @@ impl Registers {
         let truths = Validity::Array(mask.try_clone(alloc)?);
         let mask = truths.execute_mask(alloc, mask.len())?;
         Ok(array.filter(alloc, &mask)?)
+    }
+
+    // The rows of several registers, one array after another.
+    fn concat(&self, alloc: Global, registers: &[RegisterWord]) -> Result<ArrayRef, LineFault> {
+        let mut arrays = Vec::with_capacity(alloc, registers.len())?;
+        for register in registers {
+            arrays.push(self.get(*register)?.try_clone(alloc)?)?;
+        }
+        Ok(ArrayRef::concat(alloc, &arrays)?)
     }
 
     // A list view rebuilt. Refuses `MismatchedTypes` where the register is no list view.

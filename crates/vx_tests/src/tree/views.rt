@@ -35,7 +35,12 @@ pub(crate) fn texts(alloc: Global) -> Result<ArrayRef, VortexError>
 }
 
 // Whether row `i` is this text.
-pub(crate) fn is_text(alloc: Global, array: &ArrayRef, i: usize, text: &[u8]) -> Result<bool, VortexError> {
+pub(crate) fn is_text(
+    alloc: Global,
+    array: &ArrayRef,
+    i: usize,
+    text: &[u8],
+) -> Result<bool, VortexError> {
     let row = array.execute_scalar(alloc, i)?;
     Ok(match row.value() {
         Some(ScalarValue::Text(value)) => value.as_slice() == text,
