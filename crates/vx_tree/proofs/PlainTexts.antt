@@ -284,10 +284,3 @@ texts_refused vs i v ws bs e x l here (inr same) =
 pub ruleset value_texts = (texts_formed, texts_made, texts_short)
 
 pub ruleset next = (AreTexts-next, AreTexts-all, texts_refused, texts_fault)
-
--- one value needs one buffer at most
-pub one_text : (v : Option ScalarValue) → buffers_overflow (length (long_values (v ∷ []))) ≡ None
-one_text v = elim (is_long (value_bytes v)) as (λ b. buffers_overflow (length (if b then value_bytes v ∷ [] else [])) ≡ None) [
-  | true ↦ refl
-  | false ↦ refl
-]

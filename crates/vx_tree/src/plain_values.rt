@@ -1,12 +1,11 @@
 // Values, one a row, in plain layout.
 
-ghost use Rattle.std.specs.Prelude.{◌≡◌, ◌<◌, ◌≤◌, ◌+◌, ◌*◌, ◌^◌, ◌++◌, [], ◌∷◌, ℕ, true, length, map, None, is_some, IfOk, if◌then◌else◌};
+ghost use Rattle.std.specs.Prelude.{◌≡◌, ◌<◌, ◌≤◌, ◌+◌, ◌*◌, ◌^◌, ◌++◌, [], ◌∷◌, true, length, map, is_some, IfOk, if◌then◌else◌};
 ghost use Rattle.std.specs.List.{All};
 ghost use Rattle.vx_base.specs.DTypes.{dtype_meaning, is_nullable};
 ghost use Rattle.vx_base.specs.Integers.{Holds, byte_width, bytes_of, numbers};
 ghost use Rattle.vx_base.specs.Kinds.{booleans, is_integers, is_nullable_kind};
 ghost use Rattle.vx_base.specs.Refusals.{Gives, Refuses};
-ghost use Rattle.vx_tree.specs.Faults.{take_overflow};
 ghost use Rattle.vx_views.specs.Views.{view_of};
 ghost use Rattle.vx_tree.specs.Meaning.{is_texts};
 ghost use Rattle.vx_tree.specs.Formed.{value_kind};
@@ -29,8 +28,7 @@ pub(crate) fn plain_truths(
 ) -> Result<ArrayRef, VortexError>
     requires kind { dtype_meaning dtype.now ≡ booleans (is_nullable_kind (dtype_meaning dtype.now)) }
     requires fit { All (FitsIfThere (dtype_meaning dtype.now)) values.now }
-    ensures made { Gives result (ArePlainValues (dtype_meaning dtype.now) values.now) }
-    ensures few { IfOk result (λ a. (n : ℕ) → take_overflow a n ≡ None) }
+    ensures { Gives result (ArePlainValues (dtype_meaning dtype.now) values.now) }
 {
     let validity = validity_of_values(alloc, dtype.nullability(), values)?;
     let bits = BitBuffer::from_bools(alloc, &truths(alloc, values)?)?;
@@ -46,8 +44,7 @@ pub(crate) fn plain_numbers(
 ) -> Result<ArrayRef, VortexError>
     requires kind { is_integers (dtype_meaning dtype.now) ≡ true }
     requires fit { All (FitsIfThere (dtype_meaning dtype.now)) values.now }
-    ensures made { Gives result (ArePlainValues (dtype_meaning dtype.now) values.now) }
-    ensures few { IfOk result (λ a. (n : ℕ) → take_overflow a n ≡ None) }
+    ensures { Gives result (ArePlainValues (dtype_meaning dtype.now) values.now) }
 {
     let validity = validity_of_values(alloc, dtype.nullability(), values)?;
     let ptype = dtype.as_ptype();
@@ -64,7 +61,6 @@ pub(crate) fn plain_texts(
     requires kind { dtype_meaning dtype.now ≡ value_kind (is_texts (dtype_meaning dtype.now)) (is_nullable_kind (dtype_meaning dtype.now)) }
     requires fit { All (FitsIfThere (dtype_meaning dtype.now)) values.now }
     ensures made { IfOk result (ArePlainValues (dtype_meaning dtype.now) values.now) }
-    ensures few { IfOk result (λ a. (n : ℕ) → take_overflow a n ≡ None) }
     ensures refuses { Refuses result (buffers_overflow (length (long_values values.now))) }
 {
     let validity = validity_of_values(alloc, dtype.nullability(), values)?;

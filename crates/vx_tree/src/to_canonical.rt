@@ -19,10 +19,10 @@ impl ArrayRef {
     /// once, a constant text one buffer at most, however often they stand. Refuses by the first
     /// fault of the parts in their order, the values of a dictionary first: a constant with
     /// `MismatchedTypes` where a record has not as many names as fields, then with `Overflow` where
-    /// its one row, or then all of its rows, need more elements of lists of one size than can be
-    /// counted, or texts in one layout more than 4294967296 buffers; a dictionary with `Overflow`
-    /// where the rows of its codes need too many elements. Of the values 7, 9 and the codes 1,
-    /// null, 0, 1 it makes the numbers 9, null, 7, 9.
+    /// its row, if it stands at least once, or else all of its rows need more elements of lists of
+    /// one size than can be counted, or its row more than 4294967296 buffers in one layout; a
+    /// dictionary with `Overflow` where the rows of its codes need too many elements. Of the values
+    /// 7, 9 and the codes 1, null, 0, 1 it makes the numbers 9, null, 7, 9.
     #[tactic(auto, using(crate::proofs::Canonical::rows_canonical))]
     pub fn to_canonical(&self, alloc: Global) -> Result<ArrayRef, VortexError>
         ensures rows { IfOk result (λ a. rows a ≡ rows self.now) }

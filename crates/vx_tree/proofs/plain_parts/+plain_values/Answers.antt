@@ -1,11 +1,11 @@
-use Rattle.std.proofs.Common.{rules, ◌≡◌, ◌∙◌, ◌+◌, ◌*◌, List, ℕ, [], map, length, sym, ap, subst, refl, true, IfOk, None, arith}
-use Rattle.std.specs.List.{All, flat_map}
+use Rattle.std.proofs.Common.{rules, ◌≡◌, ◌∙◌, ◌+◌, List, ℕ, map, length, sym, ap, subst, refl, true, IfOk, None, arith}
+use Rattle.std.specs.List.{All}
 use Rattle.vx_base.specs.Codes.{kind_depth, kinds_depth}
 use Rattle.vx_base.specs.declared.dtypes.DType.{DType}
 use Rattle.vx_base.specs.DTypes.{dtype_meaning, dtype_meaning-Struct, field_kinds, field_names, is_nullable, kinds_of}
 use Rattle.vx_base.specs.Defaults.{is_even, even_fields}
-use Rattle.vx_base.specs.Kinds.{Kind, Kinds, fixed_lists, lists, records, is_nullable_kind}
-use Rattle.vx_base.specs.Refusals.{Refuses, Refusal}
+use Rattle.vx_base.specs.Kinds.{fixed_lists, records, is_nullable_kind}
+use Rattle.vx_base.specs.Refusals.{Refuses}
 use Rattle.vx_base.specs.ValueRows.{option_row}
 use Rattle.vx_base.proofs.ValueFits.{field_depth}
 use Rattle.vx_tree.specs.Parts.{valid_of}

@@ -7,8 +7,8 @@ use Rattle.vx_tree.specs.PlainValues.{values_valid}
 use Rattle.vx_tree.proofs.PlainValues.{numbers_made, integers_kind}
 use Rattle.vx_tree.proofs.plain_values.plain_numbers.Goals as goal
 
-pub returns-clause-made : goal.returns-clause-made
-returns-clause-made c =
+pub returns : goal.returns
+returns c =
     let k = dtype_meaning c.args.dtype.now in
     let vs = c.args.values.now in
     let kind : k ≡ integers c.as_ptype-ptype.result (is_nullable_kind k) = integers_kind k c.requires.kind ∙ ap (λ p. integers p (is_nullable_kind k)) (sym c.as_ptype-ptype.ensures) in
