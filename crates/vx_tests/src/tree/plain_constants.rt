@@ -1,0 +1,112 @@
+// Constants of lists and records in plain layout.
+
+use super::{expect_list, number};
+use std::alloc::Global;
+use std::rc::Rc;
+use vx_base::{
+    ByteBuffer, DType, FieldNames, Nullability, PType, Scalar, ScalarValue, ScalarValues,
+    StructFields, VortexError,
+};
+use vx_tree::{ArrayRef, Layout};
+
+const LONG: &[u8] = b"this value is definitely long";
+
+// The value of a list of numbers, null where there is none.
+fn list_value(alloc: Global, numbers: &[Option<i128>]) -> Result<ScalarValue, VortexError> {
+    let mut values = Vec::new(alloc);
+    for number in numbers {
+        values.push(match number {
+            Some(number) => Some(ScalarValue::Int(*number)),
+            None => None,
+        })?;
+    }
+    Ok(ScalarValue::List(ScalarValues::from_vec(alloc, values)?))
+}
+
+// Lists of nullable numbers.
+fn lists(alloc: Global) -> Result<DType, VortexError> {
+    let items = Rc::new(alloc, DType::Primitive(PType::I16, Nullability::Nullable))?;
+    Ok(DType::List(items, Nullability::Nullable))
+}
+
+// Lists of two nullable numbers.
+fn pairs(alloc: Global) -> Result<DType, VortexError> {
+    let items = Rc::new(alloc, DType::Primitive(PType::I16, Nullability::Nullable))?;
+    Ok(DType::FixedSizeList(items, 2, Nullability::Nullable))
+}
+
+// Records of a text `a` and a pair `b`.
+fn records(alloc: Global) -> Result<DType, VortexError> {
+    let names = FieldNames::try_new(alloc, &["a", "b"])?;
+    let mut dtypes = Vec::new(alloc);
+    dtypes.push(DType::Utf8(Nullability::NonNullable))?;
+    dtypes.push(pairs(alloc)?)?;
+    let dtypes = Rc::new(alloc, dtypes)?;
+    if names.len() != dtypes.len() {
+        return Err(VortexError::MismatchedTypes);
+    }
+    Ok(DType::new_struct(StructFields::new(names, dtypes), Nullability::NonNullable))
+}
+
+// A row so many times, in plain layout.
+fn plain(
+    alloc: Global,
+    dtype: DType,
+    value: Option<ScalarValue>,
+    len: usize,
+) -> Result<ArrayRef, VortexError> {
+    ArrayRef::constant(alloc, Scalar::try_new(dtype, value)?, len)?.to_canonical(alloc)
+}
+
+#[test]
+fn lists_have_their_elements_once(rt: HostRuntime) -> Result<(), VortexError> {
+    let value = list_value(rt.alloc(), &[Some(7), Some(-8)])?;
+    let array = plain(rt.alloc(), lists(rt.alloc())?, Some(value), 3)?;
+    assert!(rt; array.len() == 3 && array.dtype().is_nullable());
+    for i in 0..3 {
+        expect_list(&rt, rt.alloc(), &array, i, Some(&[7, -8]))?;
+    }
+    let Layout::ListView { elements, .. } = array.layout() else {
+        panic!(rt; "no list view");
+    };
+    assert!(rt; elements.len() == 2 && matches!(elements.layout(), Layout::Primitive { .. }));
+    let none = plain(rt.alloc(), lists(rt.alloc())?, None, 2)?;
+    assert!(rt; none.len() == 2 && !none.is_valid(rt.alloc(), 1)?);
+    Ok(())
+}
+
+#[test]
+fn pairs_are_repeated(rt: HostRuntime) -> Result<(), VortexError> {
+    let value = list_value(rt.alloc(), &[Some(7), None])?;
+    let array = plain(rt.alloc(), pairs(rt.alloc())?, Some(value), 2)?;
+    let Layout::FixedSizeList { elements, .. } = array.layout() else {
+        panic!(rt; "no lists of one size");
+    };
+    assert!(rt; array.len() == 2 && elements.len() == 4 && array.is_valid(rt.alloc(), 1)?);
+    assert!(rt; number(&rt, elements, 0) == Some(7) && number(&rt, elements, 1) == None);
+    assert!(rt; number(&rt, elements, 2) == Some(7) && number(&rt, elements, 3) == None);
+    Ok(())
+}
+
+#[test]
+fn records_by_columns(rt: HostRuntime) -> Result<(), VortexError> {
+    let mut fields = Vec::new(rt.alloc());
+    fields.push(Some(ScalarValue::Text(ByteBuffer::copy_from(rt.alloc(), LONG)?)))?;
+    fields.push(None)?;
+    let value = ScalarValue::Record(ScalarValues::from_vec(rt.alloc(), fields)?);
+    let again = value.try_clone(rt.alloc())?;
+    let array = plain(rt.alloc(), records(rt.alloc())?, Some(value), 2)?;
+    let Layout::Struct { columns, .. } = array.layout() else {
+        panic!(rt; "no records");
+    };
+    assert!(rt; array.len() == 2 && columns.len() == 2);
+    assert!(rt; !columns[1].is_valid(rt.alloc(), 0)? && !columns[1].is_valid(rt.alloc(), 1)?);
+    let Layout::VarBinView { buffers, .. } = columns[0].layout() else {
+        panic!(rt; "no texts");
+    };
+    assert_eq!(rt; buffers.len(), 1);
+    assert!(rt; columns[0].bytes_at(0) == Some(LONG) && columns[0].bytes_at(1) == Some(LONG));
+    let none = plain(rt.alloc(), records(rt.alloc())?, Some(again), 0)?;
+    assert!(rt; none.is_empty() && matches!(none.layout(), Layout::Struct { .. }));
+    Ok(())
+}
