@@ -1,7 +1,7 @@
 // Each public call once, on values from outside.
 
 mod masks;
-mod scalars;
+pub(crate) mod scalars;
 
 use std::rc::Rc;
 use vx_base::{

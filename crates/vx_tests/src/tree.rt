@@ -19,6 +19,7 @@ mod into_array;
 mod joined_arrays;
 mod joined_validities;
 mod masks;
+mod nested;
 mod plain_constants;
 mod records;
 mod scalars;

@@ -8,7 +8,7 @@ use vx_base::{
 };
 
 // A record of a text `name` and a nullable 16-bit `size`.
-fn parcel(alloc: Global) -> Result<DType, VortexError> {
+pub(crate) fn parcel(alloc: Global) -> Result<DType, VortexError> {
     let names = FieldNames::try_new(alloc, &["name", "size"])?;
     let mut dtypes = Vec::new(alloc);
     dtypes.push(DType::Utf8(Nullability::NonNullable))?;
@@ -21,7 +21,11 @@ fn parcel(alloc: Global) -> Result<DType, VortexError> {
 }
 
 // The value of a parcel.
-fn parcel_value(alloc: Global, name: &str, size: i128) -> Result<ScalarValue, VortexError> {
+pub(crate) fn parcel_value(
+    alloc: Global,
+    name: &str,
+    size: i128,
+) -> Result<ScalarValue, VortexError> {
     let mut values = Vec::new(alloc);
     values.push(Some(ScalarValue::Text(ByteBuffer::copy_from(alloc, name.as_bytes())?)))?;
     values.push(Some(ScalarValue::Int(size)))?;
