@@ -3,7 +3,8 @@ use Rattle.std.specs.Prelude.{◌≡◌, ℕ, Bool, true, false, List, map, refl
 use Rattle.std.proofs.Common.{ap, ◌∙◌}
 use Rattle.vx_base.specs.declared.nullability.Nullability.{Nullability}
 use Rattle.vx_base.specs.declared.nullability.Nullability.TheVariants.{NonNullable, Nullable}
-use Rattle.vx_base.specs.declared.dtypes.DType.{DType, Struct as struct_dtype, Row_of-DType, end_of-DType, more_of-DType, items-the_row-DType, items_hidden-the_row-DType-0}
+use Rattle.vx_base.specs.declared.dtypes.DType.{DType, Struct as struct_dtype, Row_of-DType, end_of-DType, more_of-DType}
+use Rattle.vx_base.specs.declared.dtypes.DType.{items-the_row-DType, items_hidden-the_row-DType-0}
 use Rattle.vx_base.specs.declared.dtypes.DType.TheBlock.{hidden-the_row-DType-0}
 use Rattle.vx_base.specs.declared.struct_fields.StructFields.{StructFields}
 use Rattle.vx_base.specs.Kinds.{Kind, booleans, integers, texts, binaries, lists, fixed_lists, records, Kinds, no_kinds, kind, kinds_from}
@@ -44,7 +45,8 @@ row_kinds-items m end_of-DType = refl
 row_kinds-items m (more_of-DType d r) = ap (kind (dtype_meaning d)) (row_kinds-items _ r)
 
 -- a record's kind is read at the list of its data types
-pub dtype_meaning-Struct : (fs : StructFields) (n : Nullability) → dtype_meaning (struct_dtype fs n) ≡ records (field_names fs) (field_kinds fs) (is_nullable n)
+pub dtype_meaning-Struct : (fs : StructFields) (n : Nullability)
+    → dtype_meaning (struct_dtype fs n) ≡ records (field_names fs) (field_kinds fs) (is_nullable n)
 dtype_meaning-Struct fs n =
     ap (λ ks. records fs.names ks (is_nullable n))
     (row_kinds-items _ (hidden-the_row-DType-0 fs.dtypes.value) ∙ ap kinds_of (items_hidden-the_row-DType-0 fs.dtypes.value))

@@ -1,7 +1,11 @@
 -- What a refusal says, and which of several faults is answered.
 use Rattle.std.specs.Prelude.{◌≡◌, ◌<◌, ◌⊎◌, ℕ, zero, suc, List, codes, Option, Some, None, IsSome, Result, MatchResult}
 use Rattle.vx_base.specs.declared.errors.VortexError.{VortexError}
-use Rattle.vx_base.specs.declared.errors.VortexError.TheVariants.{Memory, MismatchedTypes, LengthMismatch, NullabilityMismatch, OutOfBounds, Negative, Overflow, NotImplemented, HasNulls, UnknownField, EmptyInput, DifferingDtypes, NotUtf8, BadBuffer, BadStart, BadEnd, BadPrefix, LimitTooLarge, ValueTooLong, LengthsNotExact, FallingOffsets, PatchOutOfRange, DegenerateElements}
+use Rattle.vx_base.specs.declared.errors.VortexError.TheVariants.{Memory, MismatchedTypes, LengthMismatch, NullabilityMismatch, OutOfBounds}
+use Rattle.vx_base.specs.declared.errors.VortexError.TheVariants.{Negative, Overflow, NotImplemented, HasNulls, UnknownField, EmptyInput}
+use Rattle.vx_base.specs.declared.errors.VortexError.TheVariants.{DifferingDtypes, NotUtf8, BadBuffer, BadStart, BadEnd, BadPrefix}
+use Rattle.vx_base.specs.declared.errors.VortexError.TheVariants.{LimitTooLarge, ValueTooLong, LengthsNotExact, FallingOffsets}
+use Rattle.vx_base.specs.declared.errors.VortexError.TheVariants.{PatchOutOfRange, DegenerateElements}
 
 -- a fault, with the row or the position that has it
 pub data Refusal : Type 0 where

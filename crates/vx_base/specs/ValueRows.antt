@@ -2,7 +2,8 @@
 use Rattle.std.specs.Prelude.{List, map, [], ◌∷◌, ℕ, Option, Some, None}
 use Rattle.vx_base.specs.declared.scalar_value.ScalarValue.{ScalarValue}
 use Rattle.vx_base.specs.declared.scalar_value.ScalarValue.TheVariants as value
-use Rattle.vx_base.specs.Rows.{Row, null, boolean, whole, bytes, text, items, record_of, Rows, no_rows, row, Fields, no_fields, field, rows_from}
+use Rattle.vx_base.specs.Rows.{Row, null, boolean, whole, bytes, text, items, record_of, Rows, no_rows, row, Fields, no_fields, field}
+use Rattle.vx_base.specs.Rows.{rows_from}
 use Rattle.vx_base.specs.Kinds.{Kind, lists, fixed_lists, records, Kinds, kind, AllFit, FieldsFit}
 
 -- rows as the fields of a record that has no names yet

@@ -207,8 +207,8 @@ impl BitBufferMut {
         self.replace(i, true);
     }
 
-    /// Makes each boolean from place `start` up to, but not at, place `end` the given one. Asks that
-    /// `start` is at most `end`, and `end` at most the length.
+    /// Makes each boolean from place `start` up to, but not at, place `end` the given one. Asks
+    /// that `start` is at most `end`, and `end` at most the length.
     pub fn fill_range(&mut self, start: usize, end: usize, value: bool)
         requires start_le_end { start ≤ end }
         requires in_bounds { end ≤ length self.old }

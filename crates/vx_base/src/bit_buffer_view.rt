@@ -58,8 +58,8 @@ impl<'a> Model for BitBufferView<'a> {
 
 #[tactic(auto, using(crate::proofs::PackedBits::length_unpacked, crate::proofs::PackedBits::unpacked_none, crate::proofs::PackedBits::get_unpacked))]
 impl<'a> BitBufferView<'a> {
-    /// The booleans that stand there in these bytes. Asks that the bytes have so many bits, and that
-    /// `offset % 8 + len` is below 2^64.
+    /// The booleans that stand there in these bytes. Asks that the bytes have so many bits, and
+    /// that `offset % 8 + len` is below 2^64.
     pub fn from_meta(bytes: &'a [u8], meta: BitBufferMeta) -> BitBufferView<'a>
         requires in_bounds { meta.offset + meta.len ≤ 8 * length bytes.now }
         requires fits { meta.offset % 8 + meta.len < 2 ^ 64 }

@@ -23,7 +23,8 @@ pub record IsFirstPast {S : Type 0} (steps : S → Option ℕ → S → Type 0) 
   pub past : n ≤ item
 
 -- what the items of an iterator are, with another in the place of none, and which are there
-pub record AreOptions {S A : Type 0} (steps : S → Option (Option A) → S → Type 0) (s : S) (other : A) (items : List A) (present : List Bool) : Type 0 where
+pub record AreOptions {S A : Type 0} (steps : S → Option (Option A) → S → Type 0) (s : S) (other : A)
+    (items : List A) (present : List Bool) : Type 0 where
   pub all : List (Option A)
   pub came : Drains steps s all
   pub given : items ≡ map (λ x. unwrap_or x other) all

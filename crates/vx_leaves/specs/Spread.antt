@@ -1,5 +1,6 @@
 -- Values of the valid rows alone, laid over all rows.
-use Rattle.std.specs.Prelude.{◌*◌, ◌%◌, ◌^◌, ◌==◌, ℕ, ℤ, pos, Bool, true, false, List, [], ◌∷◌, drop, length, count_by, nat_lt, Option, Some, None, if◌then◌else◌}
+use Rattle.std.specs.Prelude.{◌*◌, ◌%◌, ◌^◌, ◌==◌, ℕ, ℤ, pos, Bool, true, false, List, [], ◌∷◌, drop, length, count_by, nat_lt, Option}
+use Rattle.std.specs.Prelude.{Some, None, if◌then◌else◌}
 use Rattle.vx_base.specs.declared.ptypes.PType.{PType}
 use Rattle.vx_base.specs.Integers.{byte_width, number_nth}
 use Rattle.vx_base.specs.Refusals.{Refusal, length_mismatch, overflow, or_else}

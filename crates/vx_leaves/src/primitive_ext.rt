@@ -67,10 +67,10 @@ pub trait PrimitiveArrayExt: TypedArray {
             (validity_in (Self.as_tree self.now))) };
 
     /// The same rows in the narrowest type that has the numbers of the valid ones: u8, u16 or u32
-    /// where none is negative, else i8, i16 or i32, and the type itself where none of these has them.
-    /// The validity is kept; what stands in a null row decides nothing and becomes 0. Where no row
-    /// is valid the numbers are zeroes of type u8; where the type stays, the array is shared. The
-    /// i64 rows -1, 128 are the i16 rows -1, 128. Fails only for want of memory.
+    /// where none is negative, else i8, i16 or i32, and the type itself where none of these has
+    /// them. The validity is kept; what stands in a null row decides nothing and becomes 0. Where
+    /// no row is valid the numbers are zeroes of type u8; where the type stays, the array is
+    /// shared. The i64 rows -1, 128 are the i16 rows -1, 128. Fails only for want of memory.
     fn narrow(&self, alloc: Global) -> Result<PrimitiveArray, VortexError>
         ensures { Gives result (IsNarrowed (Self.as_tree self.now)) };
 }

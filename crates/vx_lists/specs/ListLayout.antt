@@ -1,5 +1,6 @@
 -- A column of lists: where each list lies among the elements, and the one layout that its rows fix.
-use Rattle.std.specs.Prelude.{◌≡◌, ℕ, ◌+◌, ◌-◌, ◌<◌, ◌≤◌, Bool, false, if◌then◌else◌, List, [], ◌∷◌, ◌++◌, length, take, drop, map, sum, slice_index, slice_index_or, Option, Some, None, is_some}
+use Rattle.std.specs.Prelude.{◌≡◌, ℕ, ◌+◌, ◌-◌, ◌<◌, ◌≤◌, Bool, false, if◌then◌else◌, List, [], ◌∷◌, ◌++◌, length, take, drop, map, sum}
+use Rattle.std.specs.Prelude.{slice_index, slice_index_or, Option, Some, None, is_some}
 use Rattle.std.specs.List.{flat_map, range_with_len}
 use Rattle.std.specs.Option.{option_map}
 
@@ -24,7 +25,8 @@ abbrev pub lists_at : {X : Type 0} → List X → List ℕ → List ℕ → List
 lists_at elements [] sizes mask = []
 lists_at elements (offset ∷ offsets) [] mask = []
 lists_at elements (offset ∷ offsets) (size ∷ sizes) [] = []
-lists_at elements (offset ∷ offsets) (size ∷ sizes) (present ∷ mask) = list_at elements offset size present ∷ lists_at elements offsets sizes mask
+lists_at elements (offset ∷ offsets) (size ∷ sizes) (present ∷ mask) =
+    list_at elements offset size present ∷ lists_at elements offsets sizes mask
 
 -- the rows that a layout has
 abbrev pub rows_of : {X : Type 0} → ListLayout X → List (Option (List X))
@@ -93,7 +95,8 @@ abbrev pub position_rows : List ℕ → List ℕ → List Bool → List (Option 
 position_rows [] sizes mask = []
 position_rows (offset ∷ offsets) [] mask = []
 position_rows (offset ∷ offsets) (size ∷ sizes) [] = []
-position_rows (offset ∷ offsets) (size ∷ sizes) (present ∷ mask) = (if present then Some (range_with_len offset size) else None) ∷ position_rows offsets sizes mask
+position_rows (offset ∷ offsets) (size ∷ sizes) (present ∷ mask) =
+    (if present then Some (range_with_len offset size) else None) ∷ position_rows offsets sizes mask
 
 -- another value in each element's place
 abbrev pub map_rows : {X Y : Type 0} → (X → Y) → List (Option (List X)) → List (Option (List Y))

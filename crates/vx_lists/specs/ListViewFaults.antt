@@ -2,7 +2,8 @@
 use Rattle.std.specs.Prelude.{ℕ, ◌+◌, ◌^◌, ◌==◌, nat_lt, nat_le, int_le, if◌then◌else◌, ℤ, pos, negsuc, Option, Some, None, unwrap_or}
 use Rattle.vx_base.specs.declared.ptypes.PType.{PType}
 use Rattle.vx_base.specs.Integers.{greatest}
-use Rattle.vx_base.specs.Refusals.{Refusal, mismatched_types, length_mismatch, negative, overflow, out_of_bounds, not_implemented, or_else, first_fault}
+use Rattle.vx_base.specs.Refusals.{Refusal, mismatched_types, length_mismatch, negative, overflow, out_of_bounds, not_implemented, or_else}
+use Rattle.vx_base.specs.Refusals.{first_fault}
 use Rattle.vx_base.specs.Rows.{number_in}
 use Rattle.vx_base.specs.Kinds.{is_plain_integers, integer_type}
 use Rattle.vx_tree.specs.Tree.{Tree, Valid}
@@ -14,7 +15,10 @@ use Rattle.vx_lists.specs.ListViews.{elements_of, offsets_of, flag_of, rebuilt_o
 
 -- the fault of one row over `count` elements: a negative offset or size, an end past every usize, or an end past the elements
 abbrev pub list_row_fault : ℕ → ℕ → ℤ → ℤ → Option Refusal
-list_row_fault count row (pos offset) (pos size) = if nat_lt (offset + size) (2 ^ 64) then (if nat_le (offset + size) count then None else Some (out_of_bounds (offset + size))) else Some overflow
+list_row_fault count row (pos offset) (pos size) =
+    if nat_lt (offset + size) (2 ^ 64)
+    then (if nat_le (offset + size) count then None else Some (out_of_bounds (offset + size)))
+    else Some overflow
 list_row_fault count row (pos offset) (negsuc size) = Some (negative row)
 list_row_fault count row (negsuc offset) (pos size) = Some (negative row)
 list_row_fault count row (negsuc offset) (negsuc size) = Some (negative row)
@@ -33,7 +37,9 @@ sizes_len_fault o s = if tree_len s == tree_len o then None else Some length_mis
 
 -- the types of offsets, sizes and validity, then the lengths of sizes and validity
 abbrev pub list_parts_fault : Tree → Tree → Valid → Option Refusal
-list_parts_fault o s v = or_else (count_type_fault o) (or_else (count_type_fault s) (or_else (valid_type_fault v) (or_else (sizes_len_fault o s) (valid_len_fault v (tree_len o)))))
+list_parts_fault o s v =
+    or_else (count_type_fault o) (or_else (count_type_fault s) (or_else (valid_type_fault v)
+    (or_else (sizes_len_fault o s) (valid_len_fault v (tree_len o)))))
 
 -- the fault of the least row that has one
 abbrev pub list_rows_fault : ℕ → Tree → Tree → Option Refusal

@@ -4,7 +4,8 @@ use Rattle.vx_base.specs.declared.ptypes.PType.{PType}
 use Rattle.vx_base.specs.declared.ptypes.PType.TheVariants.{U8, U16, U32, U64, I8, I16, I32, I64}
 use Rattle.vx_base.specs.Rows.{Row, count_in, list_in}
 use Rattle.vx_base.specs.Kinds.{integers, integer_type}
-use Rattle.vx_tree.specs.Tree.{Tree, bools, primitive, constant, dictionary, fixed_list, list_view, structure, view_array, Valid, non_nullable}
+use Rattle.vx_tree.specs.Tree.{Tree, bools, primitive, constant, dictionary, fixed_list, list_view, structure, view_array, Valid}
+use Rattle.vx_tree.specs.Tree.{non_nullable}
 pub use Rattle.vx_tree.specs.Layouts.{is_list_view}
 use Rattle.vx_tree.specs.Meaning.{tree_len, kind_of, rows, valid_mask}
 use Rattle.vx_tree.specs.Shapes.{state_of}

@@ -16,7 +16,7 @@ use std::alloc::Global;
 use vx_base::{ByteBuffer, PType, VortexError, read_counts, write_counts};
 use vx_tree::{ArrayRef, Layout};
 
-/// Row `i` of an array of counts.
+// Row `i` of an array of counts.
 #[tactic(auto, using(crate::proofs::CountArrays::integer_kinds))]
 pub(crate) fn count_at(array: &ArrayRef, i: usize) -> usize
     requires counts { IsCounts array.now }
@@ -27,7 +27,7 @@ pub(crate) fn count_at(array: &ArrayRef, i: usize) -> usize
     array.int_at(i).unwrap() as usize
 }
 
-/// The type and the bytes of whole numbers that lie one after another; no other layout has them.
+// The type and the bytes of whole numbers that lie one after another; no other layout has them.
 pub(crate) fn number_bytes(array: &ArrayRef) -> Option<(PType, &[u8])>
     requires { is_plain_integers (kind_of array.now) ≡ true }
     ensures { IfSome result (λ n. array.now ≡ primitive n.0 n.1.now non_nullable) }
@@ -38,7 +38,7 @@ pub(crate) fn number_bytes(array: &ArrayRef) -> Option<(PType, &[u8])>
     }
 }
 
-/// The rows of an array of counts as bytes of its type, shared where they lie as such.
+// The rows of an array of counts as bytes of its type, shared where they lie as such.
 pub(crate) fn count_bytes(alloc: Global, array: &ArrayRef) -> Result<ByteBuffer, VortexError>
     requires { IsCounts array.now }
     ensures { Gives result (λ b.
@@ -51,7 +51,7 @@ pub(crate) fn count_bytes(alloc: Global, array: &ArrayRef) -> Result<ByteBuffer,
     Ok(write_counts(alloc, array.dtype().as_ptype(), &counts)?)
 }
 
-/// The rows of an array of counts.
+// The rows of an array of counts.
 pub(crate) fn counts_of(alloc: Global, array: &ArrayRef) -> Result<Vec<usize>, VortexError>
     requires { IsCounts array.now }
     ensures { Gives result (λ counts. counts.items ≡ counts_in array.now) }

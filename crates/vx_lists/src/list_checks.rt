@@ -15,8 +15,8 @@ use vx_base::{PType, VortexError};
 use vx_tree::{ArrayRef, Validity};
 
 // Refuses offsets and sizes that are not plain integers, a validity array that is not one of plain
-// booleans, then sizes or a validity that are not as long as the offsets (of lengths either fault is
-// the same, so it matters not which is tested first).
+// booleans, then sizes or a validity that are not as long as the offsets (of lengths either fault
+// is the same, so it matters not which is tested first).
 fn check_list_parts(
     offsets: &ArrayRef,
     sizes: &ArrayRef,
@@ -36,7 +36,7 @@ fn check_list_parts(
     Ok(())
 }
 
-/// Refuses a row that is not `size` elements from `offset` on, among `count` elements.
+// Refuses a row that is not `size` elements from `offset` on, among `count` elements.
 #[inline]
 pub(crate) fn check_list_row(
     count: usize,
@@ -85,7 +85,7 @@ fn check_list_rows(count: usize, offsets: &ArrayRef, sizes: &ArrayRef) -> Result
     Ok(())
 }
 
-/// Refuses parts that make no list view, with their first fault.
+// Refuses parts that make no list view, with their first fault.
 pub(crate) fn check_list_view(
     elements: &ArrayRef,
     offsets: &ArrayRef,
@@ -100,7 +100,7 @@ pub(crate) fn check_list_view(
     check_list_rows(elements.len(), offsets, sizes)
 }
 
-/// Refuses a total that passes the greatest number of an offset type.
+// Refuses a total that passes the greatest number of an offset type.
 pub(crate) fn check_total(ptype: PType, total: u128) -> Result<usize, VortexError>
     ensures tests { Tests result (total_fault ptype total) }
     ensures same { IfOk result (λ count. count ≡ total) }

@@ -201,8 +201,8 @@ impl ListViewArray {
         true
     }
 
-    /// The elements of list `i`, also where the row is null. Where it is not, row `i` is the list of
-    /// their rows. Asks a row below the length.
+    /// The elements of list `i`, also where the row is null. Where it is not, row `i` is the list
+    /// of their rows. Asks a row below the length.
     pub fn list_elements_at(&self, alloc: Global, i: usize) -> Result<ArrayRef, VortexError>
         requires { i < tree_len self.now }
         ensures list { let row = row_at self.now i in IfOk result (λ a.

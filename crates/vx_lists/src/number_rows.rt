@@ -10,7 +10,7 @@ ghost use Rattle.vx_lists.specs.ListViewFaults.{list_rows_fault};
 use crate::list_checks::check_list_row;
 use vx_base::{NativePType, PType, VortexError, call_native, int_at, number_count};
 
-/// Refuses the first row that is negative, or ends past every usize or past `count` elements.
+// Refuses the first row that is negative, or ends past every usize or past `count` elements.
 pub(crate) fn check_number_rows(
     count: usize,
     offset_type: PType,
@@ -48,7 +48,8 @@ fn check_rows_from<O: NativePType>(
     call_native!(size_type, check_typed_rows::<O>(count, offsets, sizes))
 }
 
-// The same for offsets of one type and sizes of another: a loop by itself, whose numbers stay in registers.
+// The same for offsets of one type and sizes of another: a loop by itself, whose numbers stay in
+// registers.
 #[inline(never)]
 fn check_typed_rows<O: NativePType, S: NativePType>(
     count: usize,
@@ -70,7 +71,7 @@ fn check_typed_rows<O: NativePType, S: NativePType>(
     Ok(())
 }
 
-/// Whether each row ends where the next one starts. Asks that no number is negative.
+// Whether each row ends where the next one starts. Asks that no number is negative.
 pub(crate) fn are_number_rows_consecutive(
     offset_type: PType,
     offsets: &[u8],

@@ -175,8 +175,8 @@ impl ListViewArray {
         Ok(self.rebuilt(alloc, plan, elements)?)
     }
 
-    /// The same as `rebuild_by_take` gives, copied run by run: no list of a position for each element
-    /// is made.
+    /// The same as `rebuild_by_take` gives, copied run by run: no list of a position for each
+    /// element is made.
     pub fn rebuild_by_runs(&self, alloc: Global) -> Result<ListViewArray, VortexError>
         ensures rebuilt { IfOk result (IsRebuilt self.now) }
         ensures refuses { Refuses result (rebuild_overflow self.now) }
@@ -219,10 +219,10 @@ impl ListViewArray {
 
     /// The same rows, rebuilt as `mode` says. An array without rows comes back with the flag set
     /// and all its elements, in every mode. Of any other, `MakeZeroCopyToList` gives a flagged one
-    /// as it is, and one without the flag as `rebuild_by_take` does; `TrimElements` gives it trimmed
-    /// to `referenced_element_bounds`; `MakeExact` gives a flagged one trimmed, and one without the
-    /// flag as `rebuild_by_take` does, which refuses `Overflow`; `OverlapCompression` refuses
-    /// `NotImplemented`.
+    /// as it is, and one without the flag as `rebuild_by_take` does; `TrimElements` gives it
+    /// trimmed to `referenced_element_bounds`; `MakeExact` gives a flagged one trimmed, and one
+    /// without the flag as `rebuild_by_take` does, which refuses `Overflow`; `OverlapCompression`
+    /// refuses `NotImplemented`.
     pub fn rebuild(
         &self,
         alloc: Global,

@@ -26,7 +26,7 @@ pub(crate) struct RebuildPlan {
     pub count: usize,
 }
 
-/// The type of the offsets of a rebuilt list view.
+// The type of the offsets of a rebuilt list view.
 pub(crate) fn rebuilt_offset_ptype(ptype: PType) -> PType
     ensures { result ≡ rebuilt_offset_ptype ptype }
 {
@@ -66,7 +66,7 @@ fn put_count<T: NativePType>(out: &mut [u8], i: usize, count: usize)
     );
 }
 
-/// How many elements the present rows have in all.
+// How many elements the present rows have in all.
 pub(crate) fn valid_total(ptype: PType, sizes: &[u8], mask: &Mask) -> u128
     requires counts { AreCountBytes ptype sizes.now }
     requires same_len { length mask.now ≡ length (numbers ptype sizes.now) }
@@ -92,7 +92,7 @@ fn typed_total<S: NativePType>(sizes: &[u8], mask: &Mask) -> u128
     total
 }
 
-/// The sizes of the present rows, and 0 for each null row: shared where no row is null.
+// The sizes of the present rows, and 0 for each null row: shared where no row is null.
 pub(crate) fn valid_sizes(
     alloc: Global,
     ptype: PType,
@@ -144,8 +144,8 @@ fn put_valid_sizes<S: NativePType>(sizes: &[u8], mask: &Mask, out: &mut [u8])
     }
 }
 
-/// Where lists of these sizes start when they lie end to end. Asks that the type of the starts
-/// holds the sum of the sizes.
+// Where lists of these sizes start when they lie end to end. Asks that the type of the starts
+// holds the sum of the sizes.
 pub(crate) fn list_starts(
     alloc: Global,
     start_type: PType,
@@ -205,7 +205,7 @@ fn put_starts<O: NativePType, S: NativePType>(sizes: &[u8], out: &mut [u8])
     }
 }
 
-/// How the elements of these lists lie, one list after another: in runs, those that meet joined.
+// How the elements of these lists lie, one list after another: in runs, those that meet joined.
 pub(crate) fn element_runs(
     alloc: Global,
     offset_type: PType,
@@ -280,7 +280,7 @@ fn typed_runs<O: NativePType, S: NativePType>(
     Ok(runs)
 }
 
-/// The positions of these runs.
+// The positions of these runs.
 pub(crate) fn positions_of_runs(
     alloc: Global,
     runs: &[(usize, usize)],

@@ -11,8 +11,8 @@ use vx_lists::ListViewRebuildMode;
 // A line that is in the grammar, with its operands.
 #[derive(Drop)]
 pub(crate) enum Command {
-    // `ints T LIST`, `bools T LIST`, `const T ITEM N`: the array that the line spells out, or why it
-    // is refused.
+    // `ints T LIST`, `bools T LIST`, `const T ITEM N`: the array that the line spells out, or why
+    // it is refused.
     Literal(Literal),
     // `listview R R R V`: a list view.
     ListView {

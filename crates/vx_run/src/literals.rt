@@ -1,4 +1,5 @@
-// Arrays that a line spells out. Each is the refusal `HasNulls` where it has a null that may not be.
+// Arrays that a line spells out. Each is the refusal `HasNulls` where it has a null that may not
+// be.
 
 use crate::faults::LineFault;
 use crate::hexadecimal::read_bytes;

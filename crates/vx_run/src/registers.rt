@@ -165,8 +165,8 @@ impl Registers {
         Ok(list_view.rebuild(alloc, mode)?.into_array())
     }
 
-    // Numbers in the narrowest type that has them. Refuses `MismatchedTypes` where the register does
-    // not hold plain numbers.
+    // Numbers in the narrowest type that has them. Refuses `MismatchedTypes` where the register
+    // does not hold plain numbers.
     fn narrow(&self, alloc: Global, array: RegisterWord) -> Result<ArrayRef, LineFault> {
         let array = self.get(array)?.try_clone(alloc)?;
         let Ok(numbers) = PrimitiveArray::try_from_array(array) else {

@@ -35,8 +35,8 @@ pub fn column_of_bytes<T: NativePType + Drop>(
 }
 
 /// A column of these numbers, null where the bit of the row is not set, as a file stores it: the
-/// bits first, the least significant of each byte first. Refuses `LengthMismatch` where there is not
-/// one bit a number.
+/// bits first, the least significant of each byte first. Refuses `LengthMismatch` where there is
+/// not one bit a number.
 pub fn nullable_column<T: NativePType + Drop>(
     alloc: Global,
     numbers: Buffer<T>,

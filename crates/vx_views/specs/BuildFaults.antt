@@ -1,8 +1,10 @@
 -- What a call that builds views is refused for, the first fault first. Lengths and offsets are integers of any type.
-use Rattle.std.specs.Prelude.{◌≡◌, ℕ, ℤ, pos, ◌-ℤ◌, ◌+◌, ◌-◌, ◌^◌, List, length, map, drop, sum, if◌then◌else◌, ◌==◌, nat_le, int_lt, ◌≤ℤ◌, ◌<◌, ◌≤◌, Option, Some, None, slice_index_or, slice_range, unsigned_abs}
+use Rattle.std.specs.Prelude.{◌≡◌, ℕ, ℤ, pos, ◌-ℤ◌, ◌+◌, ◌-◌, ◌^◌, List, length, map, drop, sum, if◌then◌else◌, ◌==◌, nat_le, int_lt, ◌≤ℤ◌}
+use Rattle.std.specs.Prelude.{◌<◌, ◌≤◌, Option, Some, None, slice_index_or, slice_range, unsigned_abs}
 use Rattle.std.specs.Int.{is_negative}
 use Rattle.std.specs.List.{zip}
-use Rattle.vx_base.specs.Refusals.{Refusal, limit_too_large, negative, lengths_not_exact, value_too_long, overflow, empty_input, falling_offsets, out_of_bounds, or_else, first_fault}
+use Rattle.vx_base.specs.Refusals.{Refusal, limit_too_large, negative, lengths_not_exact, value_too_long, overflow, empty_input}
+use Rattle.vx_base.specs.Refusals.{falling_offsets, out_of_bounds, or_else, first_fault}
 use Rattle.vx_views.specs.Cut.{IsMaximalCut}
 use Rattle.vx_views.specs.declared.view.TheConstants.{MAX_BUFFER_LEN}
 
@@ -89,15 +91,19 @@ lengths_fault limit heap_len lens = or_else (first_negative lens) (or_else (sum_
 
 -- of building views by lengths, where the maximal cut has so many pieces
 abbrev pub build_fault : ℕ → ℕ → ℕ → List ℤ → ℕ → Option Refusal
-build_fault start limit heap_len lens pieces = or_else (limit_fault limit) (or_else (lengths_fault limit heap_len lens) (numbering_fault start pieces))
+build_fault start limit heap_len lens pieces =
+    or_else (limit_fault limit) (or_else (lengths_fault limit heap_len lens) (numbering_fault start pieces))
 
 -- of offsets into a heap of so many bytes
 abbrev pub offsets_fault : ℕ → ℕ → List ℤ → Option Refusal
-offsets_fault limit heap_len offsets = or_else (no_offset_fault offsets) (or_else (first_negative offsets) (or_else (first_falling offsets) (or_else (past_heap_fault heap_len offsets) (first_too_long limit (differences offsets)))))
+offsets_fault limit heap_len offsets =
+    or_else (no_offset_fault offsets) (or_else (first_negative offsets) (or_else (first_falling offsets)
+    (or_else (past_heap_fault heap_len offsets) (first_too_long limit (differences offsets)))))
 
 -- of building views by offsets, where the maximal cut has so many pieces
 abbrev pub build_from_offsets_fault : ℕ → ℕ → ℕ → List ℤ → ℕ → Option Refusal
-build_from_offsets_fault start limit heap_len offsets pieces = or_else (limit_fault limit) (or_else (offsets_fault limit heap_len offsets) (numbering_fault start pieces))
+build_from_offsets_fault start limit heap_len offsets pieces =
+    or_else (limit_fault limit) (or_else (offsets_fault limit heap_len offsets) (numbering_fault start pieces))
 
 -- how many pieces the maximal cut has, where there is one (there is where no value is longer than the limit)
 abbrev pub IsPieceCount : ℕ → List ℕ → ℕ → Type 0

@@ -15,7 +15,8 @@ ArePieces limit lens from (end ∷ ends) to = (from < end) × (end ≤ from + li
 -- no piece could have ended where a later value ends
 abbrev pub AreLongest : ℕ → List ℕ → ℕ → List ℕ → Type 0
 AreLongest limit lens from [] = Unit {0}
-AreLongest limit lens from (end ∷ ends) = ((later : ℕ) → IsValueEnd lens later → end < later → from + limit < later) × AreLongest limit lens end ends
+AreLongest limit lens from (end ∷ ends) =
+    ((later : ℕ) → IsValueEnd lens later → end < later → from + limit < later) × AreLongest limit lens end ends
 
 -- the pieces make up the whole heap
 pub record IsCut (limit : ℕ) (lens ends : List ℕ) : Type 0 where
@@ -35,4 +36,7 @@ pub record IsFewestCut (limit : ℕ) (lens ends : List ℕ) : Type 0 where
 abbrev pub PassWithNext : ℕ → List ℕ → ℕ → List ℕ → Type 0
 PassWithNext limit lens from [] = Unit {0}
 PassWithNext limit lens from (end ∷ []) = Unit {0}
-PassWithNext limit lens from (end ∷ next ∷ ends) = ((row : ℕ) → row < length lens → sum (take row lens) ≡ end → 0 < slice_index lens row → limit < (end - from) + slice_index lens row) × PassWithNext limit lens end (next ∷ ends)
+PassWithNext limit lens from (end ∷ next ∷ ends) =
+    ((row : ℕ) → row < length lens → sum (take row lens) ≡ end → 0 < slice_index lens row
+    → limit < (end - from) + slice_index lens row)
+    × PassWithNext limit lens end (next ∷ ends)

@@ -1,5 +1,6 @@
 -- Why a view may not stand at a valid row, and which of several faults is named.
-use Rattle.std.specs.Prelude.{ℕ, ◌+◌, Bool, not, ◌&&◌, nat_lt, nat_le, if◌then◌else◌, List, [], length, take, bytes_eq, slice_index_or, Option, Some, None}
+use Rattle.std.specs.Prelude.{ℕ, ◌+◌, Bool, not, ◌&&◌, nat_lt, nat_le, if◌then◌else◌, List, [], length, take, bytes_eq, slice_index_or}
+use Rattle.std.specs.Prelude.{Option, Some, None}
 use Rattle.std.specs.Str.{is_utf8}
 use Rattle.vx_base.specs.Bits.{bool_at}
 use Rattle.vx_base.specs.Refusals.{Refusal, not_utf8, bad_buffer, bad_start, bad_end, bad_prefix, or_else, first_fault}

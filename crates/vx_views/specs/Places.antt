@@ -1,6 +1,7 @@
 -- Where the values of a heap stand once it is cut, and the views that say so.
 -- `lens` are the values' lengths, `ends` the ends of the pieces, and the pieces are numbered from `start` on.
-use Rattle.std.specs.Prelude.{◌≡◌, ℕ, ◌+◌, ◌-◌, ◌^◌, ◌<◌, ◌≤◌, List, [], ◌∷◌, ◌++◌, length, take, sum, count_by, nat_le, slice_range, slice_index, slice_index_or}
+use Rattle.std.specs.Prelude.{◌≡◌, ℕ, ◌+◌, ◌-◌, ◌^◌, ◌<◌, ◌≤◌, List, [], ◌∷◌, ◌++◌, length, take, sum, count_by, nat_le, slice_range}
+use Rattle.std.specs.Prelude.{slice_index, slice_index_or}
 use Rattle.vx_views.specs.Cut.{IsMaximalCut}
 use Rattle.vx_views.specs.Views.{view_of, view_value, Resolves}
 
@@ -27,7 +28,8 @@ offset_of ends place = place - slice_index (0 ∷ ends) (piece_of ends place)
 
 -- the view of the value of a row
 abbrev pub view_at : ℕ → List ℕ → List ℕ → List ℕ → ℕ → List ℕ
-view_at start heap lens ends row = view_of (value_at heap lens row) (start + piece_of ends (place_of lens row)) (offset_of ends (place_of lens row))
+view_at start heap lens ends row =
+    view_of (value_at heap lens row) (start + piece_of ends (place_of lens row)) (offset_of ends (place_of lens row))
 
 -- the buffers are the pieces of the maximal cut, numbered within u32, and there is one view a row, that of its value
 pub record AreBuilt (start limit : ℕ) (heap lens : List ℕ) (buffers views : List (List ℕ)) : Type 0 where
@@ -40,5 +42,7 @@ pub record AreBuilt (start limit : ℕ) (heap lens : List ℕ) (buffers views : 
 
 -- whatever buffers come before them, the view of each row resolves, and this is its value
 pub record ReadBack (start : ℕ) (value : ℕ → List ℕ) (buffers views : List (List ℕ)) : Type 0 where
-  pub resolve : (before : List (List ℕ)) (row : ℕ) → length before ≡ start → row < length views → Resolves (before ++ buffers) (slice_index_or views row [])
-  pub read : (before : List (List ℕ)) (row : ℕ) → length before ≡ start → row < length views → view_value (before ++ buffers) (slice_index_or views row []) ≡ value row
+  pub resolve : (before : List (List ℕ)) (row : ℕ) → length before ≡ start → row < length views
+      → Resolves (before ++ buffers) (slice_index_or views row [])
+  pub read : (before : List (List ℕ)) (row : ℕ) → length before ≡ start → row < length views
+      → view_value (before ++ buffers) (slice_index_or views row []) ≡ value row

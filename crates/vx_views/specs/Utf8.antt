@@ -38,4 +38,6 @@ IsBoundary bytes p = (p ≡ length bytes) ⊎ ((p < length bytes) × ¬ (IsInRan
 
 -- within UTF-8 bytes the ranges that are UTF-8 are those that begin and end at boundaries
 abbrev pub BoundariesDecideRanges : List ℕ → Type 0
-BoundariesDecideRanges bytes = (start end : ℕ) → start < end → end ≤ length bytes → IsUtf8 (slice_range bytes start end) ↔ (IsBoundary bytes start × IsBoundary bytes end)
+BoundariesDecideRanges bytes =
+    (start end : ℕ) → start < end → end ≤ length bytes
+    → IsUtf8 (slice_range bytes start end) ↔ (IsBoundary bytes start × IsBoundary bytes end)

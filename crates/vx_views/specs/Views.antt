@@ -1,6 +1,8 @@
 -- What the 16 bytes of a view stand for, and the words by which values are compared.
--- A view is a list of 16 bytes, and the buffers that it may refer to are a list of lists of bytes. Numbers stand with their lowest byte first.
-use Rattle.std.specs.Prelude.{◌≡◌, ℕ, ◌+◌, ◌-◌, ◌^◌, ◌<◌, ◌≤◌, min, Bool, if◌then◌else◌, List, [], ◌++◌, length, take, drop, replicate, nat_le, slice_range, slice_index_or}
+-- A view is a list of 16 bytes, and the buffers that it may refer to are a list of lists of bytes. Numbers stand with their
+-- lowest byte first.
+use Rattle.std.specs.Prelude.{◌≡◌, ℕ, ◌+◌, ◌-◌, ◌^◌, ◌<◌, ◌≤◌, min, Bool, if◌then◌else◌, List, [], ◌++◌, length, take, drop, replicate}
+use Rattle.std.specs.Prelude.{nat_le, slice_range, slice_index_or}
 use Rattle.std.specs.Int.{w32, w64, from_le_bytes, to_le_bytes, from_be_bytes}
 use Rattle.vx_views.specs.declared.view.TheConstants.{MAX_INLINED_SIZE}
 pub use Rattle.vx_base.specs.Bytes.{AreBytes}

@@ -12,8 +12,8 @@ use crate::view::{BinaryView, MAX_BUFFER_LEN};
 use std::alloc::Global;
 use vx_base::{Buffer, ByteBuffer, NativePType, VortexError};
 
-/// Cuts a heap into the pieces of the maximal cut of its values, and gives the pieces and the
-/// views of the values; none where the lengths have a fault, or the pieces cannot be numbered.
+// Cuts a heap into the pieces of the maximal cut of its values, and gives the pieces and the
+// views of the values; none where the lengths have a fault, or the pieces cannot be numbered.
 fn cut_heap<L: Lengths>(
     alloc: Global,
     start: u32,
@@ -108,8 +108,8 @@ pub fn build_views<P: NativePType>(
     }
 }
 
-/// Cuts the part of a heap that offsets use, as `cut_heap` does; none where the offsets have a
-/// fault, or the pieces cannot be numbered.
+// Cuts the part of a heap that offsets use, as `cut_heap` does; none where the offsets have a
+// fault, or the pieces cannot be numbered.
 fn cut_at_offsets<P: NativePType>(
     alloc: Global,
     start: u32,

@@ -7,7 +7,7 @@ ghost use Rattle.vx_views.specs.BuildFaults.{IsUsedRange, first_negative, first_
 use crate::lengths::{Lengths, OffsetLengths, RowLengths, natural};
 use vx_base::{NativePType, VortexError};
 
-/// Finds the first row whose number is negative.
+// Finds the first row whose number is negative.
 fn check_natural<L: Lengths>(lengths: &L) -> Result<(), VortexError>
     ensures { Tests result (first_negative (L.numbers lengths.now)) }
 {
@@ -19,7 +19,7 @@ fn check_natural<L: Lengths>(lengths: &L) -> Result<(), VortexError>
     Ok(())
 }
 
-/// Finds out whether the lengths are those of a heap of so many bytes.
+// Finds out whether the lengths are those of a heap of so many bytes.
 fn check_exact<L: Lengths>(heap_len: usize, lengths: &L) -> Result<(), VortexError>
     requires { first_negative (L.numbers lengths.now) ≡ None }
     ensures { Tests result (sum_fault heap_len (L.numbers lengths.now)) }
@@ -39,7 +39,7 @@ fn check_exact<L: Lengths>(heap_len: usize, lengths: &L) -> Result<(), VortexErr
     }
 }
 
-/// Finds the first row whose value is longer than the limit.
+// Finds the first row whose value is longer than the limit.
 fn check_short<L: Lengths>(limit: usize, lengths: &L) -> Result<(), VortexError>
     requires { first_negative (L.numbers lengths.now) ≡ None }
     ensures { Tests result (first_too_long limit (L.numbers lengths.now)) }
@@ -52,7 +52,7 @@ fn check_short<L: Lengths>(limit: usize, lengths: &L) -> Result<(), VortexError>
     Ok(())
 }
 
-/// Finds the first offset that is less than the one before it.
+// Finds the first offset that is less than the one before it.
 fn check_rising<P: NativePType>(offsets: &[P]) -> Result<(), VortexError>
     requires { 0 < length offsets.now }
     ensures { Tests result (first_falling (map P.value offsets.now)) }

@@ -32,7 +32,7 @@ pub struct RowLengths<'a, P>(pub &'a [P]);
 #[derive(Drop)]
 pub struct OffsetLengths<'a, P>(pub &'a [P]);
 
-/// A number as a length, if it is not negative.
+// A number as a length, if it is not negative.
 fn as_length(number: i128) -> Option<usize>
     requires { number ≤ℤ pos (2 ^ 64 - 1) }
     ensures negative { IfNone result (IsTrue (is_negative number)) }

@@ -190,7 +190,8 @@ impl BinaryView {
         self.part(4)
     }
 
-    /// The length and the prefix as one number, the length lowest. Equal values have equal heads.
+    /// The length and the prefix as one number, the length lowest. Views of equal values have equal
+    /// heads where they are padded with zeroes, as `make_view` gives them.
     #[tactic(auto, unfolding(crate::specs::Views::view_head))]
     pub fn head(&self) -> u64
         ensures { result ≡ view_head self.now }
