@@ -1,7 +1,8 @@
 // A shared run of booleans, packed eight to a byte.
 #![tactic(auto, using(crate::proofs::PackedBits::length_unpacked, crate::proofs::PackedBits::unpacked_none, crate::proofs::PackedBits::get_unpacked))]
 
-ghost use Rattle.std.specs.Prelude.{ℕ, ◌&&◌, ◌≡◌, ◌≤◌, ◌<◌, ◌+◌, ◌*◌, ◌/◌, ◌^◌, ◌↔◌, Bool, [], length, take, slice_range, count_by, slice_index, IsTrue, ◌%◌, true, false, replicate, ◌-◌, IfOk};
+ghost use Rattle.std.specs.Prelude.{ℕ, ◌&&◌, ◌≡◌, ◌≤◌, ◌<◌, ◌+◌, ◌*◌, ◌/◌, ◌^◌, ◌↔◌, Bool, [], length, take, slice_range, count_by};
+ghost use Rattle.std.specs.Prelude.{slice_index, IsTrue, ◌%◌, true, false, replicate, ◌-◌, IfOk};
 ghost use Rattle.vx_base.specs.Refusals.{Gives};
 ghost use Rattle.std.specs.Bool.{beq};
 ghost use Rattle.std.specs.Cmp.{bool_eq_equiv, on_equiv, partial_equiv_from_equiv};
@@ -442,7 +443,8 @@ impl BitBuffer {
     // Whether the two, which are as long, have the same booleans in their whole bytes.
     fn same_bytes(&self, other: &BitBuffer) -> bool
         requires { length self.now.bits ≡ length other.now.bits }
-        ensures { IsTrue result ↔ (take (8 * (length self.now.bits / 8)) self.now.bits ≡ take (8 * (length self.now.bits / 8)) other.now.bits) }
+        ensures { IsTrue result ↔ (take (8 * (length self.now.bits / 8)) self.now.bits
+            ≡ take (8 * (length self.now.bits / 8)) other.now.bits) }
     {
         let mine = self.bytes.as_slice();
         let theirs = other.bytes.as_slice();

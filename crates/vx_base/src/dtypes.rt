@@ -2,7 +2,8 @@
 
 ghost use Rattle.std.specs.Prelude.{◌≡◌, ◌↔◌, true, IsTrue};
 ghost use Rattle.vx_base.specs.Refusals.{Gives};
-ghost use Rattle.vx_base.specs.Kinds.{is_nullable_kind, or_nullable, with_nullable, is_integers, is_plain_booleans, is_plain_integers, is_records, integer_type, Kind, booleans, texts, binaries, records};
+ghost use Rattle.vx_base.specs.Kinds.{is_nullable_kind, or_nullable, with_nullable, is_integers, is_plain_booleans, is_plain_integers};
+ghost use Rattle.vx_base.specs.Kinds.{is_records, integer_type, Kind, booleans, texts, binaries, records};
 ghost use Rattle.vx_base.specs.SameKind.{kind_eq, kinds_eq};
 ghost use Rattle.vx_base.specs.SameDType.{dtype_eq, dtype_equiv};
 ghost use Rattle.std.specs.Cmp.{partial_equiv_from_equiv};
@@ -104,7 +105,8 @@ impl DType {
     /// The fields of the rows. Asks that they are records.
     pub fn as_struct_fields(&self) -> &StructFields
         requires { is_records (dtype_meaning self.now) ≡ true }
-        ensures { dtype_meaning self.now ≡ records (field_names result.now) (field_kinds result.now) (is_nullable_kind (dtype_meaning self.now)) }
+        ensures { dtype_meaning self.now ≡ records (field_names result.now) (field_kinds result.now)
+            (is_nullable_kind (dtype_meaning self.now)) }
     {
         match self {
             DType::Struct(fields, _) => fields,

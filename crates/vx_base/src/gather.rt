@@ -112,7 +112,8 @@ fn extend_run<const WIDTH: usize>(
     end: usize,
 ) -> Result<(), VortexError>
     requires { All (λ k. k * WIDTH + WIDTH ≤ length bytes.now) (run_positions (start, end)) }
-    ensures { Gives result (λ _. picked.new.items ≡ picked.old.items ++ flat_map (bytes_of_position WIDTH bytes.now) (run_positions (start, end))) }
+    ensures { Gives result (λ _. picked.new.items ≡ picked.old.items
+        ++ flat_map (bytes_of_position WIDTH bytes.now) (run_positions (start, end))) }
 {
     if start < end {
         picked.extend_from_slice(&bytes[start * WIDTH..end * WIDTH])?;
@@ -278,7 +279,8 @@ fn append_items<T: Copy>(
     end: usize,
 ) -> Result<(), VortexError>
     requires { All (λ k. k < length items.now) (run_positions (start, end)) }
-    ensures { Gives result (λ _. (d : T) → picked.new.items ≡ picked.old.items ++ map (item_of_position d items.now) (run_positions (start, end))) }
+    ensures { Gives result (λ _. (d : T) → picked.new.items ≡ picked.old.items
+        ++ map (item_of_position d items.now) (run_positions (start, end))) }
 {
     if start < end {
         picked.extend_from_slice(&items[start..end])?;

@@ -71,7 +71,8 @@ impl StructFields {
     // Whether both have the same names and data types.
     #[cycle(same_dtype)]
     pub(crate) fn same(&self, other: &StructFields) -> bool
-        ensures { result ≡ (pointwise bytes_eq (field_names self.now) (field_names other.now) && kinds_eq (field_kinds self.now) (field_kinds other.now)) }
+        ensures { result ≡ (pointwise bytes_eq (field_names self.now) (field_names other.now)
+            && kinds_eq (field_kinds self.now) (field_kinds other.now)) }
     {
         self.names.as_slice() == other.names.as_slice()
             && same_dtypes(self.dtypes.as_slice(), other.dtypes.as_slice())
@@ -91,7 +92,8 @@ impl StructFields {
 // The data types without data type `i`, shared.
 fn dtypes_without(alloc: Global, dtypes: &[DType], i: usize) -> Result<Vec<DType>, VortexError>
     requires { i < length dtypes.now }
-    ensures { Gives result (λ ds. map dtype_meaning ds.items ≡ map dtype_meaning (take i dtypes.now) ++ map dtype_meaning (drop (i + 1) dtypes.now)) }
+    ensures { Gives result (λ ds. map dtype_meaning ds.items
+        ≡ map dtype_meaning (take i dtypes.now) ++ map dtype_meaning (drop (i + 1) dtypes.now)) }
 {
     let mut rest = Vec::with_capacity(alloc, dtypes.len())?;
     share_dtypes(alloc, &dtypes[..i], &mut rest)?;

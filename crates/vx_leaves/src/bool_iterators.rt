@@ -1,6 +1,7 @@
 // Arrays of the truth values that an iterator gives, and of the places that it gives.
 
-ghost use Rattle.std.specs.Prelude.{◌≡◌, ◌⊎◌, Bool, ℕ, List, Option, Some, unwrap_or, None, false, map, length, replicate, IfOk, IfErr, MatchResult};
+ghost use Rattle.std.specs.Prelude.{◌≡◌, ◌⊎◌, Bool, ℕ, List, Option, Some, unwrap_or, None, false, map, length, replicate, IfOk, IfErr};
+ghost use Rattle.std.specs.Prelude.{MatchResult};
 ghost use Rattle.std.specs.Option.{is_some};
 ghost use Rattle.std.specs.Iterator.{IsFinite, Drains};
 ghost use Rattle.vx_base.specs.Refusals.{Gives, Names, refusal_of, out_of_bounds};

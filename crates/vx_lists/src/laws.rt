@@ -1,11 +1,13 @@
 //! Laws of list layouts. Each function stands for the law that its clause states.
 
-ghost use Rattle.std.specs.Prelude.{◌≡◌, ◌↔◌, ◌<◌, ◌∷◌, [], ℕ, true, false, List, Option, length, map, sum, take, slice_index, slice_index_or};
+ghost use Rattle.std.specs.Prelude.{◌≡◌, ◌↔◌, ◌<◌, ◌∷◌, [], ℕ, true, false, List, Option, length, map, sum, take, slice_index};
+ghost use Rattle.std.specs.Prelude.{slice_index_or};
 ghost use Rattle.std.specs.List.{flat_map};
 ghost use Rattle.vx_base.specs.Rows.{Row, count_in};
 ghost use Rattle.vx_tree.specs.Meaning.{tree_len, row_at, rows};
 ghost use Rattle.vx_tree.specs.Tree.{Tree};
-ghost use Rattle.vx_lists.specs.ListLayout.{ListLayout, layout, rows_of, IsWellFormed, StandsFor, items_of, size_of, canonical, IsTidy, valid_total, numbered, position_rows, map_layout};
+ghost use Rattle.vx_lists.specs.ListLayout.{ListLayout, layout, rows_of, IsWellFormed, StandsFor, items_of, size_of, canonical, IsTidy};
+ghost use Rattle.vx_lists.specs.ListLayout.{valid_total, numbered, position_rows, map_layout};
 ghost use Rattle.vx_lists.specs.ListViews.{counts_in, list_layout_of, list_rows, AreAlike, IsRebuilt};
 
 use crate::list_view::ListViewArray;

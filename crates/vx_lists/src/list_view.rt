@@ -1,6 +1,7 @@
 // Lists that lie anywhere among shared elements.
 
-ghost use Rattle.std.specs.Prelude.{◌≡◌, ◌↔◌, ◌<◌, ◌≤◌, ◌+◌, ◌^◌, true, false, Some, None, IfOk, IsTrue, IsOkUnless, if◌then◌else◌, slice_range};
+ghost use Rattle.std.specs.Prelude.{◌≡◌, ◌↔◌, ◌<◌, ◌≤◌, ◌+◌, ◌^◌, true, false, Some, None, IfOk, IsTrue, IsOkUnless, if◌then◌else◌};
+ghost use Rattle.std.specs.Prelude.{slice_range};
 ghost use Rattle.vx_base.specs.Refusals.{Refuses};
 ghost use Rattle.vx_base.specs.Rows.{count_in, is_present, list_in};
 ghost use Rattle.vx_base.specs.declared.errors.VortexError.TheVariants.{Memory};

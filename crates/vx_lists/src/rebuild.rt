@@ -9,7 +9,8 @@ ghost use Rattle.vx_tree.specs.Operations.{IsSelected};
 ghost use Rattle.vx_lists.specs.declared.rebuild.ListViewRebuildMode.TheVariants.{MakeZeroCopyToList, TrimElements, MakeExact};
 ghost use Rattle.vx_lists.specs.ListViewFaults.{rebuilt_total_fault, rebuild_overflow, rebuild_fault};
 ghost use Rattle.vx_lists.specs.ListReferences.{IsTrimmedToBounds};
-ghost use Rattle.vx_lists.specs.ListViews.{elements_of, offsets_of, sizes_of, flag_of, with_flag, valid_positions_of, IsRebuildPlan, IsRebuilt};
+ghost use Rattle.vx_lists.specs.ListViews.{elements_of, offsets_of, sizes_of, flag_of, with_flag, valid_positions_of, IsRebuildPlan};
+ghost use Rattle.vx_lists.specs.ListViews.{IsRebuilt};
 ghost use Rattle.vx_lists.specs.PlannedRuns.{ArePlannedRuns};
 
 use crate::count_arrays::count_bytes;

@@ -4,7 +4,8 @@ ghost use Rattle.std.specs.Prelude.{◌≡◌, ◌≤◌, ◌<◌, ◌+◌, ◌^
 ghost use Rattle.vx_base.specs.Refusals.{Gives, Refuses};
 ghost use Rattle.vx_views.specs.Cut.{IsCut};
 ghost use Rattle.vx_views.specs.Places.{AreBuilt, ReadBack, value_at};
-ghost use Rattle.vx_views.specs.BuildFaults.{number_at, lengths_of, lengths_between, differences, used_part, bytes_between, lengths_fault, offsets_fault, build_fault, build_from_offsets_fault, IsPieceCount, AreRising};
+ghost use Rattle.vx_views.specs.BuildFaults.{number_at, lengths_of, lengths_between, differences, used_part, bytes_between, lengths_fault};
+ghost use Rattle.vx_views.specs.BuildFaults.{offsets_fault, build_fault, build_from_offsets_fault, IsPieceCount, AreRising};
 
 use crate::length_checks::{check_lengths, check_offsets, used_range};
 use crate::lengths::{Lengths, OffsetLengths, RowLengths, difference};

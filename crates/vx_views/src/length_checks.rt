@@ -2,7 +2,8 @@
 
 ghost use Rattle.std.specs.Prelude.{◌≡◌, ◌≢◌, ◌<◌, ℕ, None, length, map, IfNone, IfSome};
 ghost use Rattle.vx_base.specs.Refusals.{Tests};
-ghost use Rattle.vx_views.specs.BuildFaults.{IsUsedRange, first_negative, first_falling, first_too_long, sum_fault, lengths_fault, offsets_fault};
+ghost use Rattle.vx_views.specs.BuildFaults.{IsUsedRange, first_negative, first_falling, first_too_long, sum_fault, lengths_fault};
+ghost use Rattle.vx_views.specs.BuildFaults.{offsets_fault};
 
 use crate::lengths::{Lengths, OffsetLengths, RowLengths, natural};
 use vx_base::{NativePType, VortexError};

@@ -2,7 +2,9 @@
 
 ghost use Rattle.std.specs.Prelude.{◌≡◌, ◌+◌, ◌^◌, ◌<◌, ◌≤◌, ◌==◌, ◌++◌, ℕ, [], ◌∷◌, IsTrue, ◌↔◌, length, map, slice_range, take, T};
 ghost use Rattle.std.specs.Int.{w128, from_le_bytes, to_le_bytes};
-ghost use Rattle.vx_views.specs.Views.{view_size, view_prefix, view_block, view_offset, view_of, ref_view, inlined_view, held_value, is_inline, IsView, Resolves, view_value, view_head, number_le, view_order_prefix, view_order_tail, prefix_of, head_of, order_prefix_of, order_tail_of, padded, AreBytes};
+ghost use Rattle.vx_views.specs.Views.{view_size, view_prefix, view_block, view_offset, view_of, ref_view, inlined_view, held_value};
+ghost use Rattle.vx_views.specs.Views.{is_inline, IsView, Resolves, view_value, view_head, number_le, view_order_prefix, view_order_tail};
+ghost use Rattle.vx_views.specs.Views.{prefix_of, head_of, order_prefix_of, order_tail_of, padded, AreBytes};
 
 use crate::view_parts::{Inlined, Ref};
 use std::fmt;

@@ -6,7 +6,9 @@ ghost use Rattle.std.specs.Ordering.{nat_cmp};
 ghost use Rattle.std.specs.declared.cmp.Ordering.TheVariants.{Less, Equal, Greater};
 ghost use Rattle.vx_views.specs.Order.{IsSmaller, bytewise, by_words};
 ghost use Rattle.vx_views.specs.Sound.{IsSoundView};
-ghost use Rattle.vx_views.specs.Views.{AreBytes, IsView, IsZeroPadded, Resolves, StandsAt, head_of, order_prefix_of, order_tail_of, prefix_of, view_head, view_of, view_order_prefix, view_order_tail, view_prefix, view_size, view_value};
+ghost use Rattle.vx_views.specs.Views.{AreBytes, IsView, IsZeroPadded, Resolves, StandsAt, head_of, order_prefix_of, order_tail_of};
+ghost use Rattle.vx_views.specs.Views.{prefix_of, view_head, view_of, view_order_prefix, view_order_tail, view_prefix, view_size};
+ghost use Rattle.vx_views.specs.Views.{view_value};
 ghost use Rattle.vx_views.specs.declared.view.TheConstants.{MAX_INLINED_SIZE};
 
 use crate::view::BinaryView;
