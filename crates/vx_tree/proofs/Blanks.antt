@@ -1,6 +1,6 @@
 -- Rows in plain layout of which only the validity is given.
-use Rattle.std.proofs.Common.{ℕ, ◌<◌, ◌≡◌, Bool, true, false, List, [], ◌∷◌, length, map, replicate, refl, sym, ◌∙◌, ap, subst, arith}
-use Rattle.std.specs.Prelude.{◌||◌, pos, slice_index_or, Some, None, if◌then◌else◌}
+use Rattle.std.proofs.Common.{ℕ, suc, ◌<◌, ◌≡◌, Bool, true, false, List, [], ◌∷◌, length, map, replicate, refl, sym, ◌∙◌, ap, subst, arith}
+use Rattle.std.specs.Prelude.{◌||◌, pos, nat_lt, slice_index_or, Some, None, if◌then◌else◌}
 use Rattle.std.proofs.lemmas.List.{length-map, length-replicate, get_or-replicate}
 use Rattle.vx_base.specs.declared.dtypes.DType.{DType}
 use Rattle.vx_base.specs.declared.ptypes.PType.{PType}
@@ -19,6 +19,8 @@ use Rattle.vx_tree.specs.Formed.{ValidFits, AllLen, IsStruct, WellFormed, column
 use Rattle.vx_tree.specs.Plain.{ArePlain, IsPlainValid}
 use Rattle.vx_tree.specs.Operations.{IsZeroes, IsValidityOf, IsValidNulls}
 use Rattle.vx_tree.specs.Canonical.{IsCanonical, IsBlank, IsBlankPart, AreBlankParts, IsCanonicalValid, IsPlainNulls}
+use Rattle.vx_tree.specs.Extents.{extents_of, rows_extent, fields_extents, extent, view_extent, list_extent, fixed_list_extent, struct_extent}
+use Rattle.vx_tree.proofs.RowNames.{null_extent}
 use Rattle.vx_tree.proofs.Nulled.{null_row, nullable_nulled}
 use Rattle.vx_tree.proofs.Dictionaries.{nullable_either}
 use Rattle.vx_tree.proofs.Canonical.{same_nullable}
@@ -27,7 +29,7 @@ use Rattle.vx_tree.proofs.ViewArrays.{empty_is_zeroes}
 
 pub bools_blank : (t : Tree) (k : Kind) (m : Bool) (bits : List Bool) (v : Valid) (n : ℕ) → k ≡ booleans m → nullable v ≡ is_nullable_kind k → IsPlainValid v → t ≡ bools bits v → length bits ≡ n → IsBlank k n v t
 bools_blank t k m bits v n e may p a long =
-    rw a (record { len = long; kind = ap booleans (may ∙ ap is_nullable_kind e) ∙ sym e; plain = p; state = refl; nulls = λ i l. null_row (is_valid_at v i) _ })
+    rw a (record { len = long; kind = ap booleans (may ∙ ap is_nullable_kind e) ∙ sym e; plain = p; state = refl; extent = ap (λ c. rows_extent c []) (sym e); nulls = λ i l. null_row (is_valid_at v i) _ })
 
 pub numbers_blank : (t : Tree) (k : Kind) (p : PType) (m : Bool) (bs : List ℕ) (v : Valid) (n : ℕ) → k ≡ integers p m → nullable v ≡ is_nullable_kind k → IsPlainValid v → t ≡ primitive p bs v
     → numbers p bs ≡ map pos (replicate n 0) → IsBlank k n v t
@@ -37,6 +39,7 @@ numbers_blank t k p m bs v n e may plain a zeroes =
       kind = ap (integers p) (may ∙ ap is_nullable_kind e) ∙ sym e;
       plain = plain;
       state = refl;
+      extent = ap (λ c. rows_extent c []) (sym e);
       nulls = λ i l. null_row (is_valid_at v i) _;
     })
 
@@ -47,6 +50,7 @@ lists_blank t e o s k j m p q v n same may plain a x y z =
       kind = (λ i. lists (x.kind i) (may i)) ∙ ap (λ c. lists j (is_nullable_kind c)) same ∙ sym same;
       plain = (x.plain, y.plain, z.plain, plain);
       state = refl;
+      extent = (λ i. list_extent (x.len i) (x.extent i)) ∙ ap (λ c. rows_extent c []) (sym same);
       nulls = λ i l. null_row (is_valid_at v i) _;
     })
 
@@ -57,6 +61,7 @@ fixed_lists_blank t e k j m size h v n same may plain a x =
       kind = (λ i. fixed_lists (x.kind i) size (may i)) ∙ ap (λ c. fixed_lists j size (is_nullable_kind c)) same ∙ sym same;
       plain = (x.plain, plain);
       state = refl;
+      extent = ap fixed_list_extent x.extent ∙ ap (λ c. rows_extent c []) (sym same);
       nulls = λ i l. null_row (is_valid_at v i) _;
     })
 
@@ -73,6 +78,12 @@ blank_plain [] n [] h = tt
 blank_plain [] n (r ∷ rs) h = absurd h
 blank_plain (d ∷ ds) n [] h = absurd h
 blank_plain (d ∷ ds) n (r ∷ rs) h = (h.0.plain, blank_plain ds n rs h.1)
+
+blank_extents : (c : ℕ) (ds : List DType) (n : ℕ) (rs : List Tree) → AreBlankParts ds n rs → extents_of (trees_from rs) ≡ fields_extents (dtype_kinds ds) c []
+blank_extents c [] n [] h = refl
+blank_extents c [] n (r ∷ rs) h = absurd h
+blank_extents c (d ∷ ds) n [] h = absurd h
+blank_extents c (d ∷ ds) n (r ∷ rs) h = λ i. extent (h.0.extent i) (blank_extents (suc c) ds n rs h.1 i)
 
 blank_lens : (ds : List DType) (n : ℕ) (rs : List Tree) → AreBlankParts ds n rs → AllLen n (trees_from rs)
 blank_lens [] n [] h = tt
@@ -97,6 +108,7 @@ struct_blank t k names ds rs m v n same may plain a x =
       kind = (λ i. records names (blank_kinds ds n rs x i) (may i)) ∙ ap (λ c. records names (dtype_kinds ds) (is_nullable_kind c)) same ∙ sym same;
       plain = (blank_plain ds n rs x, plain);
       state = refl;
+      extent = ap struct_extent (blank_extents 0 ds n rs x) ∙ ap (λ c. rows_extent c []) (sym same);
       nulls = λ i l. null_row (is_valid_at v i) _;
     })
 
@@ -122,9 +134,20 @@ views_blank_formed ws k v n same fits e =
       },
     )
 
-pub views_blank : (t : Tree) (ws : List (List ℕ)) (k : Kind) (v : Valid) (n : ℕ) → IsPlainValid v → t ≡ view_array ws [] k v → ws ≡ replicate n (view_of [] 0 0) → IsBlank k n v t
-views_blank t ws k v n plain a e =
-    rw a (record { len = ap length e ∙ length-replicate {A = List ℕ} n (view_of [] 0 0); kind = refl; plain = plain; state = refl; nulls = λ i l. null_row (is_valid_at v i) _ })
+none_buffered : (u m : Bool) → view_extent 0 ≡ rows_extent (value_kind u m) []
+none_buffered true m = refl
+none_buffered false m = refl
+
+pub views_blank : (t : Tree) (ws : List (List ℕ)) (k : Kind) (v : Valid) (n : ℕ) → k ≡ value_kind (is_texts k) (nullable v) → IsPlainValid v → t ≡ view_array ws [] k v → ws ≡ replicate n (view_of [] 0 0) → IsBlank k n v t
+views_blank t ws k v n same plain a e =
+    rw a (record {
+      len = ap length e ∙ length-replicate {A = List ℕ} n (view_of [] 0 0);
+      kind = refl;
+      plain = plain;
+      state = refl;
+      extent = none_buffered (is_texts k) (nullable v) ∙ ap (λ c. rows_extent c []) (sym same);
+      nulls = λ i l. null_row (is_valid_at v i) _;
+    })
 
 pub ruleset blanks = (bools_blank, numbers_blank, lists_blank, fixed_lists_blank)
 
@@ -140,6 +163,7 @@ plain_nulls_made t r u x y w n of nulls same blank =
       len = blank.len;
       kind = blank.kind;
       plain = blank.plain;
+      extent = blank.extent;
       state = blank.state ∙ same.state ∙ nulls.state ∙ ap (λ s. taken_state s (state_of u)) of.state;
       rows = λ i l. blank.nulls i l (same.bits i l ∙ nulls.bits i l);
     }
@@ -163,6 +187,7 @@ null_canonical k n r may h =
       same = record { len = h.len; kind = h.kind; rows = λ i l. h.nulls i l refl };
       plain = h.plain;
       state = h.state;
+      extent = h.extent ∙ sym (null_extent k (nat_lt 0 n));
       kept = tt;
     }
 

@@ -16,6 +16,7 @@ use Rattle.vx_tree.specs.Meaning.{tree_len, row_at, rows, is_valid_at, nullable,
 use Rattle.vx_tree.specs.Shapes.{state_of, is_nullable_state}
 use Rattle.vx_tree.specs.Formed.{ValidFits, IsMask, IsCounts, IsListView, AllLen, WellFormed}
 use Rattle.vx_tree.specs.Plain.{ArePlain}
+use Rattle.vx_tree.specs.Extents.{extents_of, extent, list_extent, fixed_list_extent, struct_extent}
 use Rattle.vx_tree.specs.Canonical.{HasRowsOf, IsCanonical, AreCanonical, IsCanonicalValid, canonical_fault, columns_fault}
 use Rattle.vx_tree.proofs.RowLists.{rows_by_place}
 use Rattle.vx_tree.proofs.Selected.{nullable-state}
@@ -54,6 +55,7 @@ bools_canonical t r bits v w a b h =
       same = record { len = refl; kind = ap booleans (same_nullable v w h.state); rows = λ i l. valid_row (is_valid_at w i) (is_valid_at v i) _ _ (h.bits i l) refl };
       plain = h.plain;
       state = h.state;
+      extent = refl;
       kept = tt;
     })
 
@@ -63,6 +65,7 @@ numbers_canonical t r p bs v w a b h =
       same = record { len = refl; kind = ap (integers p) (same_nullable v w h.state); rows = λ i l. valid_row (is_valid_at w i) (is_valid_at v i) _ _ (h.bits i l) refl };
       plain = h.plain;
       state = h.state;
+      extent = refl;
       kept = tt;
     })
 
@@ -78,6 +81,7 @@ views_canonical t r vs bs k v w a b h =
       same = record { len = refl; kind = refl; rows = λ i l. valid_row (is_valid_at w i) (is_valid_at v i) _ _ (h.bits i l) refl };
       plain = h.plain;
       state = h.state;
+      extent = refl;
       kept = (refl, refl);
     })
 
@@ -93,6 +97,7 @@ fixed_lists_canonical t r e d k n v w a b long x h =
       };
       plain = (x.plain, h.plain);
       state = h.state;
+      extent = ap fixed_list_extent x.extent;
       kept = tt;
     })
 
@@ -135,6 +140,7 @@ lists_canonical t r e o s d p q v w f a b view x y z h =
       };
       plain = (x.plain, y.plain, z.plain, h.plain);
       state = h.state;
+      extent = λ i. list_extent (x.same.len i) (x.extent i);
       kept = (refl, x.same, y.same, z.same);
     })
 
@@ -153,11 +159,17 @@ plain_each [] (u ∷ us) h = absurd h
 plain_each (t ∷ ts) [] h = absurd h
 plain_each (t ∷ ts) (u ∷ us) h = (h.0.plain, plain_each ts us h.1)
 
+extents_each : (ts us : List Tree) → AllZip IsCanonical ts us → extents_of (trees_from us) ≡ extents_of (trees_from ts)
+extents_each [] [] h = refl
+extents_each [] (u ∷ us) h = absurd h
+extents_each (t ∷ ts) [] h = absurd h
+extents_each (t ∷ ts) (u ∷ us) h = λ i. extent (h.0.extent i) (extents_each ts us h.1 i)
+
 pub AreCanonical-from_each : (n : ℕ) (ts us : List Tree) (i : ℕ) → AllLen n (trees_from ts) → AllZip IsCanonical (take i ts) us → length ts ≤ i → AreCanonical (trees_from ts) n (trees_from us)
 AreCanonical-from_each n ts us i lens h l =
     let each = AllZip-all IsCanonical ts us i h l in
     let full : length ts ≤ length ts = omega arith in
-    record { rows_at = AreRowsAt-from_each (λ i. i) n ts us i (rows_each n (take i ts) us (lens_taken n ts i lens) h) l; plain = plain_each ts us each }
+    record { rows_at = AreRowsAt-from_each (λ i. i) n ts us i (rows_each n (take i ts) us (lens_taken n ts i lens) h) l; plain = plain_each ts us each; extents = extents_each ts us each }
   where
     lens_taken : (n : ℕ) (ts : List Tree) (i : ℕ) → AllLen n (trees_from ts) → AllLen n (trees_from (take i ts))
     lens_taken n [] zero h = tt
@@ -175,6 +187,7 @@ struct_canonical t r ns ts us v w n a b x h =
       };
       plain = (x.plain, h.plain);
       state = h.state;
+      extent = ap struct_extent x.extents;
       kept = tt;
     })
 

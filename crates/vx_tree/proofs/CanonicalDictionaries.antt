@@ -1,6 +1,7 @@
 -- Values in plain layout, taken by codes.
-use Rattle.std.proofs.Common.{ℕ, ◌<◌, ◌≡◌, Bool, false, List, length, Option, Some, None, refl, sym, ◌∙◌, ap, inl, arith}
-use Rattle.std.specs.Prelude.{pos, negsuc, is_some, slice_index, if◌then◌else◌}
+use Rattle.std.proofs.Common.{ℕ, ◌<◌, ◌≡◌, Bool, false, List, [], length, Option, Some, None, refl, sym, ◌∙◌, ap, inl, arith}
+use Rattle.std.proofs.lemmas.Bool.{lt-ltb}
+use Rattle.std.specs.Prelude.{pos, negsuc, nat_lt, is_some, slice_index, if◌then◌else◌}
 use Rattle.vx_base.specs.Refusals.{Refusal, IsMemoryOr}
 use Rattle.vx_base.specs.declared.errors.VortexError.{VortexError}
 use Rattle.vx_base.specs.declared.errors.VortexError.TheVariants.{Memory}
@@ -12,7 +13,9 @@ use Rattle.vx_tree.specs.Shapes.{state_of, tree_state, taken_state}
 use Rattle.vx_tree.specs.Formed.{IsCode, IsDictionary}
 use Rattle.vx_tree.specs.Plain.{IsPlain}
 use Rattle.vx_tree.specs.Operations.{IsSelected, IsNulled, IsValidityOf, ArePositions, or_zero}
+use Rattle.vx_tree.specs.Extents.{extent_of, rows_extent}
 use Rattle.vx_tree.specs.Canonical.{IsCanonical, IsCanonicalValid, IsPlainNulls}
+use Rattle.vx_tree.proofs.RowNames.{rows_extent-or_nullable}
 use Rattle.vx_tree.proofs.Canonical.{same_nullable}
 use Rattle.vx_tree.proofs.Dictionaries.{state_of_nulled, state_of_selected}
 
@@ -21,8 +24,8 @@ picked_row f k b None e same = rw e refl
 picked_row f k b (Some n) e same = rw (e, same) refl
 
 -- the values at the positions that codes name, null where a code is null
-pub named_values : (c v s r : Tree) (ps : List ℕ) (x w : Valid) → IsPlain v → IsValidityOf c x → IsCanonicalValid x (tree_len c) w → ArePositions c (tree_len v) ps → IsSelected v ps s → IsNulled s w r → IsCanonical (dictionary c v false) r
-named_values c v s r ps x w plain codes h are selected nulled =
+pub named_values : (c v s r : Tree) (ps : List ℕ) (x w : Valid) → IsPlain v → 0 < tree_len v → IsValidityOf c x → IsCanonicalValid x (tree_len c) w → ArePositions c (tree_len v) ps → IsSelected v ps s → IsNulled s w r → IsCanonical (dictionary c v false) r
+named_values c v s r ps x w plain some codes h are selected nulled =
     record {
       same = record {
         len = nulled.len ∙ selected.len ∙ are.len;
@@ -35,6 +38,7 @@ named_values c v s r ps x w plain codes h are selected nulled =
       };
       plain = nulled.plain (selected.plain plain) h.plain;
       state = state_of_nulled s r w nulled ∙ (λ i. taken_state (state_of_selected v s ps selected i) ((h.state ∙ codes.state) i));
+      extent = nulled.extent (selected.plain plain) ∙ selected.extent plain ∙ ap (λ b. if b then extent_of v else rows_extent (kind_of v) []) (sym (lt-ltb 0 (tree_len v) some));
       kept = tt;
     }
 
@@ -60,6 +64,7 @@ named_none c v r x w d none codes h nulls =
       };
       plain = nulls.plain;
       state = nulls.state ∙ ap (taken_state (tree_state v)) (h.state ∙ codes.state);
+      extent = nulls.extent ∙ rows_extent-or_nullable (nullable w) (kind_of v) [] ∙ ap (λ n. if nat_lt 0 n then extent_of v else rows_extent (kind_of v) []) (sym none);
       kept = tt;
     }
 
@@ -84,6 +89,7 @@ dictionary_canonical t r c v w f a d x h =
       };
       plain = h.plain;
       state = h.state ∙ ap (λ s. taken_state s (tree_state c)) x.state;
+      extent = h.extent ∙ (λ i. if nat_lt 0 (x.same.len i) then x.extent i else rows_extent (x.same.kind i) []);
       kept = tt;
     })
 

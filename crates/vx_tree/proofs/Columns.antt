@@ -23,6 +23,7 @@ use Rattle.vx_tree.specs.Fitting.{AllFormed, ColumnsFormed}
 use Rattle.vx_tree.specs.Faults.{take_overflow, columns_overflow}
 use Rattle.vx_tree.specs.Operations.{IsSlice, IsValidSlice, IsSelected, IsValidSelected, IsNulled, IsValidNulled, IsNulls, IsValidNulls, AreBelow}
 use Rattle.vx_tree.specs.Plain.{ArePlain}
+use Rattle.vx_tree.specs.Extents.{struct_extent, extent, extents_of}
 use Rattle.vx_tree.specs.Columns.{AllReach, AllHave, AreAlike, AreRowsAt, AreSlices, AreSelected, AreFields}
 use Rattle.vx_tree.proofs.Nulled.{nullable_nulled, two, null_row}
 
@@ -152,6 +153,12 @@ selected_plain ps [] (u ∷ us) h p = absurd h
 selected_plain ps (t ∷ ts) [] h p = absurd h
 selected_plain ps (t ∷ ts) (u ∷ us) h p = (h.0.plain p.0, selected_plain ps ts us h.1 p.1)
 
+selected_extents : (ps : List ℕ) (ts us : List Tree) → AllZip (λ t u. IsSelected t ps u) ts us → ArePlain (trees_from ts) → extents_of (trees_from us) ≡ extents_of (trees_from ts)
+selected_extents ps [] [] h p = refl
+selected_extents ps [] (u ∷ us) h p = absurd h
+selected_extents ps (t ∷ ts) [] h p = absurd h
+selected_extents ps (t ∷ ts) (u ∷ us) h p = λ i. extent (h.0.extent p.0 i) (selected_extents ps ts us h.1 p.1 i)
+
 selected_rows : (ps : List ℕ) (ts us : List Tree) → AllZip (λ t u. IsSelected t ps u) ts us → AllZip (λ t u. IsRowsAt t (slice_index ps) (length ps) u) ts us
 selected_rows ps [] [] h = tt
 selected_rows ps [] (u ∷ us) h = absurd h
@@ -165,6 +172,7 @@ AreSelected-from_each ps ts us i h l =
     record {
       rows_at = record { alike = alike_each (length ps) ts us (alike_of_rows (slice_index ps) (length ps) ts us rows); rows = fields_each (slice_index ps) (length ps) ts us rows };
       plain = selected_plain ps ts us each;
+      extents = selected_extents ps ts us each;
     }
 
 pub IsRowsAt-slice : (t : Tree) (start n : ℕ) (u : Tree) → IsSlice t start n u → IsRowsAt t (λ i. start + i) n u
@@ -265,6 +273,7 @@ struct_selected t u ns ts us v w m ps a b h s =
       kind = λ i. records ns (h.rows_at.alike.kinds i) (s.kind i);
       shape = ap struct_shape s.state;
       plain = λ p. (h.plain p.0, s.plain p.1);
+      extent = λ p. ap struct_extent (h.extents p.0);
       rows = λ i l. record_row ns ts us v w m (length ps) i (slice_index ps i) (s.bits i l) (h.rows_at.rows ns i l);
     })
 
@@ -275,6 +284,7 @@ struct_nulled t r ns ts v u w n a b h =
       kind = ap (records ns (kinds_of ts)) (nullable_nulled v u w h.state);
       shape = ap struct_shape h.state;
       plain = λ p q. (p.0, h.plain p.1 q);
+      extent = λ p. refl;
       rows = λ i l. two (is_valid_at w i) (is_valid_at v i) (is_valid_at u i) _ (h.bits i l);
     })
 

@@ -1,5 +1,5 @@
 -- Slices of slices, and selections of selections.
-use Rattle.std.proofs.Common.{ℕ, ◌+◌, ◌<◌, ◌≡◌, length, map, refl, sym, ◌∙◌, ap, arith}
+use Rattle.std.proofs.Common.{◌+◌, ◌<◌, ◌≡◌, length, refl, sym, ◌∙◌, ap, arith}
 use Rattle.std.specs.Prelude.{slice_index}
 use Rattle.std.proofs.lemmas.List.{length-map, get_or-map}
 use Rattle.vx_tree.specs.Meaning.{row_at}
@@ -44,6 +44,7 @@ selections_compose t r s ps qs h k below =
       kind = k.kind ∙ h.kind;
       shape = k.shape ∙ ap selected_shape h.shape ∙ selected_twice (shape_of t);
       plain = λ p. k.plain (h.plain p);
+      extent = λ p. k.extent (h.plain p) ∙ h.extent p;
       rows = λ i small.
           let inside : i < length qs = rw (length-map qs (slice_index ps)) at small in
           k.rows i inside ∙ h.rows (slice_index qs i) (below i 0 inside) ∙ ap (row_at t) (sym (get_or-map (slice_index ps) qs i 0 0 inside));

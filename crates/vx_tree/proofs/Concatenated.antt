@@ -1,5 +1,5 @@
 -- Arrays that are concatenated: in plain layout they have their kinds and their rows.
-use Rattle.std.proofs.Common.{ℕ, zero, suc, ◌+◌, ◌-◌, ◌<◌, ◌≡◌, Bool, true, false, List, [], ◌∷◌, length, get_or, drop, refl, sym, ◌∙◌, ap, subst, inl, inr, Some, None, arith}
+use Rattle.std.proofs.Common.{ℕ, zero, suc, ◌+◌, ◌-◌, ◌<◌, ◌≡◌, Bool, true, false, List, [], ◌∷◌, length, map, get_or, drop, refl, sym, ◌∙◌, ap, subst, inl, inr, Option, Some, None, arith}
 use Rattle.std.specs.Prelude.{◌&&◌, not, if◌then◌else◌, Result, Ok, Err, IfOk}
 use Rattle.std.specs.List.{All, AllZip, flat_map}
 use Rattle.std.proofs.lemmas.Bool.{cases_lt}
@@ -8,7 +8,7 @@ use Rattle.vx_base.specs.Kinds.{Kind}
 use Rattle.vx_base.specs.SameKind.{kind_eq, kind_eq-Decides}
 use Rattle.vx_base.specs.Rows.{Row, null}
 use Rattle.vx_base.specs.Booleans.{count_fault}
-use Rattle.vx_base.specs.Refusals.{or_else, IsMemoryOr, Names, Refuses, differing_dtypes}
+use Rattle.vx_base.specs.Refusals.{Refusal, or_else, IsMemoryOr, Names, differing_dtypes}
 use Rattle.vx_base.specs.declared.errors.VortexError.{VortexError}
 use Rattle.vx_tree.specs.Tree.{Tree}
 use Rattle.vx_tree.specs.Meaning.{tree_len, kind_of, row_at, rows, trees_from}
@@ -16,11 +16,14 @@ use Rattle.vx_tree.specs.Shapes.{tree_state}
 use Rattle.vx_tree.specs.Plain.{IsPlain}
 use Rattle.vx_tree.specs.Fitting.{AllFormed}
 use Rattle.vx_tree.specs.Canonical.{IsCanonical, columns_fault}
-use Rattle.vx_tree.specs.Joined.{joined_len, joined_state, joined_states, is_flagged, joined_row, join_fault, IsJoined, AreJoinable}
-use Rattle.vx_tree.specs.Concatenated.{are_alike, given_fault, plain_fault, RefusesJoin}
+use Rattle.vx_tree.specs.Joined.{joined_len, joined_state, joined_states, is_flagged, joined_row, parts_join_fault, join_fault, IsJoined, AreJoinable}
+use Rattle.vx_tree.specs.Extents.{extent_of}
+use Rattle.vx_tree.specs.Concatenated.{are_alike, given_fault, extents_fault, plain_fault, concat_fault}
 use Rattle.vx_tree.proofs.RowLists.{length-rows, get_or-rows}
 use Rattle.vx_tree.proofs.JoinedRows.{HoldEach, length-joined, joined_item, joined_same, joined-here, joined-later}
 use Rattle.vx_tree.proofs.JoinedParts.{first_named}
+use Rattle.vx_tree.proofs.JoinedExtents.{extents_fault-of}
+use Rattle.vx_tree.proofs.Dictionaries.{memory_only}
 
 -- ---- kinds
 
@@ -131,35 +134,61 @@ rows_concatenated k ts ps r h joined =
 
 -- ---- faults
 
-pub given_differing : (ts : List Tree) (t : Tree) → 0 < length ts → t ≡ get_or ts 0 t → are_alike (kind_of t) ts ≡ false → given_fault ts ≡ Some differing_dtypes
+given_differing : (ts : List Tree) (t : Tree) → 0 < length ts → t ≡ get_or ts 0 t → are_alike (kind_of t) ts ≡ false → given_fault ts ≡ Some differing_dtypes
 given_differing [] t l e h = absurd (omega arith)
 given_differing (u ∷ ts) t l e h =
     let no : are_alike (kind_of u) (u ∷ ts) ≡ false = subst (λ x. are_alike (kind_of x) (u ∷ ts) ≡ false) e h in
     ap (λ b. or_else (if b then None else Some differing_dtypes) (or_else (count_fault (joined_len (u ∷ ts))) (columns_fault (trees_from (u ∷ ts))))) no
 
-pub given_alike : (ts : List Tree) (t : Tree) → 0 < length ts → t ≡ get_or ts 0 t → are_alike (kind_of t) ts ≡ true → given_fault ts ≡ or_else (count_fault (joined_len ts)) (columns_fault (trees_from ts))
+given_alike : (ts : List Tree) (t : Tree) → 0 < length ts → t ≡ get_or ts 0 t → are_alike (kind_of t) ts ≡ true → given_fault ts ≡ or_else (count_fault (joined_len ts)) (columns_fault (trees_from ts))
 given_alike [] t l e h = absurd (omega arith)
 given_alike (u ∷ ts) t l e h =
     let yes : are_alike (kind_of u) (u ∷ ts) ≡ true = subst (λ x. are_alike (kind_of x) (u ∷ ts) ≡ true) e h in
     ap (λ b. or_else (if b then None else Some differing_dtypes) (or_else (count_fault (joined_len (u ∷ ts))) (columns_fault (trees_from (u ∷ ts))))) yes
 
-pub given_long : (ts : List Tree) (t : Tree) (e : VortexError) → 0 < length ts → t ≡ get_or ts 0 t → are_alike (kind_of t) ts ≡ true → Names (count_fault (joined_len ts)) e → IsMemoryOr (given_fault ts) e
+given_long : (ts : List Tree) (t : Tree) (e : VortexError) → 0 < length ts → t ≡ get_or ts 0 t → are_alike (kind_of t) ts ≡ true → Names (count_fault (joined_len ts)) e → IsMemoryOr (given_fault ts) e
 given_long ts t e l first h named = rw (given_alike ts t l first h) (first_named (count_fault (joined_len ts)) (columns_fault (trees_from ts)) e named)
 
-pub given_plain : (ts : List Tree) (t : Tree) (e : VortexError) → 0 < length ts → t ≡ get_or ts 0 t → are_alike (kind_of t) ts ≡ true → count_fault (joined_len ts) ≡ None → IsMemoryOr (columns_fault (trees_from ts)) e → IsMemoryOr (given_fault ts) e
+given_plain : (ts : List Tree) (t : Tree) (e : VortexError) → 0 < length ts → t ≡ get_or ts 0 t → are_alike (kind_of t) ts ≡ true → count_fault (joined_len ts) ≡ None → IsMemoryOr (columns_fault (trees_from ts)) e → IsMemoryOr (given_fault ts) e
 given_plain ts t e l first h none named = rw (given_alike ts t l first h, none) named
 
 pub given_none : (ts : List Tree) (t : Tree) → 0 < length ts → t ≡ get_or ts 0 t → are_alike (kind_of t) ts ≡ true → count_fault (joined_len ts) ≡ None → columns_fault (trees_from ts) ≡ None → given_fault ts ≡ None
 given_none ts t l first h none plain = given_alike ts t l first h ∙ ap (λ f. or_else f (columns_fault (trees_from ts))) none ∙ plain
 
-plain_fault-first : (ps : List Tree) (p : Tree) → 0 < length ps → p ≡ get_or ps 0 p → plain_fault ps ≡ join_fault (kind_of p) ps
-plain_fault-first [] p l e = absurd (omega arith)
-plain_fault-first (q ∷ ps) p l e = ap (λ x. join_fault (kind_of x) (q ∷ ps)) (sym e)
+-- a fault of what is given comes first
+first_fault : (a b : Option Refusal) (e : VortexError) → IsMemoryOr a e → IsMemoryOr (or_else a b) e
+first_fault a b e (inl memory) = inl memory
+first_fault None b e (inr same) = inl (memory_only None e refl (inr same))
+first_fault (Some r) b e (inr same) = inr same
 
-pub refuses_joined : (r : Result Tree VortexError) (ts ps : List Tree) (p : Tree) → given_fault ts ≡ None → AllZip IsCanonical ts ps → 0 < length ps → p ≡ get_or ps 0 p → Refuses r (join_fault (kind_of p) ps) → RefusesJoin r ts
-refuses_joined (Ok a) ts ps p none h l e refused = (none, (ps, h, plain_fault-first ps p l e ∙ refused))
-refuses_joined (Err x) ts ps p none h l e (inl memory) = inl (inl memory)
-refuses_joined (Err x) ts ps p none h l e (inr same) = inr (none, (ps, h, plain_fault-first ps p l e ∙ same))
+pub concat_differing : (ts : List Tree) (t : Tree) → 0 < length ts → t ≡ get_or ts 0 t → are_alike (kind_of t) ts ≡ false → concat_fault ts ≡ Some differing_dtypes
+concat_differing ts t l first h = ap (λ f. or_else f (plain_fault ts)) (given_differing ts t l first h)
+
+pub concat_long : (ts : List Tree) (t : Tree) (e : VortexError) → 0 < length ts → t ≡ get_or ts 0 t → are_alike (kind_of t) ts ≡ true → Names (count_fault (joined_len ts)) e → IsMemoryOr (concat_fault ts) e
+concat_long ts t e l first h named = first_fault (given_fault ts) (plain_fault ts) e (given_long ts t e l first h named)
+
+pub concat_plain : (ts : List Tree) (t : Tree) (e : VortexError) → 0 < length ts → t ≡ get_or ts 0 t → are_alike (kind_of t) ts ≡ true → count_fault (joined_len ts) ≡ None → IsMemoryOr (columns_fault (trees_from ts)) e → IsMemoryOr (concat_fault ts) e
+concat_plain ts t e l first h none named = first_fault (given_fault ts) (plain_fault ts) e (given_plain ts t e l first h none named)
+
+-- the extents are those in plain layout
+extents_same : (ts ps : List Tree) → AllZip IsCanonical ts ps → map extent_of ps ≡ map extent_of ts
+extents_same [] [] h = refl
+extents_same [] (p ∷ ps) h = absurd h
+extents_same (t ∷ ts) [] h = absurd h
+extents_same (t ∷ ts) (p ∷ ps) h = let rest = extents_same ts ps h.1 in λ i. h.0.extent i ∷ rest i
+
+plain_fault-first : (ts : List Tree) (t : Tree) → 0 < length ts → t ≡ get_or ts 0 t → extents_fault (kind_of t) (joined_len ts) (map extent_of ts) ≡ plain_fault ts
+plain_fault-first [] t l e = absurd (omega arith)
+plain_fault-first (u ∷ ts) t l e = ap (λ x. extents_fault (kind_of x) (joined_len (u ∷ ts)) (map extent_of (u ∷ ts))) e
+
+-- and so is the fault of joining them
+pub join_fault-concat : (ts ps : List Tree) (t : Tree) (k : Kind) → AllZip IsCanonical ts ps → AreJoinable k ps → k ≡ kind_of t → 0 < length ts → t ≡ get_or ts 0 t → count_fault (joined_len ts) ≡ None → given_fault ts ≡ None → join_fault k ps ≡ concat_fault ts
+join_fault-concat ts ps t k h joinable same l first short none =
+    let long = plain_len ts ps h in
+    let extents = extents_same ts ps h in
+    let few : count_fault (joined_len ps) ≡ None = ap count_fault long ∙ short in
+    ap (λ f. or_else f (parts_join_fault k ps)) few ∙ extents_fault-of k ps joinable few ∙ (λ i. extents_fault (same i) (long i) (extents i)) ∙ plain_fault-first ts t l first
+    ∙ sym (ap (λ f. or_else f (plain_fault ts)) none)
 
 -- ---- what is answered
 

@@ -205,6 +205,7 @@ dictionary_selected t r c v d f ps a b h =
       kind = ap (λ k. or_nullable (is_nullable_kind k) (kind_of v)) h.kind;
       shape = ap (λ s. dictionary_shape (taken_state (tree_state v) s) false) (state_by_shape c d (selected_shape (shape_of c)) (tree_state c) h.shape (selected_state (shape_of c) ∙ sym (state_told c)));
       plain = λ p. absurd p;
+      extent = λ p. absurd p;
       rows = λ i l. ap (λ x. picked (row_at v) (position_in x)) (h.rows i l);
     })
 
@@ -226,6 +227,7 @@ dictionary_nulled t r c v d f u a b h =
       kind = nulled_kind (kind_of c) (kind_of d) (kind_of v) (nullable u) h.kind;
       shape = ap (λ s. dictionary_shape s false) (ap (taken_state (tree_state v)) (state_nulled c d (shape_of c) (state_of u) h.shape (sym (state_told c))) ∙ taken_twice (tree_state v) (tree_state c) (state_of u));
       plain = λ p q. absurd p;
+      extent = λ p. absurd p;
       rows = λ i l. ap (λ x. picked (row_at v) (position_in x)) (h.rows i l) ∙ picked_or_null (row_at v) (is_valid_at u i) (row_at c i);
     })
 
@@ -266,11 +268,12 @@ constant_with_nulls t c v k r n u e a b h =
       kind = ap (λ x. or_nullable (is_nullable_kind x) k) h.kind;
       shape = ap (λ s. dictionary_shape (taken_state (row_state k r) s) false) h.state ∙ nulled_constant-dictionary (row_state k r) u e;
       plain = λ p q. absurd p;
+      extent = λ p. absurd p;
       rows = λ i l. ap (λ x. picked (λ j. r) (position_in x)) (h.rows i l) ∙ picked_or_null (λ j. r) (is_valid_at u i) (whole (pos 0));
     })
 
 pub constant_without_nulls : (t : Tree) (k : Kind) (r : Row) (n : ℕ) (u : Valid) → nullable u ≡ false → t ≡ constant k r n → IsNulled (constant k r n) u t
-constant_without_nulls t k r n non_nullable e a = rw a (record { len = refl; kind = sym (same_kind k); shape = refl; plain = λ p q. absurd p; rows = λ i l. refl })
+constant_without_nulls t k r n non_nullable e a = rw a (record { len = refl; kind = sym (same_kind k); shape = refl; plain = λ p q. absurd p; extent = λ p. absurd p; rows = λ i l. refl })
 constant_without_nulls t k r n all_valid e a = absurd (cc)
 constant_without_nulls t k r n all_invalid e a = absurd (cc)
 constant_without_nulls t k r n (by_array m) e a = absurd (cc)

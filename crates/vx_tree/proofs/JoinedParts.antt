@@ -145,7 +145,7 @@ kinds-in : Kind → Kinds → Kinds
 kinds-in (records ns ks n) d = ks
 kinds-in _ d = d
 
-columns-kinds : (t : Tree) (ns : List (List ℕ)) (ks : Kinds) (n : Bool) → is_struct t ≡ true → kind_of t ≡ records ns ks n → kinds_of (columns_in t) ≡ ks
+pub columns-kinds : (t : Tree) (ns : List (List ℕ)) (ks : Kinds) (n : Bool) → is_struct t ≡ true → kind_of t ≡ records ns ks n → kinds_of (columns_in t) ≡ ks
 unfolding kinds-in
 columns-kinds (structure ms ts v m) ns ks n h e = ap (λ q. kinds-in q ks) e
 columns-kinds _ ns ks n h e = cc

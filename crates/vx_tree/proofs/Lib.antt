@@ -18,6 +18,7 @@ pub mod WorkedViews
 pub mod Composed
 pub mod Canonical
 pub mod PlainKinds
+pub mod RowNames
 pub mod Blanks
 pub mod PlainValues
 pub mod PlainTexts
@@ -37,4 +38,5 @@ pub mod JoinedListViews
 pub mod JoinedKinds
 pub mod JoinedParts
 pub mod JoinedViews
+pub mod JoinedExtents
 pub mod Concatenated

@@ -56,6 +56,7 @@ bools_nulled t r bits v u w a b h =
       kind = ap booleans (nullable_nulled v u w h.state);
       shape = ap bool_shape h.state;
       plain = h.plain;
+      extent = λ p. refl;
       rows = λ i l. two (is_valid_at w i) (is_valid_at v i) (is_valid_at u i) _ (h.bits i l);
     })
 
@@ -66,6 +67,7 @@ numbers_nulled t r p bs v u w a b h =
       kind = ap (integers p) (nullable_nulled v u w h.state);
       shape = ap primitive_shape h.state;
       plain = h.plain;
+      extent = λ p. refl;
       rows = λ i l. two (is_valid_at w i) (is_valid_at v i) (is_valid_at u i) _ (h.bits i l);
     })
 
@@ -76,6 +78,7 @@ lists_nulled t r e o s v u w f a b h =
       kind = ap (lists (kind_of e)) (nullable_nulled v u w h.state);
       shape = ap (λ st. list_view_shape e st f) h.state;
       plain = λ p q. (p.0, p.1, p.2, h.plain p.3 q);
+      extent = λ p. refl;
       rows = λ i l. two (is_valid_at w i) (is_valid_at v i) (is_valid_at u i) _ (h.bits i l);
     })
 
@@ -86,6 +89,7 @@ fixed_lists_nulled t r e k n v u w a b h =
       kind = ap (fixed_lists (kind_of e) k) (nullable_nulled v u w h.state);
       shape = ap fixed_list_shape h.state;
       plain = λ p q. (p.0, h.plain p.1 q);
+      extent = λ p. refl;
       rows = λ i l. two (is_valid_at w i) (is_valid_at v i) (is_valid_at u i) _ (h.bits i l);
     })
 

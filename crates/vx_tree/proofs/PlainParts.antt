@@ -1,13 +1,12 @@
 -- Values that are lists or records, in plain layout.
-use Rattle.std.proofs.Common.{ℕ, zero, suc, ◌+◌, ◌*◌, ◌-◌, ◌^◌, ◌<◌, ◌≤◌, ◌≡◌, Bool, true, false, cond, List, [], ◌∷◌, ◌++◌, length, map, take, drop, replicate, get_or, Option, Some, None, refl, sym, ◌∙◌, ap, subst, zero-add, inl, inr, arith}
-use Rattle.std.specs.Prelude.{◌&&◌, ◌↔◌, IsTrue, count_by, nat_lt, slice_index, slice_index_or, if◌then◌else◌}
+use Rattle.std.proofs.Common.{ℕ, zero, suc, ◌+◌, ◌*◌, ◌-◌, ◌^◌, ◌<◌, ◌≤◌, ◌≡◌, Bool, true, false, List, [], ◌∷◌, ◌++◌, length, map, take, drop, replicate, get_or, Option, Some, None, refl, sym, ◌∙◌, ap, subst, zero-add, inl, inr, arith}
+use Rattle.std.specs.Prelude.{◌&&◌, ◌↔◌, IsTrue, nat_lt, slice_index, slice_index_or, if◌then◌else◌}
 use Rattle.std.specs.List.{All, flat_map, range_with_len}
 use Rattle.std.proofs.lemmas.Grind.{flat_map-append}
 use Rattle.std.proofs.lemmas.List.Elements.{All-nil, All-append}
 use Rattle.std.proofs.lemmas.Bool.{lt-ltb, le-ltb}
 use Rattle.std.proofs.lemmas.List.{length-map, length-take-le, get_or_past, get_or-map, length-append, append-nil, take_more, take_all, drop_all, map-append, length-replicate}
 use Rattle.std.proofs.lemmas.List.FromFn.{map-range_with_len_more, get_or-map-range_with_len, length-map-range_with_len}
-use Rattle.std.proofs.lemmas.List.Sums.{sum_by-cons}
 use Rattle.std.proofs.lemmas.List.Concat.{get_or-flat_map}
 use Rattle.std.proofs.lemmas.List.Folds.{length-flat_map-take}
 use Rattle.vx_base.specs.declared.scalar_value.ScalarValue.{ScalarValue}
@@ -17,7 +16,7 @@ use Rattle.vx_base.specs.declared.errors.VortexError.{VortexError}
 use Rattle.vx_base.proofs.Defaults.{take_push}
 use Rattle.vx_base.proofs.StructKinds.{from_place}
 use Rattle.vx_base.specs.DTypes.{dtype_meaning, kinds_of as dtype_kinds}
-use Rattle.vx_base.specs.Defaults.{is_even, even_fields, default_fault}
+use Rattle.vx_base.specs.Defaults.{default_fault}
 use Rattle.vx_tree.specs.Shapes.{state_of, never_null, none_null, every_null}
 use Rattle.vx_tree.specs.Faults.{take_overflow}
 use Rattle.vx_tree.specs.Fitting.{AllFormed}
@@ -31,11 +30,15 @@ use Rattle.vx_tree.specs.Meaning.{tree_len, kinds_of, row_at, fields_at, rows_ra
 use Rattle.vx_tree.specs.Formed.{ValidFits, WellFormed, AllLen, IsStruct, column_count, value_kind}
 use Rattle.vx_tree.specs.Plain.{ArePlain}
 use Rattle.vx_tree.specs.Joined.{IsCountsOf}
-use Rattle.vx_tree.specs.PlainValues.{ArePlainValues, ArePlainRows, ArePlainFields, AreSpread, FieldsFitNamed, FitsNamed, FitsIfThere, field_at, field_in, fields_fault, items_in, items_or_nulls, is_long, value_bytes, is_long_row, list_places, list_sizes, rows_fault, values_valid, long_values, buffers_overflow}
+use Rattle.vx_tree.specs.RowParts.{field_at, field_in, items_in, items_or_nulls}
+use Rattle.vx_tree.specs.Extents.{extents_of, rows_extent, fields_extents, extent, list_extent, fixed_list_extent, struct_extent}
+use Rattle.vx_tree.specs.PlainValues.{ArePlainValues, ArePlainRows, ArePlainFields, AreSpread, FieldsFitNamed, FitsNamed, FitsIfThere, fields_fault, list_places, list_sizes, rows_fault, values_valid, long_values, buffers_overflow}
 use Rattle.vx_tree.proofs.Blanks.{default_even}
-use Rattle.vx_tree.proofs.PlainKinds.{both_true, is_even-or_nullable, take_overflow-plain, plain_overflow-none}
+use Rattle.vx_tree.proofs.PlainKinds.{is_even-or_nullable, take_overflow-plain, plain_overflow-none}
 use Rattle.vx_tree.proofs.Dictionaries.{memory_only}
 use Rattle.vx_tree.proofs.JoinedListViews.{counts_of-are}
+use Rattle.vx_tree.proofs.RowNames.{rows_fault-named}
+use Rattle.vx_tree.proofs.PlainTexts.{long_rows}
 use Rattle.vx_tree.proofs.PlainValues.{values_valid-nullable, values_valid-plain, values_valid-fits, row_of_value}
 
 -- ---- the parts of a value
@@ -304,6 +307,8 @@ lists_made t e o s k m v vs ws os ns valid x elements places sizes a =
       kind = λ i. lists (elements.kind i) (values_valid-nullable m vs i);
       plain = (elements.plain, places.plain, sizes.plain, values_valid-plain m vs);
       state = refl;
+      extent =
+          (λ i. list_extent ((elements.len ∙ sym (length-map ws option_row)) i) (elements.extent i)) ∙ ap (λ qs. list_extent (length qs) (rows_extent k qs)) x.items;
       rows = λ i l fits.
           let inside : i < length rs = rw (length-map vs option_row) l in
           let from : count_in (row_at o i) ≡ length (flat_map items_in (take i rs)) = ap count_in (places.rows i (omega (arith, l, olen, places.len))) ∙ ap (λ (xs : List ℕ). slice_index xs i) x.places ∙ place_at rs i inside in
@@ -360,6 +365,7 @@ fixed_lists_made t e k size n m v vs ws valid long same all elements a =
       kind = λ i. fixed_lists (elements.kind i) size (values_valid-nullable m vs i);
       plain = (elements.plain, values_valid-plain m vs);
       state = refl;
+      extent = ap fixed_list_extent (elements.extent ∙ ap (rows_extent k) same);
       rows = λ i l fits.
           let inside : i < length rs = rw (length-map vs option_row) l in
           let sized = all_sized k size m vs all in
@@ -407,37 +413,25 @@ field_values_fit ds c d vs ws h l here same =
 
 -- and in plain layout they are its rows
 pub field_rows : (d : DType) (c : ℕ) (vs ws : List (Option ScalarValue)) (t : Tree) → map option_row ws ≡ map (field_in c) (map option_row vs) → ArePlainValues (dtype_meaning d) ws t
-    → ArePlainRows (dtype_meaning d) (map (λ r. named (dtype_meaning d) (field_in c r)) (map option_row vs)) t
+    → ArePlainRows (dtype_meaning d) (map (field_in c) (map option_row vs)) t
 field_rows d c vs ws t same x =
     let k = dtype_meaning d in
-    let rs = map option_row vs in
-    let long : length ws ≡ length rs = sym (length-map ws option_row) ∙ ap length same ∙ length-map rs (field_in c) in
-    record {
-      len = x.len ∙ long ∙ sym (length-map rs (λ r. named k (field_in c r)));
-      kind = x.kind;
-      plain = x.plain;
-      rows = λ i l fits.
-          let inside : i < length rs = rw (length-map rs (λ r. named k (field_in c r))) at l in
-          let mine : slice_index_or (map (λ r. named k (field_in c r)) rs) i null ≡ named k (field_in c (get_or rs i null)) = get_or-map (λ r. named k (field_in c r)) rs i null null inside in
-          let there : get_or (map option_row ws) i null ≡ field_in c (get_or rs i null) = ap (λ (xs : List Row). get_or xs i null) same ∙ get_or-map (field_in c) rs i null null inside in
-          let again : slice_index_or (map (λ r. named k (field_in c r)) rs) i null ≡ named k (get_or (map option_row ws) i null) = mine ∙ ap (named k) (sym there) in
-          element_rows k ws t x i (rw (length-map ws option_row, long) inside) (subst (Fits k) again fits) ∙ sym again;
-    }
+    subst (λ rs. ArePlainRows k rs t) same (record { len = x.len ∙ sym (length-map ws option_row); kind = x.kind; plain = x.plain; extent = x.extent; rows = λ i l fits. element_rows k ws t x i l fits })
 
 -- one field more
-pub ArePlainFields-push : (c : ℕ) (ds : List DType) (d : DType) (rs : List Row) (ts : List Tree) (t : Tree) → ArePlainFields c ds rs ts → ArePlainRows (dtype_meaning d) (map (λ r. named (dtype_meaning d) (field_in (c + length ds) r)) rs) t
+pub ArePlainFields-push : (c : ℕ) (ds : List DType) (d : DType) (rs : List Row) (ts : List Tree) (t : Tree) → ArePlainFields c ds rs ts → ArePlainRows (dtype_meaning d) (map (field_in (c + length ds)) rs) t
     → ArePlainFields c (ds ++ d ∷ []) rs (ts ++ t ∷ [])
-ArePlainFields-push c [] d rs [] t h x = (subst (λ n. ArePlainRows (dtype_meaning d) (map (λ r. named (dtype_meaning d) (field_in n r)) rs) t) {x = c + 0} {y = c} (omega arith) x, tt)
+ArePlainFields-push c [] d rs [] t h x = (subst (λ n. ArePlainRows (dtype_meaning d) (map (field_in n) rs) t) {x = c + 0} {y = c} (omega arith) x, tt)
 ArePlainFields-push c [] d rs (u ∷ ts) t h x = absurd h
 ArePlainFields-push c (e ∷ ds) d rs [] t h x = absurd h
 ArePlainFields-push c (e ∷ ds) d rs (u ∷ ts) t h x =
-    (h.0, ArePlainFields-push (suc c) ds d rs ts t h.1 (subst (λ n. ArePlainRows (dtype_meaning d) (map (λ r. named (dtype_meaning d) (field_in n r)) rs) t) {x = c + suc (length ds)} {y = suc c + length ds} (omega arith) x))
+    (h.0, ArePlainFields-push (suc c) ds d rs ts t h.1 (subst (λ n. ArePlainRows (dtype_meaning d) (map (field_in n) rs) t) {x = c + suc (length ds)} {y = suc c + length ds} (omega arith) x))
 
 pub ArePlainFields-next : (ds : List DType) (i : ℕ) (d : DType) (rs : List Row) (ts us : List Tree) (t : Tree) → ArePlainFields 0 (take i ds) rs ts → i < length ds → d ≡ slice_index_or ds i d
-    → ArePlainRows (dtype_meaning d) (map (λ r. named (dtype_meaning d) (field_in i r)) rs) t → us ≡ ts ++ t ∷ [] → ArePlainFields 0 (take (i + 1) ds) rs us
+    → ArePlainRows (dtype_meaning d) (map (field_in i) rs) t → us ≡ ts ++ t ∷ [] → ArePlainFields 0 (take (i + 1) ds) rs us
 ArePlainFields-next ds i d rs ts us t h l here x e =
     let place : 0 + length (take i ds) ≡ i = omega (arith, length-take-le i ds (omega arith)) in
-    let pushed = ArePlainFields-push 0 (take i ds) d rs ts t h (subst (λ n. ArePlainRows (dtype_meaning d) (map (λ r. named (dtype_meaning d) (field_in n r)) rs) t) (sym place) x) in
+    let pushed = ArePlainFields-push 0 (take i ds) d rs ts t h (subst (λ n. ArePlainRows (dtype_meaning d) (map (field_in n) rs) t) (sym place) x) in
     subst (λ es. ArePlainFields 0 es rs us) (sym (take_push ds i d l here)) (subst (λ vs. ArePlainFields 0 (take i ds ++ d ∷ []) rs vs) (sym e) pushed)
 
 pub ArePlainFields-all : (ds : List DType) (i : ℕ) (rs : List Row) (ts : List Tree) → ArePlainFields 0 (take i ds) rs ts → length ds ≤ i → ArePlainFields 0 ds rs ts
@@ -455,11 +449,17 @@ fields_plain c [] rs (t ∷ ts) h = absurd h
 fields_plain c (d ∷ ds) rs [] h = absurd h
 fields_plain c (d ∷ ds) rs (t ∷ ts) h = (h.0.plain, fields_plain (suc c) ds rs ts h.1)
 
+fields_extents-of : (c : ℕ) (ds : List DType) (rs : List Row) (ts : List Tree) → ArePlainFields c ds rs ts → extents_of (trees_from ts) ≡ fields_extents (dtype_kinds ds) c rs
+fields_extents-of c [] rs [] h = refl
+fields_extents-of c [] rs (t ∷ ts) h = absurd h
+fields_extents-of c (d ∷ ds) rs [] h = absurd h
+fields_extents-of c (d ∷ ds) rs (t ∷ ts) h = λ i. extent (h.0.extent i) (fields_extents-of (suc c) ds rs ts h.1 i)
+
 fields_lens : (c : ℕ) (ds : List DType) (rs : List Row) (ts : List Tree) → ArePlainFields c ds rs ts → AllLen (length rs) (trees_from ts)
 fields_lens c [] rs [] h = tt
 fields_lens c [] rs (t ∷ ts) h = absurd h
 fields_lens c (d ∷ ds) rs [] h = absurd h
-fields_lens c (d ∷ ds) rs (t ∷ ts) h = (h.0.len ∙ length-map rs (λ r. named (dtype_meaning d) (field_in c r)), fields_lens (suc c) ds rs ts h.1)
+fields_lens c (d ∷ ds) rs (t ∷ ts) h = (h.0.len ∙ length-map rs (field_in c), fields_lens (suc c) ds rs ts h.1)
 
 fields_count : (c : ℕ) (ds : List DType) (rs : List Row) (ts : List Tree) → ArePlainFields c ds rs ts → length ds ≡ column_count (trees_from ts)
 fields_count c [] rs [] h = refl
@@ -481,9 +481,8 @@ fields_of_row c [] (d ∷ ds) rs (t ∷ ts) i (field m r gs) h l same fits = abs
 fields_of_row c (n ∷ names) (d ∷ ds) rs (t ∷ ts) i no_fields h l same fits = absurd fits
 fields_of_row c (n ∷ names) (d ∷ ds) rs (t ∷ ts) i (field m r gs) h l same fits =
     let k = dtype_meaning d in
-    let q = λ (x : Row). named k (field_in c x) in
-    let mine : slice_index_or (map q rs) i null ≡ named k r = get_or-map q rs i null null l ∙ ap (λ j. named k (field_in j (get_or rs i null))) {x = c} {y = c + 0} (omega arith) ∙ ap (named k) (same 0) in
-    let here : row_at t i ≡ named k r = h.0.rows i (rw (length-map rs q) l) (subst (Fits k) (sym mine) fits.1) ∙ mine in
+    let mine : named k (slice_index_or (map (field_in c) rs) i null) ≡ named k r = ap (named k) (get_or-map (field_in c) rs i null null l ∙ ap (λ j. field_in j (get_or rs i null)) {x = c} {y = c + 0} (omega arith) ∙ same 0) in
+    let here : row_at t i ≡ named k r = h.0.rows i (rw (length-map rs (field_in c)) l) (subst (Fits k) (sym mine) fits.1) ∙ mine in
     let rest = fields_of_row (suc c) names ds rs ts i gs h.1 l (λ j. ap (λ p. field_in p (get_or rs i null)) {x = suc c + j} {y = c + suc j} (omega arith) ∙ same (suc j)) fits.2 in
     λ j. field n (here j) (rest j)
 
@@ -511,6 +510,7 @@ records_made t names ds m v vs ts n valid long x a =
       kind = λ i. records names (fields_kinds 0 ds rs ts x i) (values_valid-nullable m vs i);
       plain = (fields_plain 0 ds rs ts x, values_valid-plain m vs);
       state = refl;
+      extent = ap struct_extent (fields_extents-of 0 ds rs ts x);
       rows = λ i l fits.
           row_of_value (records names (dtype_kinds ds) m) vs i (record_of (fields_at (trees_from ts) names i)) l
           (λ y here h. record_row names ds m rs ts i y x (rw (length-map vs option_row) l) (raw_row vs i y l here) h)
@@ -518,24 +518,6 @@ records_made t names ds m v vs ts n valid long x a =
     })
 
 -- ---- faults
-
-long_row : (v : Option ScalarValue) → is_long_row (option_row v) ≡ is_long (value_bytes v)
-long_row None = refl
-long_row (Some (value.Bool b)) = refl
-long_row (Some (value.Int z)) = refl
-long_row (Some (value.Bytes bs)) = refl
-long_row (Some (value.Text bs)) = refl
-long_row (Some (value.List rs)) = refl
-long_row (Some (value.Record rs)) = refl
-
-long_more : (b : Bool) (v : Option ScalarValue) (vs : List (Option ScalarValue)) → is_long_row (option_row v) ≡ b → count_by is_long_row (map option_row vs) ≡ length (long_values vs)
-    → count_by is_long_row (map option_row (v ∷ vs)) ≡ length (if b then value_bytes v ∷ long_values vs else long_values vs)
-long_more true v vs e rest = sum_by-cons (λ y. cond (is_long_row y) 1 0) (option_row v) (map option_row vs) ∙ (λ i. cond (e i) 1 0 + rest i) ∙ omega arith
-long_more false v vs e rest = sum_by-cons (λ y. cond (is_long_row y) 1 0) (option_row v) (map option_row vs) ∙ (λ i. cond (e i) 1 0 + rest i) ∙ omega arith
-
-long_rows : (vs : List (Option ScalarValue)) → count_by is_long_row (map option_row vs) ≡ length (long_values vs)
-long_rows [] = refl
-long_rows (v ∷ vs) = long_more (is_long (value_bytes v)) v vs (long_row v) (long_rows vs)
 
 value_texts_fault : (u n : Bool) (vs : List (Option ScalarValue)) → buffers_overflow (length (long_values vs)) ≡ rows_fault (value_kind u n) (map option_row vs)
 value_texts_fault true n vs = ap buffers_overflow (sym (long_rows vs))
@@ -576,129 +558,6 @@ pub fields_refused : (ds : List DType) (i : ℕ) (d : DType) (rs qs : List Row) 
 fields_refused ds i d rs qs all e h inside here same refused =
     subst (λ f. IsMemoryOr f e) (sym (fields_fault-from ds i d rs inside here) ∙ h)
     (first_refused (rows_fault (dtype_meaning d) (map (field_in i) rs)) (fields_fault (dtype_kinds (drop (i + 1) ds)) (i + 1) rs) e (subst (λ xs. IsMemoryOr (rows_fault (dtype_meaning d) xs) e) same refused))
-
--- ---- names change no fault
-
-flat_named : (k j : Kind) (f : Row → List Row) → ((r : Row) → f (named j r) ≡ map (named k) (f r)) → (rs : List Row) → flat_map f (map (named j) rs) ≡ map (named k) (flat_map f rs)
-flat_named k j f h [] = refl
-flat_named k j f h (r ∷ rs) = (λ i. h r i ++ flat_named k j f h rs i) ∙ sym (map-append (named k) (f r) (flat_map f rs))
-
-named_null : (k : Kind) → named k null ≡ null
-named_null (booleans n) = refl
-named_null (integers t n) = refl
-named_null (texts n) = refl
-named_null (binaries n) = refl
-named_null (lists k n) = refl
-named_null (fixed_lists k size n) = refl
-named_null (records names ks n) = refl
-
-list_named : (k : Kind) (rs : Rows) → list_from (all_named k rs) ≡ map (named k) (list_from rs)
-list_named k no_rows = refl
-list_named k (row r rs) = ap (λ xs. named k r ∷ xs) (list_named k rs)
-
-items_named : (k : Kind) (m : Bool) (r : Row) → items_in (named (lists k m) r) ≡ map (named k) (items_in r)
-items_named k m null = refl
-items_named k m (boolean b) = refl
-items_named k m (whole z) = refl
-items_named k m (bytes bs) = refl
-items_named k m (text bs) = refl
-items_named k m (items rs) = list_named k rs
-items_named k m (record_of fs) = refl
-
-nulls_named : (k : Kind) (n : ℕ) → replicate n null ≡ map (named k) (replicate n null)
-nulls_named k zero = refl
-nulls_named k (suc n) = λ i. sym (named_null k) i ∷ nulls_named k n i
-
-fixed_items_named : (k : Kind) (size : ℕ) (m : Bool) (r : Row) → items_or_nulls size (named (fixed_lists k size m) r) ≡ map (named k) (items_or_nulls size r)
-fixed_items_named k size m null = nulls_named k size
-fixed_items_named k size m (boolean b) = nulls_named k size
-fixed_items_named k size m (whole z) = nulls_named k size
-fixed_items_named k size m (bytes bs) = nulls_named k size
-fixed_items_named k size m (text bs) = nulls_named k size
-fixed_items_named k size m (items rs) = list_named k rs
-fixed_items_named k size m (record_of fs) = nulls_named k size
-
--- the kinds from place c on
-abbrev from_field : ℕ → Kinds → Kinds
-from_field zero ks = ks
-from_field (suc c) no_kinds = no_kinds
-from_field (suc c) (kind k ks) = from_field c ks
-
-next_field : (c : ℕ) (ks js : Kinds) (j : Kind) → from_field c ks ≡ kind j js → from_field (suc c) ks ≡ js
-next_field zero no_kinds js j e = cc
-next_field zero (kind k ks) js j e = cc
-next_field (suc c) no_kinds js j e = cc
-next_field (suc c) (kind k ks) js j e = next_field c ks js j e
-
-fields_at_named : (names : List (List ℕ)) (ks js : Kinds) (j : Kind) (c : ℕ) (fs : Fields) → even_fields names ks ≡ true → from_field c ks ≡ kind j js → field_at c (fields_named names ks fs) ≡ named j (field_at c fs)
-fields_at_named [] no_kinds js j zero fs h e = absurd (cc)
-fields_at_named [] no_kinds js j (suc c) fs h e = absurd (cc)
-fields_at_named [] (kind k ks) js j c fs h e = absurd (cc)
-fields_at_named (n ∷ names) no_kinds js j c fs h e = absurd (cc)
-fields_at_named (n ∷ names) (kind k ks) js j c no_fields h e = sym (named_null j)
-fields_at_named (n ∷ names) (kind k ks) js j zero (field m r fs) h e = let same : k ≡ j = cc in ap (λ x. named x r) same
-fields_at_named (n ∷ names) (kind k ks) js j (suc c) (field m r fs) h e = fields_at_named names ks js j c fs (both_true (is_even k) (even_fields names ks) h).1 e
-
-field_named : (names : List (List ℕ)) (ks js : Kinds) (m : Bool) (j : Kind) (c : ℕ) (r : Row) → even_fields names ks ≡ true → from_field c ks ≡ kind j js → field_in c (named (records names ks m) r) ≡ named j (field_in c r)
-field_named names ks js m j c null h e = sym (named_null j)
-field_named names ks js m j c (boolean b) h e = sym (named_null j)
-field_named names ks js m j c (whole z) h e = sym (named_null j)
-field_named names ks js m j c (bytes bs) h e = sym (named_null j)
-field_named names ks js m j c (text bs) h e = sym (named_null j)
-field_named names ks js m j c (items rs) h e = sym (named_null j)
-field_named names ks js m j c (record_of fs) h e = fields_at_named names ks js j c fs h e
-
-field_each : (names : List (List ℕ)) (ks js : Kinds) (m : Bool) (j : Kind) (c : ℕ) (rs : List Row) → even_fields names ks ≡ true → from_field c ks ≡ kind j js
-    → map (field_in c) (map (named (records names ks m)) rs) ≡ map (named j) (map (field_in c) rs)
-field_each names ks js m j c [] h e = refl
-field_each names ks js m j c (r ∷ rs) h e = λ i. field_named names ks js m j c r h e i ∷ field_each names ks js m j c rs h e i
-
-long_named : (k : Kind) (rs : List Row) → ((r : Row) → named k r ≡ r) → map (named k) rs ≡ rs
-long_named k [] h = refl
-long_named k (r ∷ rs) h = λ i. h r i ∷ long_named k rs h i
-
-named_text : (n : Bool) (r : Row) → named (texts n) r ≡ r
-named_text n null = refl
-named_text n (boolean b) = refl
-named_text n (whole z) = refl
-named_text n (bytes bs) = refl
-named_text n (text bs) = refl
-named_text n (items rs) = refl
-named_text n (record_of fs) = refl
-
-named_binary : (n : Bool) (r : Row) → named (binaries n) r ≡ r
-named_binary n null = refl
-named_binary n (boolean b) = refl
-named_binary n (whole z) = refl
-named_binary n (bytes bs) = refl
-named_binary n (text bs) = refl
-named_binary n (items rs) = refl
-named_binary n (record_of fs) = refl
-
-even_rest : (names : List (List ℕ)) (k : Kind) (ks : Kinds) (c : ℕ) (js : Kinds) (j : Kind) → even_fields names ks ≡ true → from_field c ks ≡ kind j js → is_even j ≡ true
-even_rest names k no_kinds zero js j h e = absurd (cc)
-even_rest names k no_kinds (suc c) js j h e = absurd (cc)
-even_rest [] k (kind i ks) c js j h e = absurd (cc)
-even_rest (n ∷ names) k (kind i ks) zero js j h e = let same : i ≡ j = cc in ap is_even (sym same) ∙ (both_true (is_even i) (even_fields names ks) h).0
-even_rest (n ∷ names) k (kind i ks) (suc c) js j h e = even_rest names k ks c js j (both_true (is_even i) (even_fields names ks) h).1 e
-
-mutual
-  pub rows_fault-named : (k : Kind) (rs : List Row) → is_even k ≡ true → rows_fault k (map (named k) rs) ≡ rows_fault k rs
-  rows_fault-named (booleans n) rs h = refl
-  rows_fault-named (integers t n) rs h = refl
-  rows_fault-named (texts n) rs h = ap (rows_fault (texts n)) (long_named (texts n) rs (named_text n))
-  rows_fault-named (binaries n) rs h = ap (rows_fault (binaries n)) (long_named (binaries n) rs (named_binary n))
-  rows_fault-named (lists k n) rs h = ap (rows_fault k) (flat_named k (lists k n) items_in (items_named k n) rs) ∙ rows_fault-named k (flat_map items_in rs) h
-  rows_fault-named (fixed_lists k size n) rs h =
-      let rest = ap (rows_fault k) (flat_named k (fixed_lists k size n) (items_or_nulls size) (fixed_items_named k size n) rs) ∙ rows_fault-named k (flat_map (items_or_nulls size) rs) h in
-      λ i. if nat_lt (length-map rs (named (fixed_lists k size n)) i * size) (2 ^ 64) then rest i else Some overflow
-  rows_fault-named (records names ks n) rs h = fields_fault-named names ks ks n 0 rs h refl
-
-  fields_fault-named : (names : List (List ℕ)) (ks js : Kinds) (m : Bool) (c : ℕ) (rs : List Row) → even_fields names ks ≡ true → from_field c ks ≡ js → fields_fault js c (map (named (records names ks m)) rs) ≡ fields_fault js c rs
-  fields_fault-named names ks no_kinds m c rs h e = refl
-  fields_fault-named names ks (kind j js) m c rs h e =
-      let here = ap (rows_fault j) (field_each names ks js m j c rs h e) ∙ rows_fault-named j (map (field_in c) rs) (even_rest names j ks c js j h e) in
-      λ i. or_else (here i) (fields_fault-named names ks js m (suc c) rs h (next_field c ks js j e) i)
 
 -- ---- one value
 
@@ -769,6 +628,7 @@ none_canonical a k r vs e here x =
     record {
       same = record { len = y.len; kind = y.kind; rows = λ i l. absurd (omega arith) };
       plain = y.plain;
+      extent = y.extent;
       state = y.state ∙ state_of_none (is_nullable_kind k) ∙ ap (λ b. if b then (if is_nullable_kind k then none_null else never_null) else every_null) (sym here);
       kept = tt;
     }

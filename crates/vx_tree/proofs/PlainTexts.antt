@@ -1,27 +1,30 @@
 -- Texts and byte lists in plain layout.
-use Rattle.std.proofs.Common.{ℕ, zero, suc, ◌+◌, ◌^◌, ◌<◌, ◌≤◌, ◌≡◌, ◌++◌, Bool, true, false, ltb, List, [], ◌∷◌, length, take, replicate, get_or, Option, Some, None, refl, sym, ◌∙◌, ap, subst, add-zero, inl, inr, ◌⊎◌, ◌-◌, arith}
-use Rattle.std.specs.Prelude.{IsTrue, IsUtf8, slice_range, slice_index_or, if◌then◌else◌}
+use Rattle.std.proofs.Common.{ℕ, zero, suc, ◌+◌, ◌^◌, ◌<◌, ◌≤◌, ◌≡◌, ◌++◌, Bool, true, false, cond, List, [], ◌∷◌, length, map, take, replicate, get_or, Option, Some, None, refl, sym, ◌∙◌, ap, subst, add-zero, inl, inr, ◌⊎◌, ◌-◌, arith}
+use Rattle.std.specs.Prelude.{count_by, IsTrue, IsUtf8, slice_range, slice_index_or, if◌then◌else◌}
 use Rattle.std.specs.List.{All}
 use Rattle.std.proofs.lemmas.Bool.{lt-ltb, le-ltb, cases_lt}
+use Rattle.std.proofs.lemmas.List.Sums.{sum_by-cons}
 use Rattle.std.proofs.lemmas.List.{length-append, take_all, take-append-le}
 use Rattle.vx_base.specs.declared.scalar_value.ScalarValue.{ScalarValue}
 use Rattle.vx_base.specs.declared.scalar_value.ScalarValue.TheVariants as value
-use Rattle.vx_base.specs.Kinds.{Kind, texts, binaries, Fits, is_nullable_kind}
+use Rattle.vx_base.specs.Kinds.{Kind, Fits, is_nullable_kind}
 use Rattle.vx_base.proofs.Defaults.{take_push}
 use Rattle.vx_base.specs.Refusals.{refusal_of, IsMemoryOr, overflow}
 use Rattle.vx_base.specs.declared.errors.VortexError.{VortexError}
-use Rattle.vx_base.specs.Rows.{Row, null, bytes, text}
-use Rattle.vx_base.specs.ValueRows.{row_under}
+use Rattle.vx_base.specs.Rows.{null}
+use Rattle.vx_base.specs.ValueRows.{option_row, row_under}
 use Rattle.vx_views.specs.Views.{view_size, view_prefix, view_value, view_of, buffer_at, padded, prefix_of}
 use Rattle.vx_views.specs.Sound.{IsSoundView}
 use Rattle.vx_views.specs.declared.view.TheConstants.{MAX_INLINED_SIZE}
-use Rattle.vx_views.proofs.Places.{ReadsAs, IsThere, view_of-reads, view_of_short, size_of_inlined, prefix_of_view}
+use Rattle.vx_views.proofs.Places.{ReadsAs, view_of-reads, view_of_short, size_of_inlined, prefix_of_view}
 use Rattle.vx_tree.specs.Tree.{Tree, view_array, Valid}
-use Rattle.vx_tree.specs.Meaning.{row_at, is_valid_at, nullable, is_texts, value_row}
+use Rattle.vx_tree.specs.Meaning.{is_valid_at, nullable, is_texts, value_row}
 use Rattle.vx_tree.specs.Shapes.{state_of}
 use Rattle.vx_tree.specs.Formed.{WellFormed, value_kind}
-use Rattle.vx_tree.specs.PlainValues.{FitsIfThere, values_valid, value_bytes, is_long, long_values, values_views, buffers_overflow, AreTexts, ArePlainValues}
-use Rattle.vx_tree.proofs.PlainValues.{values_valid-nullable, values_valid-plain, values_valid-fits, there_valid, none_valid, row_of_value}
+use Rattle.vx_tree.specs.RowParts.{is_long, is_long_row}
+use Rattle.vx_tree.specs.Extents.{rows_extent, view_extent}
+use Rattle.vx_tree.specs.PlainValues.{FitsIfThere, values_valid, value_bytes, long_values, values_views, buffers_overflow, AreTexts, ArePlainValues}
+use Rattle.vx_tree.proofs.PlainValues.{values_valid-nullable, values_valid-plain, values_valid-fits, there_valid, row_of_value}
 use Rattle.vx_tree.proofs.ViewArrays.{empty_is_zeroes}
 use Rattle.vx_tree.proofs.Dictionaries.{memory_only}
 use Rattle.vx_tree.proofs.Worked.{are_below, are_text}
@@ -196,6 +199,32 @@ texts_formed-of u n vs ws bs v e fit x =
       },
     )
 
+-- ---- the buffers of values
+
+long_row : (v : Option ScalarValue) → is_long_row (option_row v) ≡ is_long (value_bytes v)
+long_row None = refl
+long_row (Some (value.Bool b)) = refl
+long_row (Some (value.Int z)) = refl
+long_row (Some (value.Bytes bs)) = refl
+long_row (Some (value.Text bs)) = refl
+long_row (Some (value.List rs)) = refl
+long_row (Some (value.Record rs)) = refl
+
+long_more : (b : Bool) (v : Option ScalarValue) (vs : List (Option ScalarValue)) → is_long_row (option_row v) ≡ b → count_by is_long_row (map option_row vs) ≡ length (long_values vs)
+    → count_by is_long_row (map option_row (v ∷ vs)) ≡ length (if b then value_bytes v ∷ long_values vs else long_values vs)
+long_more true v vs e rest = sum_by-cons (λ y. cond (is_long_row y) 1 0) (option_row v) (map option_row vs) ∙ (λ i. cond (e i) 1 0 + rest i) ∙ omega arith
+long_more false v vs e rest = sum_by-cons (λ y. cond (is_long_row y) 1 0) (option_row v) (map option_row vs) ∙ (λ i. cond (e i) 1 0 + rest i) ∙ omega arith
+
+pub long_rows : (vs : List (Option ScalarValue)) → count_by is_long_row (map option_row vs) ≡ length (long_values vs)
+long_rows [] = refl
+long_rows (v ∷ vs) = long_more (is_long (value_bytes v)) v vs (long_row v) (long_rows vs)
+
+texts_extent : (u n : Bool) (vs : List (Option ScalarValue)) → view_extent (length (long_values vs)) ≡ rows_extent (value_kind u n) (map option_row vs)
+texts_extent true n vs = ap view_extent (sym (long_rows vs))
+texts_extent false n vs = ap view_extent (sym (long_rows vs))
+
+-- ---- in plain layout
+
 texts_made-of : (u n : Bool) (t : Tree) (vs : List (Option ScalarValue)) (ws bs : List (List ℕ)) (v : Valid) → v ≡ values_valid n vs → All (FitsIfThere (value_kind u n)) vs → AreTexts vs ws bs → t ≡ view_array ws bs (value_kind u n) v
     → ArePlainValues (value_kind u n) vs t
 texts_made-of u n t vs ws bs v e fit x a =
@@ -204,6 +233,7 @@ texts_made-of u n t vs ws bs v e fit x a =
       len = ap length x.views ∙ values_views-long 0 vs;
       kind = refl;
       plain = values_valid-plain n vs;
+      extent = ap (λ xs. view_extent (length xs)) x.buffers ∙ texts_extent u n vs;
       state = ap (λ b. state_of (values_valid b vs)) (sym isn);
       rows = λ i l fits.
           let k = value_kind u n in

@@ -2,6 +2,7 @@
 use Rattle.std.proofs.Common.{ℕ, zero, suc, ◌<◌, ◌≡◌, Bool, true, false, eqb, List, [], ◌∷◌, length, map, replicate, get_or, Option, Some, None, refl, sym, ◌∙◌, ap, subst, zero-add, arith}
 use Rattle.std.specs.Prelude.{ℤ, pos, is_some, slice_index, slice_index_or, count_by, if◌then◌else◌}
 use Rattle.std.specs.List.{All}
+use Rattle.std.proofs.lemmas.Bool.{lt-ltb}
 use Rattle.std.proofs.lemmas.List.{length-map, get_or-map, length-replicate, get_or-replicate}
 use Rattle.std.proofs.lemmas.List.FromFn.{get_or-map-range_with_len}
 use Rattle.vx_base.specs.declared.scalar_value.ScalarValue.{ScalarValue}
@@ -11,8 +12,9 @@ use Rattle.vx_base.specs.Bits.{bool_at}
 use Rattle.vx_base.specs.Integers.{numbers}
 use Rattle.vx_base.specs.Kinds.{Kind, booleans, integers, texts, binaries, lists, fixed_lists, records, Fits, is_nullable_kind, is_integers, integer_type}
 use Rattle.vx_base.specs.Rows.{Row, null, boolean, whole, is_present}
+use Rattle.vx_base.specs.Defaults.{is_even}
 use Rattle.vx_base.specs.Selections.{number_of_position}
-use Rattle.vx_base.specs.ValueRows.{value_row, named, row_under}
+use Rattle.vx_base.specs.ValueRows.{value_row, option_row, named, row_under}
 use Rattle.vx_tree.specs.Tree.{Tree, bools, primitive, constant, Valid, non_nullable, all_valid, all_invalid, by_array}
 use Rattle.vx_tree.specs.Meaning.{row_at, is_valid_at, nullable}
 use Rattle.vx_tree.specs.Formed.{ValidFits}
@@ -22,6 +24,8 @@ use Rattle.vx_tree.specs.Canonical.{IsCanonical}
 use Rattle.vx_tree.specs.Plain.{IsPlainValid}
 use Rattle.vx_tree.specs.Validities.{valid_from}
 use Rattle.vx_tree.specs.PlainValues.{truth_in, number_or_zero, FitsIfThere, values_valid, ArePlainValues}
+use Rattle.vx_tree.specs.Extents.{rows_extent}
+use Rattle.vx_tree.proofs.RowNames.{named_null, rows_extent-named}
 use Rattle.vx_tree.proofs.Dictionaries.{state_of_selected}
 use Rattle.vx_tree.proofs.Validities.{valid_from-mask}
 
@@ -92,6 +96,7 @@ truths_rows t m bits v vs e a same =
       kind = ap booleans (values_valid-nullable m vs);
       plain = values_valid-plain m vs;
       state = refl;
+      extent = refl;
       rows = λ i l fits.
           let bit : bool_at bits i ≡ truth_in (slice_index_or vs i None) = ap (λ (bs : List Bool). bool_at bs i) same ∙ get_or-map truth_in vs i None false l in
           row_of_value (booleans m) vs i (boolean (bool_at bits i)) l (λ x here h. ap boolean (bit ∙ ap truth_in here) ∙ truth_row m x h) refl (λ h. h) fits;
@@ -121,21 +126,13 @@ numbers_made t k p bs v vs kind e a same = subst (λ x. ArePlainValues x vs t) (
           kind = ap (integers p) (values_valid-nullable m vs);
           plain = values_valid-plain m vs;
           state = refl;
+          extent = refl;
           rows = λ i l fits.
               let number : number_of_position (numbers p bs) i ≡ number_or_zero (slice_index_or vs i None) = ap (λ (zs : List ℤ). number_of_position zs i) same ∙ get_or-map number_or_zero vs i None (pos 0) l in
               row_of_value (integers p m) vs i (whole (number_of_position (numbers p bs) i)) l (λ x here h. ap whole (number ∙ ap number_or_zero here) ∙ number_row p m x h) refl (λ h. h) fits;
         })
 
 -- ---- one value, over and over
-
-named_null : (k : Kind) → named k null ≡ null
-named_null (booleans n) = refl
-named_null (integers t n) = refl
-named_null (texts n) = refl
-named_null (binaries n) = refl
-named_null (lists k n) = refl
-named_null (fixed_lists k size n) = refl
-named_null (records names ks n) = refl
 
 named_there : (k : Kind) (x : ScalarValue) → is_present (named k (value_row x)) ≡ true
 named_there (booleans n) (value.Bool b) = refl
@@ -202,13 +199,14 @@ one_fits k (Some x) h zero d l = h
 one_fits k v h (suc i) d l = absurd (omega arith)
 
 -- one value in plain layout is a constant of one row in plain layout
-pub one_canonical : (t : Tree) (k : Kind) (r : Row) (v : Option ScalarValue) → row_under k v ≡ r → Fits k r → ArePlainValues k (v ∷ []) t → IsCanonical (constant k r 1) t
-one_canonical t k r v e fits h =
+pub one_canonical : (t : Tree) (k : Kind) (r : Row) (v : Option ScalarValue) → row_under k v ≡ r → Fits k r → is_even k ≡ true → ArePlainValues k (v ∷ []) t → IsCanonical (constant k r 1) t
+one_canonical t k r v e fits even h =
     let here : Fits k (row_under k v) = subst (Fits k) (sym e) fits in
     record {
       same = record { len = h.len; kind = h.kind; rows = λ i l. only i l here };
       plain = h.plain;
       state = h.state ∙ state_of_one k v here ∙ ap (row_state k) e;
+      extent = h.extent ∙ sym (rows_extent-named k (option_row v ∷ []) even) ∙ ap (λ x. rows_extent k (x ∷ [])) e;
       kept = tt;
     }
   where
@@ -220,8 +218,8 @@ pub zeroes_below : (n : ℕ) → All (λ k. k < 1) (replicate n 0)
 zeroes_below n i d l = let same : get_or (replicate n 0) i d ≡ 0 = get_or-replicate n i 0 d (rw (length-replicate {A = ℕ} n 0) at l) in rw same (omega arith)
 
 -- and so is that row, over and over
-pub constant_canonical : (t a b : Tree) (k : Kind) (r : Row) (n : ℕ) (ps : List ℕ) → t ≡ constant k r n → IsCanonical (constant k r 1) a → ps ≡ replicate n 0 → IsSelected a ps b → IsCanonical t b
-constant_canonical t a b k r n ps e x same h =
+pub constant_canonical : (t a b : Tree) (k : Kind) (r : Row) (n : ℕ) (ps : List ℕ) → t ≡ constant k r n → 0 < n → IsCanonical (constant k r 1) a → ps ≡ replicate n 0 → IsSelected a ps b → IsCanonical t b
+constant_canonical t a b k r n ps e some x same h =
     let long : length ps ≡ n = ap length same ∙ length-replicate {A = ℕ} n 0 in
     rw e (record {
       same = record {
@@ -234,6 +232,7 @@ constant_canonical t a b k r n ps e x same h =
       };
       plain = h.plain x.plain;
       state = state_of_selected a b ps h ∙ x.state;
+      extent = h.extent x.plain ∙ x.extent ∙ ap (λ b. rows_extent k (if b then r ∷ [] else [])) (sym (lt-ltb 0 n some));
       kept = tt;
     })
 

@@ -79,6 +79,7 @@ bools_selected t u bits new v w ps p q e h =
       kind = ap booleans h.kind;
       shape = ap bool_shape h.state;
       plain = h.plain;
+      extent = λ p. refl;
       rows = λ i l. bool_row bits new v w i (slice_index ps i) (h.bits i l) (ap (λ (bs : List Bool). bool_at bs i) e ∙ get_or-map (bit_of_position bits) ps i 0 false l);
     })
 
@@ -90,6 +91,7 @@ numbers_selected t u p bs new v w ps a b e h =
       kind = ap (integers p) h.kind;
       shape = ap primitive_shape h.state;
       plain = h.plain;
+      extent = λ p. refl;
       rows = λ i l. number_row p bs new v w i (slice_index ps i) (h.bits i l) (ap (λ (zs : List ℤ). number_of_position zs i) e ∙ get_or-map (number_of_position (numbers p bs)) ps i 0 (pos 0) l);
     })
 
@@ -101,5 +103,6 @@ lists_selected t u e o s o2 s2 v w f ps a b x y h =
       kind = ap (lists (kind_of e)) h.kind;
       shape = ap (λ st. list_view_shape e st false) h.state;
       plain = λ p. (p.0, x.plain p.1, y.plain p.2, h.plain p.3);
+      extent = λ p. refl;
       rows = λ i l. list_row e o s o2 s2 v w f false i (slice_index ps i) (h.bits i l) (x.rows i l) (y.rows i l);
     })

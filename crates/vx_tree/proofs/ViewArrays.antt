@@ -119,6 +119,7 @@ views_selected t u vs bs ws k v w ps a b r h =
       kind = refl;
       shape = ap (view_shape bs) r.state;
       plain = h.plain;
+      extent = λ p. refl;
       rows = λ i l. view_row bs k vs ws v w i (slice_index ps i) (r.bits i l) (r.views i l);
     })
 
@@ -200,6 +201,7 @@ views_nulled t r vs bs ws k v u w a b h made =
       kind = refl;
       shape = ap (view_shape bs) h.state;
       plain = h.plain;
+      extent = λ p. refl;
       rows = λ i l. two (is_valid_at w i) (is_valid_at v i) (is_valid_at u i) (value_row (is_texts k) (view_value bs (slice_index_or vs i []))) (value_row (is_texts (or_nullable (nullable u) k)) (view_value bs (slice_index_or ws i []))) (h.bits i l)
           (λ valid. ap (λ c. value_row c (view_value bs (slice_index_or ws i []))) (is_texts-or_nullable (nullable u) k)
           ∙ ap (λ (view : List ℕ). value_row (is_texts k) (view_value bs view)) (made.views i l ∙ ap (λ (c : Bool). if c then slice_index_or vs i [] else replicate 16 0) valid));

@@ -14,6 +14,7 @@ use Rattle.vx_tree.specs.Formed.{ValidFits}
 use Rattle.vx_tree.specs.Plain.{IsPlain, ArePlain, IsPlainValid}
 use Rattle.vx_tree.specs.Columns.{AreRowsAt}
 use Rattle.vx_tree.specs.PlainValues.{rows_fault}
+use Rattle.vx_tree.specs.Extents.{extent_of, extents_of, rows_extent}
 
 -- the same rows, of the same kind
 pub record HasRowsOf (t r : Tree) : Type 0 where
@@ -29,17 +30,19 @@ KeepsParts (view_array vs bs k v) (view_array ws cs k2 w) = (ws ≡ vs) × (cs �
 KeepsParts (view_array vs bs k v) _ = ⊥
 KeepsParts _ _ = Unit {0}
 
--- the same rows in plain layout, in the same state
+-- the same rows in plain layout, in the same state and of the same extent
 pub record IsCanonical (t r : Tree) : Type 0 where
   pub same : HasRowsOf t r
   pub plain : IsPlain r
   pub state : tree_state r ≡ tree_state t
+  pub extent : extent_of r ≡ extent_of t
   pub kept : KeepsParts t r
 
 -- n rows of each column, in plain layout
 pub record AreCanonical (ts : Trees) (n : ℕ) (us : Trees) : Type 0 where
   pub rows_at : AreRowsAt ts (λ i. i) n us
   pub plain : ArePlain us
+  pub extents : extents_of us ≡ extents_of ts
 
 -- the validity of the same n rows, its array a plain one
 pub record IsCanonicalValid (v : Valid) (n : ℕ) (w : Valid) : Type 0 where
@@ -87,12 +90,13 @@ abbrev mutual
   columns_fault no_trees = None
   columns_fault (tree t ts) = or_else (canonical_fault t) (columns_fault ts)
 
--- n rows of a kind in plain layout, of which a validity is known
+-- n rows of a kind in plain layout, of which a validity is known: no list has elements, no text a buffer
 pub record IsBlank (k : Kind) (n : ℕ) (v : Valid) (r : Tree) : Type 0 where
   pub len : tree_len r ≡ n
   pub kind : kind_of r ≡ k
   pub plain : IsPlain r
   pub state : tree_state r ≡ state_of v
+  pub extent : extent_of r ≡ rows_extent k []
   pub nulls : (i : ℕ) → i < n → is_valid_at v i ≡ false → row_at r i ≡ null
 
 -- n rows of a kind in plain layout
@@ -100,6 +104,7 @@ pub record IsBlankPart (k : Kind) (n : ℕ) (r : Tree) : Type 0 where
   pub len : tree_len r ≡ n
   pub kind : kind_of r ≡ k
   pub plain : IsPlain r
+  pub extent : extent_of r ≡ rows_extent k []
 
 -- n rows of the kind of each data type, in plain layout
 abbrev pub AreBlankParts : List DType → ℕ → List Tree → Type 0
@@ -111,4 +116,5 @@ pub record IsPlainNulls (k : Kind) (n : ℕ) (s : State) (r : Tree) : Type 0 whe
   pub kind : kind_of r ≡ k
   pub plain : IsPlain r
   pub state : tree_state r ≡ s
+  pub extent : extent_of r ≡ rows_extent k []
   pub rows : (i : ℕ) → i < n → row_at r i ≡ null

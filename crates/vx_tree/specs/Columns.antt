@@ -6,6 +6,7 @@ use Rattle.vx_tree.specs.Tree.{Trees, no_trees, tree}
 use Rattle.vx_tree.specs.Meaning.{tree_len, kind_of, kinds_of, row_at, fields_at}
 use Rattle.vx_tree.specs.Formed.{AllLen, column_count}
 use Rattle.vx_tree.specs.Plain.{ArePlain}
+use Rattle.vx_tree.specs.Extents.{extents_of}
 use Rattle.vx_tree.specs.Operations.{AreBelow}
 
 -- each column has n rows or more
@@ -33,10 +34,11 @@ pub record AreRowsAt (ts : Trees) (f : ℕ → ℕ) (n : ℕ) (us : Trees) : Typ
 abbrev pub AreSlices : Trees → ℕ → ℕ → Trees → Type 0
 AreSlices ts start n us = AreRowsAt ts (λ i. start + i) n us
 
--- the rows of each column at positions, plain where the columns are
+-- the rows of each column at positions, plain and of the same extents where the columns are plain
 pub record AreSelected (ts : Trees) (ps : List ℕ) (us : Trees) : Type 0 where
   pub rows_at : AreRowsAt ts (slice_index ps) (length ps) us
   pub plain : ArePlain ts → ArePlain us
+  pub extents : ArePlain ts → extents_of us ≡ extents_of ts
 
 -- the values of the rows i of columns, one a column
 abbrev pub AreFields : Trees → ℕ → List (Option ScalarValue) → Type 0

@@ -1,15 +1,16 @@
 -- Arrays that are concatenated.
-use Rattle.std.specs.Prelude.{◌≡◌, ◌⊎◌, Bool, true, ◌&&◌, List, [], ◌∷◌, if◌then◌else◌, Option, Some, None, Result, MatchResult}
-use Rattle.std.specs.List.{AllZip}
-use Rattle.vx_base.specs.Kinds.{Kind}
+use Rattle.std.specs.Prelude.{◌*◌, ℕ, suc, Bool, true, ◌&&◌, List, [], ◌∷◌, map, if◌then◌else◌, Option, Some, None}
+use Rattle.std.specs.List.{sum_by}
+use Rattle.vx_base.specs.Kinds.{Kind, texts, binaries, lists, fixed_lists, records, Kinds, no_kinds, kind}
 use Rattle.vx_base.specs.SameKind.{kind_eq}
 use Rattle.vx_base.specs.Booleans.{count_fault}
-use Rattle.vx_base.specs.Refusals.{Refusal, IsMemoryOr, empty_input, differing_dtypes, refusal_of, or_else}
-use Rattle.vx_base.specs.declared.errors.VortexError.{VortexError}
+use Rattle.vx_base.specs.Refusals.{Refusal, empty_input, differing_dtypes, or_else}
 use Rattle.vx_tree.specs.Tree.{Tree}
 use Rattle.vx_tree.specs.Meaning.{kind_of, trees_from}
-use Rattle.vx_tree.specs.Canonical.{IsCanonical, columns_fault}
-use Rattle.vx_tree.specs.Joined.{joined_len, join_fault}
+use Rattle.vx_tree.specs.Canonical.{columns_fault}
+use Rattle.vx_tree.specs.PlainValues.{buffers_overflow}
+use Rattle.vx_tree.specs.Extents.{Extent, extent_of, buffer_count, element_count, elements_extent, column_extent}
+use Rattle.vx_tree.specs.Joined.{joined_len}
 
 -- all of them are of a kind
 abbrev pub are_alike : Kind → List Tree → Bool
@@ -22,18 +23,28 @@ given_fault [] = Some empty_input
 given_fault (t ∷ ts) =
     or_else (if are_alike (kind_of t) (t ∷ ts) then None else Some differing_dtypes) (or_else (count_fault (joined_len (t ∷ ts))) (columns_fault (trees_from (t ∷ ts))))
 
--- the parts of plain arrays, of the kind of the first, cannot be joined
+-- arrays of a kind, with so many rows together, of these extents: their lists have together more elements than can be counted, or
+-- their texts or byte lists more buffers than can be numbered
+abbrev mutual
+  pub extents_fault : Kind → ℕ → List Extent → Option Refusal
+  extents_fault (lists k m) n xs =
+      or_else (count_fault (sum_by element_count xs)) (extents_fault k (sum_by element_count xs) (map elements_extent xs))
+  extents_fault (fixed_lists k size m) n xs = or_else (count_fault (n * size)) (extents_fault k (n * size) (map elements_extent xs))
+  extents_fault (records names ks m) n xs = fields_extents_fault ks 0 n xs
+  extents_fault (texts m) n xs = buffers_overflow (sum_by buffer_count xs)
+  extents_fault (binaries m) n xs = buffers_overflow (sum_by buffer_count xs)
+  extents_fault _ n xs = None
+
+  -- of the fields from place c on
+  pub fields_extents_fault : Kinds → ℕ → ℕ → List Extent → Option Refusal
+  fields_extents_fault no_kinds c n xs = None
+  fields_extents_fault (kind k ks) c n xs = or_else (extents_fault k n (map (column_extent c) xs)) (fields_extents_fault ks (suc c) n xs)
+
+-- the same of arrays of the kind of the first
 abbrev pub plain_fault : List Tree → Option Refusal
 plain_fault [] = None
-plain_fault (p ∷ ps) = join_fault (kind_of p) (p ∷ ps)
+plain_fault (t ∷ ts) = extents_fault (kind_of t) (joined_len (t ∷ ts)) (map extent_of (t ∷ ts))
 
--- the fault of joining the arrays in plain layout
-abbrev pub IsPlainFault : List Tree → Option Refusal → Type 0
-IsPlainFault ts fault = (ps : List Tree) × AllZip IsCanonical ts ps × (plain_fault ps ≡ fault)
-
--- a call answers Ok only where there is no fault, and else the first, or want of memory in place of either: of what is
--- given, then of joining the arrays in plain layout
-abbrev pub RefusesJoin : {A : Type 0} → Result A VortexError → List Tree → Type 0
-RefusesJoin r ts =
-    MatchResult r (λ _. (given_fault ts ≡ None) × IsPlainFault ts None)
-    (λ e. IsMemoryOr (given_fault ts) e ⊎ ((given_fault ts ≡ None) × IsPlainFault ts (refusal_of e)))
+-- the first fault of what is given, then that of joining it in plain layout
+abbrev pub concat_fault : List Tree → Option Refusal
+concat_fault ts = or_else (given_fault ts) (plain_fault ts)

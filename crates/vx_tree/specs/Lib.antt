@@ -4,6 +4,8 @@ pub mod Shapes
 pub mod Formed
 pub mod Parts
 pub mod Plain
+pub mod RowParts
+pub mod Extents
 pub mod Canonical
 pub mod PlainValues
 pub mod Layouts

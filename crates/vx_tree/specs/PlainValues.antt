@@ -1,21 +1,22 @@
 -- Values, one a row, in plain layout.
-use Rattle.std.specs.Prelude.{◌≡◌, ◌<◌, ◌≤◌, ◌+◌, ◌*◌, ◌^◌, ℕ, zero, suc, ℤ, pos, Bool, true, false, List, [], ◌∷◌, length, map, take, replicate, count_by, Option, Some, None, is_some, slice_index_or, nat_lt, if◌then◌else◌}
+use Rattle.std.specs.Prelude.{◌≡◌, ◌<◌, ◌≤◌, ◌+◌, ◌*◌, ◌^◌, ℕ, suc, ℤ, pos, Bool, true, false, List, [], ◌∷◌, length, map, take, count_by, Option, Some, None, is_some, slice_index_or, nat_lt, if◌then◌else◌}
 use Rattle.std.specs.List.{All, flat_map, range_with_len}
 use Rattle.vx_base.specs.declared.dtypes.DType.{DType}
 use Rattle.vx_base.specs.DTypes.{dtype_meaning}
 use Rattle.vx_base.specs.declared.scalar_value.ScalarValue.{ScalarValue}
 use Rattle.vx_base.specs.declared.scalar_value.ScalarValue.TheVariants as value
 use Rattle.vx_base.specs.Kinds.{Kind, texts, binaries, lists, fixed_lists, records, Kinds, no_kinds, kind, Fits, is_nullable_kind}
-use Rattle.vx_base.specs.Rows.{Row, null, bytes, text, items, record_of, Fields, no_fields, field, truth_of, list_from}
+use Rattle.vx_base.specs.Rows.{Row, null, truth_of}
 use Rattle.vx_base.specs.ValueRows.{value_row, option_row, named, row_under}
 use Rattle.vx_base.specs.Refusals.{Refusal, overflow, or_else}
 use Rattle.vx_views.specs.Views.{view_of}
-use Rattle.vx_views.specs.declared.view.TheConstants.{MAX_INLINED_SIZE}
 use Rattle.vx_tree.specs.Tree.{Tree, Valid, non_nullable, all_valid}
 use Rattle.vx_tree.specs.Meaning.{tree_len, kind_of, row_at}
 use Rattle.vx_tree.specs.Shapes.{state_of, tree_state}
 use Rattle.vx_tree.specs.Validities.{valid_from}
 use Rattle.vx_tree.specs.Plain.{IsPlain}
+use Rattle.vx_tree.specs.RowParts.{field_in, is_long, is_long_row, items_in, items_or_nulls}
+use Rattle.vx_tree.specs.Extents.{extent_of, rows_extent}
 
 -- the truth value that a value is, false where it is none
 abbrev pub truth_in : Option ScalarValue → Bool
@@ -41,10 +42,6 @@ abbrev pub value_bytes : Option ScalarValue → List ℕ
 value_bytes (Some (value.Bytes bs)) = bs
 value_bytes (Some (value.Text bs)) = bs
 value_bytes _ = []
-
--- a value too long to stand in its view
-abbrev pub is_long : List ℕ → Bool
-is_long bs = nat_lt MAX_INLINED_SIZE (length bs)
 
 -- the values that are too long, each a buffer
 abbrev pub long_values : List (Option ScalarValue) → List (List ℕ)
@@ -72,35 +69,10 @@ pub record ArePlainValues (k : Kind) (vs : List (Option ScalarValue)) (r : Tree)
   pub kind : kind_of r ≡ k
   pub plain : IsPlain r
   pub state : tree_state r ≡ state_of (values_valid (is_nullable_kind k) vs)
+  pub extent : extent_of r ≡ rows_extent k (map option_row vs)
   pub rows : (i : ℕ) → i < length vs → Fits k (row_under k (slice_index_or vs i None)) → row_at r i ≡ row_under k (slice_index_or vs i None)
 
--- ---- the parts of rows
-
--- the rows of a list, none where it is null
-abbrev pub items_in : Row → List Row
-items_in (items rs) = list_from rs
-items_in _ = []
-
--- the rows of a list of a size, so many nulls where it is null
-abbrev pub items_or_nulls : ℕ → Row → List Row
-items_or_nulls size (items rs) = list_from rs
-items_or_nulls size _ = replicate size null
-
--- the row of the field at a place, null where there is none
-abbrev pub field_at : ℕ → Fields → Row
-field_at c no_fields = null
-field_at zero (field name r fs) = r
-field_at (suc c) (field name r fs) = field_at c fs
-
-abbrev pub field_in : ℕ → Row → Row
-field_in c (record_of fs) = field_at c fs
-field_in c _ = null
-
--- a text or a byte list that is too long to stand in its view
-abbrev pub is_long_row : Row → Bool
-is_long_row (bytes bs) = is_long bs
-is_long_row (text bs) = is_long bs
-is_long_row _ = false
+-- ---- rows
 
 -- rows of a kind, made plain: the elements of lists of one size cannot be counted, or the long texts cannot be numbered
 abbrev mutual
@@ -125,17 +97,18 @@ list_places rs = map (λ i. length (flat_map items_in (take i rs))) (range_with_
 abbrev pub list_sizes : List Row → List ℕ
 list_sizes rs = map (λ r. length (items_in r)) rs
 
--- these rows in plain layout, each where it fits the kind
+-- these rows, given the names of a kind, in plain layout, each where it fits the kind
 pub record ArePlainRows (k : Kind) (rs : List Row) (r : Tree) : Type 0 where
   pub len : tree_len r ≡ length rs
   pub kind : kind_of r ≡ k
   pub plain : IsPlain r
-  pub rows : (i : ℕ) → i < length rs → Fits k (slice_index_or rs i null) → row_at r i ≡ slice_index_or rs i null
+  pub extent : extent_of r ≡ rows_extent k rs
+  pub rows : (i : ℕ) → i < length rs → Fits k (named k (slice_index_or rs i null)) → row_at r i ≡ named k (slice_index_or rs i null)
 
 -- the fields of rows from place c on, each of the kind of a data type, in plain layout
 abbrev pub ArePlainFields : ℕ → List DType → List Row → List Tree → Type 0
 ArePlainFields c [] rs [] = Unit {0}
-ArePlainFields c (d ∷ ds) rs (t ∷ ts) = ArePlainRows (dtype_meaning d) (map (λ r. named (dtype_meaning d) (field_in c r)) rs) t × ArePlainFields (suc c) ds rs ts
+ArePlainFields c (d ∷ ds) rs (t ∷ ts) = ArePlainRows (dtype_meaning d) (map (field_in c) rs) t × ArePlainFields (suc c) ds rs ts
 ArePlainFields c _ rs _ = ⊥
 
 -- a row, given the names of a kind, fits it where it is there

@@ -8,7 +8,8 @@ ghost use Rattle.vx_base.specs.Kinds.{fixed_lists, lists, records};
 ghost use Rattle.vx_base.specs.Refusals.{Gives, Refuses};
 ghost use Rattle.vx_base.specs.Rows.{null};
 ghost use Rattle.vx_base.specs.ValueRows.{option_row};
-ghost use Rattle.vx_tree.specs.PlainValues.{ArePlainFields, ArePlainValues, AreSpread, FieldsFitNamed, FitsIfThere, field_in, fields_fault, items_in, items_or_nulls, rows_fault};
+ghost use Rattle.vx_tree.specs.RowParts.{field_in, items_in, items_or_nulls};
+ghost use Rattle.vx_tree.specs.PlainValues.{ArePlainFields, ArePlainValues, AreSpread, FieldsFitNamed, FitsIfThere, fields_fault, rows_fault};
 
 use crate::array::ArrayRef;
 use crate::layouts::list_view::counts_array;

@@ -10,7 +10,8 @@ ghost use Rattle.vx_views.specs.Views.{view_of};
 ghost use Rattle.vx_tree.specs.Meaning.{is_texts};
 ghost use Rattle.vx_tree.specs.Formed.{value_kind};
 ghost use Rattle.vx_tree.specs.Parts.{valid_of};
-ghost use Rattle.vx_tree.specs.PlainValues.{AreTexts, ArePlainValues, FitsIfThere, buffers_overflow, is_long, long_values, number_or_zero, truth_in, value_bytes, values_valid};
+ghost use Rattle.vx_tree.specs.RowParts.{is_long};
+ghost use Rattle.vx_tree.specs.PlainValues.{AreTexts, ArePlainValues, FitsIfThere, buffers_overflow, long_values, number_or_zero, truth_in, value_bytes, values_valid};
 
 use crate::array::{ArrayRef, Validity};
 use std::alloc::Global;

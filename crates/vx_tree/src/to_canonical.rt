@@ -16,7 +16,8 @@ impl ArrayRef {
     /// The same rows in the plain layout of their data type: no part is a constant or a dictionary,
     /// also not in a validity. A list view keeps its numbers, its flag and the rows of its
     /// elements, texts and byte lists their views and buffers; a constant list has its elements
-    /// once, a constant text one buffer at most, however often they stand. Refuses by the first
+    /// once, a constant text one buffer at most, however often they stand; a dictionary has the
+    /// elements and the buffers of its values, none if it has no values. Refuses by the first
     /// fault of the parts in their order, the values of a dictionary first: a constant with
     /// `MismatchedTypes` where a record has not as many names as fields, then with `Overflow` where
     /// its row, if it stands at least once, or else all of its rows need more elements of lists of

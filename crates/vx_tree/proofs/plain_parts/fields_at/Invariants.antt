@@ -1,6 +1,6 @@
 use Rattle.std.proofs.Common.{◌≡◌, map, take}
 use Rattle.vx_base.specs.ValueRows.{option_row}
-use Rattle.vx_tree.specs.PlainValues.{field_in}
+use Rattle.vx_tree.specs.RowParts.{field_in}
 use Rattle.vx_tree.proofs.plain_parts.fields_at.Given as goal
 
 abbrev pub invariant-loop-value : goal.invariant-loop-value

@@ -15,5 +15,5 @@ pub returns : goal.returns
 returns c =
     let zeroes : c.in_ok-views.views ≡ replicate c.args.len (view_of [] 0 0) = c.in_ok-views.ensures ∙ c.in_ok-vec.ensures.items_if_clones_equal (λ y h. h) ∙ ap (replicate c.args.len) c.empty_view.ensures in
     Gives-weaker c.var_bin_view.result _ _
-    (λ a e. views_blank a c.in_ok-views.views (dtype_meaning c.args.dtype.now) (valid_of c.args.validity) c.args.len c.requires.plain (rw (c.in_ok-try_clone.ensures, c.new-buffers.ensures.items) at e) zeroes)
+    (λ a e. views_blank a c.in_ok-views.views (dtype_meaning c.args.dtype.now) (valid_of c.args.validity) c.args.len c.requires.kind c.requires.plain (rw (c.in_ok-try_clone.ensures, c.new-buffers.ensures.items) at e) zeroes)
     c.var_bin_view.ensures

@@ -1,7 +1,9 @@
-use Rattle.std.proofs.Common.{◌≡◌, ◌<◌, length, true, ap, sym, ◌∙◌, arith}
+use Rattle.std.proofs.Common.{◌≡◌, ◌<◌, length, true, ap, sym, subst, ◌∙◌, arith}
 use Rattle.vx_tree.specs.Meaning.{kind_of}
+use Rattle.vx_base.specs.Refusals.{Refuses}
+use Rattle.vx_tree.specs.Joined.{AreJoinable}
 use Rattle.vx_tree.specs.Concatenated.{are_alike}
-use Rattle.vx_tree.proofs.Concatenated.{given_none, refuses_joined, first_plain, kinds_of_first, ok_rows, ok_kind, ok_plain, ok_state, ok_flag, plain_count, plain_joinable}
+use Rattle.vx_tree.proofs.Concatenated.{given_none, join_fault-concat, first_kind, first_plain, kinds_of_first, ok_rows, ok_kind, ok_plain, ok_state, ok_flag, plain_count, plain_joinable}
 use Rattle.vx_tree.proofs.array.ArrayRef.concat.Goals as goal
 
 pub join_like-requires-clause-plain : goal.join_like-requires-clause-plain
@@ -58,5 +60,9 @@ returns-clause-refuses c =
     let item = c.in-Some.ensures.item in
     let alike : are_alike (kind_of t) ts ≡ true = sym (ap (λ k. are_alike k ts) c.dtype.ensures) ∙ sym c.are_alike.ensures ∙ c.if-not-are_alike.false in
     let some : 0 < length ps = omega (arith, plain_count ts ps c.in_ok-plain.ensures.ok, item.3.0) in
-    let none = given_none ts t item.3.0 item.1 alike c.in_ok-joined_len.ensures.tests c.in_ok-plain.ensures.refuses in
-    refuses_joined c.join_like.result ts ps c.index.result.now none c.in_ok-plain.ensures.ok some c.index.ensures (rw c.deref-2.ensures.value at c.join_like.ensures.refuses)
+    let k = kind_of c.index.result.now in
+    let short = c.in_ok-joined_len.ensures.tests in
+    let none = given_none ts t item.3.0 item.1 alike short c.in_ok-plain.ensures.refuses in
+    let same = first_kind ts ps t c.index.result.now c.in_ok-plain.ensures.ok alike some c.index.ensures in
+    let joinable : AreJoinable k ps = plain_joinable k ts ps c.in_ok-plain.ensures.ok (kinds_of_first ts ps t c.index.result.now c.in_ok-plain.ensures.ok alike some c.index.ensures) (rw c.deref.ensures.value at c.all_formed.ensures) in
+    subst (Refuses c.join_like.result) (join_fault-concat ts ps t k c.in_ok-plain.ensures.ok joinable same item.3.0 item.1 short none) (rw c.deref-2.ensures.value at c.join_like.ensures.refuses)
