@@ -3,6 +3,9 @@
 //! The exit status is 0 where the script ends without fault, else 1. Arguments are ignored.
 #![tactic(auto)]
 
+#[cfg(test)]
+mod tests;
+
 use std::process::ExitCode;
 use vx_run::run_script;
 

@@ -1,0 +1,481 @@
+// Each public call once, on values from outside.
+
+ghost use Rattle.std.specs.Prelude.{◌≡◌, length, IfOk};
+ghost use Rattle.vx_tree.specs.Formed.{WellFormed};
+ghost use Rattle.vx_tree.specs.Parts.{valid_of};
+ghost use Rattle.vx_tree.specs.Tree.{bools, primitive, non_nullable, by_array};
+
+use std::alloc::Global;
+use std::process::Abort;
+use vx_base::{BitBuffer, ByteBuffer, Nullability, PType, Scalar, Selection, VortexError};
+use vx_tree::{
+    ArrayRef, Layout, Validity, faults_of_worked_arrays, rows_fit_their_dtype, rows_fit_their_kind,
+    rows_of_worked_arrays, selections_of_selections_are_selections, slices_of_slices_are_slices,
+    worked_arrays_are_formed,
+};
+
+mod fixed_size_lists;
+mod into_array;
+mod joined_arrays;
+mod joined_validities;
+mod masks;
+mod plain_constants;
+mod records;
+mod scalars;
+mod validities;
+mod views;
+
+// ---- arrays
+
+// Booleans, none of them null.
+fn booleans(alloc: Global, values: &[bool]) -> Result<ArrayRef, VortexError>
+    ensures { IfOk result (λ a. a ≡ bools values.now non_nullable) }
+{
+    let bits = BitBuffer::from_bools(alloc, values)?;
+    let validity = Validity::NonNullable;
+    ArrayRef::from_parts(alloc, Layout::Bool { bits, validity })
+}
+
+// Booleans, of which the second ones say which are not null.
+fn some_booleans(alloc: Global, values: &[bool], valid: &[bool]) -> Result<ArrayRef, VortexError>
+    requires { length valid.now ≡ length values.now }
+    ensures { IfOk result (λ a. a ≡ bools values.now (by_array (bools valid.now non_nullable))) }
+{
+    let bits = BitBuffer::from_bools(alloc, values)?;
+    let validity = Validity::Array(booleans(alloc, valid)?);
+    ArrayRef::from_parts(alloc, Layout::Bool { bits, validity })
+}
+
+// Numbers, by their bytes.
+fn numbers(
+    alloc: Global,
+    ptype: PType,
+    bytes: &[u8],
+    validity: Validity,
+) -> Result<ArrayRef, VortexError>
+    requires { WellFormed (primitive ptype bytes.now (valid_of validity)) }
+    ensures { IfOk result (λ a. a ≡ primitive ptype bytes.now (valid_of validity)) }
+{
+    let bytes = ByteBuffer::copy_from(alloc, bytes)?;
+    ArrayRef::from_parts(
+        alloc,
+        Layout::Primitive {
+            ptype,
+            bytes,
+            validity,
+        },
+    )
+}
+
+// The numbers 2, null, 0 of type u8.
+fn indices(alloc: Global) -> Result<ArrayRef, VortexError> {
+    let validity = Validity::Array(booleans(alloc, &[true, false, true])?);
+    numbers(alloc, PType::U8, &[2, 0, 0], validity)
+}
+
+// The lists [3, 4], [1], [2, 3] of the numbers 1 to 4.
+fn lists(alloc: Global) -> Result<ArrayRef, VortexError> {
+    let elements = numbers(alloc, PType::U8, &[1, 2, 3, 4], Validity::NonNullable)?;
+    let offsets = [2, 0, 0, 0, 0, 0, 0, 0, 1, 0, 0, 0];
+    let offsets = numbers(alloc, PType::U32, &offsets, Validity::NonNullable)?;
+    let sizes = [2, 0, 0, 0, 1, 0, 0, 0, 2, 0, 0, 0];
+    let sizes = numbers(alloc, PType::U32, &sizes, Validity::NonNullable)?;
+    let validity = Validity::NonNullable;
+    let flag = false;
+    ArrayRef::from_parts(
+        alloc,
+        Layout::ListView {
+            elements,
+            offsets,
+            sizes,
+            validity,
+            flag,
+        },
+    )
+}
+
+// ---- what they hold
+
+// Row `i` of an array of numbers.
+fn number(rt: &impl Abort, array: &ArrayRef, i: usize) -> Option<i128> {
+    assert!(rt; array.dtype().is_int() && i < array.len());
+    array.int_at(i)
+}
+
+// A row of lists of numbers: none where it is null.
+fn list(
+    rt: &impl Abort,
+    alloc: Global,
+    array: &ArrayRef,
+    i: usize,
+) -> Result<Option<Vec<i128>>, VortexError> {
+    if !array.is_valid(alloc, i)? {
+        return Ok(None);
+    }
+    let mut row = Vec::new(alloc);
+    if let Layout::ListView {
+        elements,
+        offsets,
+        sizes,
+        ..
+    } = array.layout()
+    {
+        let start = number(rt, offsets, i).unwrap_or(0);
+        let end = start.saturating_add(number(rt, sizes, i).unwrap_or(0));
+        for place in 0..elements.len() {
+            if start <= place as i128 && (place as i128) < end {
+                row.push(number(rt, elements, place).unwrap_or(0))?;
+            }
+        }
+    }
+    Ok(Some(row))
+}
+
+// Stops unless row `i` is the list `want`, or null where there is none.
+fn expect_list(
+    rt: &impl Abort,
+    alloc: Global,
+    array: &ArrayRef,
+    i: usize,
+    want: Option<&[i128]>,
+) -> Result<(), VortexError> {
+    let row = list(rt, alloc, array, i)?;
+    match (&row, want) {
+        (Some(row), Some(want)) => assert_eq!(rt; row.as_slice(), want, "at {i}"),
+        (row, want) => assert_eq!(rt; row.is_some(), want.is_some(), "at {i}"),
+    }
+    Ok(())
+}
+
+// Stops unless row `i` is the boolean `want`, or null where there is none.
+fn expect_bool(
+    rt: &impl Abort,
+    alloc: Global,
+    array: &ArrayRef,
+    i: usize,
+    want: Option<bool>,
+) -> Result<(), VortexError> {
+    assert_eq!(rt; array.is_valid(alloc, i)?, want.is_some(), "at {i}");
+    if let (Layout::Bool { bits, .. }, Some(want)) = (array.layout(), want) {
+        assert!(rt; i < bits.len());
+        assert_eq!(rt; bits.value(i), want, "at {i}");
+    }
+    Ok(())
+}
+
+// ---- arrays
+
+#[test]
+fn lengths(rt: HostRuntime) -> Result<(), VortexError> {
+    assert_eq!(rt; lists(rt.alloc())?.len(), 3);
+    assert!(rt; booleans(rt.alloc(), &[])?.is_empty());
+    Ok(())
+}
+
+#[test]
+fn data_types(rt: HostRuntime) -> Result<(), VortexError> {
+    let indices = indices(rt.alloc())?;
+    assert!(rt; indices.dtype().is_int() && indices.dtype().is_nullable());
+    assert!(rt; booleans(rt.alloc(), &[])?.dtype().is_plain_bool());
+    Ok(())
+}
+
+#[test]
+fn parts_of_lists(rt: HostRuntime) -> Result<(), VortexError> {
+    let lists = lists(rt.alloc())?;
+    let found = match lists.layout() {
+        Layout::ListView { elements, flag, .. } => elements.len() == 4 && !*flag,
+        _ => false,
+    };
+    assert!(rt; found);
+    Ok(())
+}
+
+#[test]
+fn parts_of_booleans(rt: HostRuntime) -> Result<(), VortexError> {
+    let array = some_booleans(rt.alloc(), &[true, false], &[false, true])?;
+    expect_bool(&rt, rt.alloc(), &array, 0, None)?;
+    expect_bool(&rt, rt.alloc(), &array, 1, Some(false))
+}
+
+#[test]
+fn shared_array(rt: HostRuntime) -> Result<(), VortexError> {
+    let lists = lists(rt.alloc())?;
+    expect_list(
+        &rt,
+        rt.alloc(),
+        &lists.try_clone(rt.alloc())?,
+        0,
+        Some(&[3, 4]),
+    )
+}
+
+// ---- rows
+
+#[test]
+fn valid_rows(rt: HostRuntime) -> Result<(), VortexError> {
+    let indices = indices(rt.alloc())?;
+    assert!(rt; indices.is_valid(rt.alloc(), 0)? && !indices.is_valid(rt.alloc(), 1)?);
+    Ok(())
+}
+
+#[test]
+fn valid_row_past_the_end(rt: HostRuntime) -> Result<(), VortexError> {
+    let found = match indices(rt.alloc())?.is_valid(rt.alloc(), 3) {
+        Err(VortexError::OutOfBounds { index: 3, len: 3 }) => true,
+        _ => false,
+    };
+    assert!(rt; found);
+    Ok(())
+}
+
+#[test]
+fn number_of_a_row(rt: HostRuntime) -> Result<(), VortexError> {
+    let indices = indices(rt.alloc())?;
+    assert!(rt; number(&rt, &indices, 0) == Some(2) && number(&rt, &indices, 1) == None);
+    Ok(())
+}
+
+// ---- parts
+
+#[test]
+fn slice_of_lists(rt: HostRuntime) -> Result<(), VortexError> {
+    let part = lists(rt.alloc())?.slice(rt.alloc(), 1..3)?;
+    assert_eq!(rt; part.len(), 2);
+    expect_list(&rt, rt.alloc(), &part, 0, Some(&[1]))?;
+    expect_list(&rt, rt.alloc(), &part, 1, Some(&[2, 3]))
+}
+
+#[test]
+fn slice_of_booleans(rt: HostRuntime) -> Result<(), VortexError> {
+    let array = some_booleans(rt.alloc(), &[true, false, true], &[true, true, false])?;
+    let part = array.slice(rt.alloc(), 1..3)?;
+    expect_bool(&rt, rt.alloc(), &part, 0, Some(false))?;
+    expect_bool(&rt, rt.alloc(), &part, 1, None)
+}
+
+#[test]
+fn slice_of_numbers(rt: HostRuntime) -> Result<(), VortexError> {
+    let part = indices(rt.alloc())?.slice(rt.alloc(), 1..3)?;
+    assert!(rt; number(&rt, &part, 0) == None && number(&rt, &part, 1) == Some(0));
+    Ok(())
+}
+
+#[test]
+fn slice_of_a_constant(rt: HostRuntime) -> Result<(), VortexError> {
+    let scalar = Scalar::int(-7, PType::I16, Nullability::Nullable);
+    let part = ArrayRef::constant(rt.alloc(), scalar, 5)?.slice(rt.alloc(), 1..3)?;
+    rows_fit_their_dtype(&part);
+    assert!(rt; part.len() == 2 && part.is_valid(rt.alloc(), 1)?);
+    assert!(rt; number(&rt, &part, 1) == Some(-7));
+    Ok(())
+}
+
+#[test]
+fn constant_taken_by_plain_indices(rt: HostRuntime) -> Result<(), VortexError> {
+    let scalar = Scalar::int(-7, PType::I16, Nullability::Nullable);
+    let array = ArrayRef::constant(rt.alloc(), scalar, 5)?;
+    let indices = numbers(rt.alloc(), PType::U8, &[4, 0, 4], Validity::NonNullable)?;
+    let taken = array.take(rt.alloc(), &indices)?;
+    assert!(rt; taken.len() == 3 && matches!(taken.layout(), Layout::Constant { .. }));
+    assert!(rt; number(&rt, &taken, 2) == Some(-7));
+    Ok(())
+}
+
+#[test]
+fn constant_taken_by_nullable_indices(rt: HostRuntime) -> Result<(), VortexError> {
+    let scalar = Scalar::int(7, PType::I32, Nullability::NonNullable);
+    let array = ArrayRef::constant(rt.alloc(), scalar, 3)?;
+    let taken = array.take(rt.alloc(), &indices(rt.alloc())?)?;
+    assert!(rt; taken.len() == 3 && matches!(taken.layout(), Layout::Dict { .. }));
+    assert!(rt; taken.dtype().is_nullable() && !taken.is_valid(rt.alloc(), 1)?);
+    assert!(rt; number(&rt, &taken, 0) == Some(7) && number(&rt, &taken, 1) == None);
+    assert!(rt; number(&rt, &taken, 2) == Some(7));
+    Ok(())
+}
+
+// The codes 0, null, 2, null, 1 into the values null, 6, 9.
+fn dictionary(alloc: Global) -> Result<ArrayRef, VortexError> {
+    let validity = Validity::Array(booleans(alloc, &[true, false, true, false, true])?);
+    let codes = numbers(alloc, PType::U8, &[0, 0, 2, 0, 1], validity)?;
+    let validity = Validity::Array(booleans(alloc, &[false, true, true])?);
+    let values = numbers(alloc, PType::U8, &[0, 6, 9], validity)?;
+    ArrayRef::dictionary(alloc, codes, values, false)
+}
+
+#[test]
+fn a_dictionary_in_plain_layout(rt: HostRuntime) -> Result<(), VortexError> {
+    let array = dictionary(rt.alloc())?.to_canonical(rt.alloc())?;
+    assert!(rt; matches!(array.layout(), Layout::Primitive { .. }));
+    assert!(rt; array.len() == 5 && number(&rt, &array, 0) == None);
+    assert!(rt; number(&rt, &array, 2) == Some(9) && number(&rt, &array, 4) == Some(6));
+    Ok(())
+}
+
+#[test]
+fn rows_of_a_dictionary(rt: HostRuntime) -> Result<(), VortexError> {
+    let array = dictionary(rt.alloc())?;
+    rows_fit_their_dtype(&array);
+    assert!(rt; array.len() == 5 && array.dtype().is_nullable());
+    assert!(rt; number(&rt, &array, 0) == None && number(&rt, &array, 1) == None);
+    assert!(rt; number(&rt, &array, 2) == Some(9) && number(&rt, &array, 3) == None);
+    assert!(rt; number(&rt, &array, 4) == Some(6) && !array.is_valid(rt.alloc(), 0)?);
+    assert!(rt; array.is_valid(rt.alloc(), 4)? && !array.is_valid(rt.alloc(), 3)?);
+    Ok(())
+}
+
+#[test]
+fn slice_of_a_dictionary(rt: HostRuntime) -> Result<(), VortexError> {
+    let part = dictionary(rt.alloc())?.slice(rt.alloc(), 2..5)?;
+    assert!(rt; part.len() == 3 && number(&rt, &part, 0) == Some(9));
+    assert!(rt; number(&rt, &part, 1) == None && number(&rt, &part, 2) == Some(6));
+    Ok(())
+}
+
+#[test]
+fn take_of_a_dictionary(rt: HostRuntime) -> Result<(), VortexError> {
+    let taken = dictionary(rt.alloc())?.take(rt.alloc(), &indices(rt.alloc())?)?;
+    assert!(rt; taken.len() == 3 && number(&rt, &taken, 0) == Some(9));
+    assert!(rt; number(&rt, &taken, 1) == None && number(&rt, &taken, 2) == None);
+    Ok(())
+}
+
+#[test]
+fn indices_that_are_constant(rt: HostRuntime) -> Result<(), VortexError> {
+    let scalar = Scalar::int(1, PType::U64, Nullability::NonNullable);
+    let indices = ArrayRef::constant(rt.alloc(), scalar, 2)?;
+    let taken = lists(rt.alloc())?.take(rt.alloc(), &indices)?;
+    assert_eq!(rt; taken.len(), 2);
+    expect_list(&rt, rt.alloc(), &taken, 1, Some(&[1]))
+}
+
+#[test]
+fn numbers_taken_from_no_rows(rt: HostRuntime) -> Result<(), VortexError> {
+    let empty = numbers(rt.alloc(), PType::I32, &[], Validity::NonNullable)?;
+    let nulls = numbers(rt.alloc(), PType::U8, &[9, 9], Validity::AllInvalid)?;
+    let taken = empty.take(rt.alloc(), &nulls)?;
+    assert!(rt; taken.len() == 2 && !taken.is_valid(rt.alloc(), 1)?);
+    Ok(())
+}
+
+#[test]
+fn validity_by_a_constant(rt: HostRuntime) -> Result<(), VortexError> {
+    let scalar = Scalar::bool(true, Nullability::NonNullable);
+    let validity = Validity::Array(ArrayRef::constant(rt.alloc(), scalar, 2)?);
+    let bits = BitBuffer::from_bools(rt.alloc(), &[true, false])?;
+    let part = ArrayRef::bools(rt.alloc(), bits, validity)?.slice(rt.alloc(), 1..2)?;
+    expect_bool(&rt, rt.alloc(), &part, 0, Some(false))
+}
+
+#[test]
+fn slice_past_the_end(rt: HostRuntime) -> Result<(), VortexError> {
+    let found = match lists(rt.alloc())?.slice(rt.alloc(), 5..4) {
+        Err(VortexError::OutOfBounds { index: 4, len: 3 }) => true,
+        _ => false,
+    };
+    assert!(rt; found);
+    Ok(())
+}
+
+#[test]
+fn take_of_lists(rt: HostRuntime) -> Result<(), VortexError> {
+    let taken = lists(rt.alloc())?.take(rt.alloc(), &indices(rt.alloc())?)?;
+    assert_eq!(rt; taken.len(), 3);
+    expect_list(&rt, rt.alloc(), &taken, 0, Some(&[2, 3]))?;
+    expect_list(&rt, rt.alloc(), &taken, 1, None)?;
+    expect_list(&rt, rt.alloc(), &taken, 2, Some(&[3, 4]))
+}
+
+#[test]
+fn take_of_booleans(rt: HostRuntime) -> Result<(), VortexError> {
+    let array = some_booleans(rt.alloc(), &[true, false, false], &[true, true, false])?;
+    let taken = array.take(rt.alloc(), &indices(rt.alloc())?)?;
+    expect_bool(&rt, rt.alloc(), &taken, 1, None)?;
+    expect_bool(&rt, rt.alloc(), &taken, 2, Some(true))
+}
+
+#[test]
+fn take_by_booleans(rt: HostRuntime) -> Result<(), VortexError> {
+    let found = match lists(rt.alloc())?.take(rt.alloc(), &booleans(rt.alloc(), &[true])?) {
+        Err(VortexError::MismatchedTypes) => true,
+        _ => false,
+    };
+    assert!(rt; found);
+    Ok(())
+}
+
+#[test]
+fn take_at_positions(rt: HostRuntime) -> Result<(), VortexError> {
+    let array = booleans(rt.alloc(), &[true, false, true])?;
+    assert_eq!(rt; array.len(), 3);
+    let taken = array.select(rt.alloc(), &Selection::at_positions(&[1, 1, 0]))?;
+    expect_bool(&rt, rt.alloc(), &taken, 1, Some(false))?;
+    expect_bool(&rt, rt.alloc(), &taken, 2, Some(true))
+}
+
+// ---- validities
+
+#[test]
+fn nullability_of_validities(rt: HostRuntime) -> Result<(), VortexError> {
+    assert!(rt; Validity::NonNullable.nullability() == Nullability::NonNullable);
+    assert!(rt; Validity::AllInvalid.nullability() == Nullability::Nullable);
+    Ok(())
+}
+
+#[test]
+fn lengths_of_validities(rt: HostRuntime) -> Result<(), VortexError> {
+    let validity = Validity::Array(booleans(rt.alloc(), &[true, false])?);
+    assert!(rt; validity.maybe_len() == Some(2) && Validity::AllValid.maybe_len() == None);
+    Ok(())
+}
+
+#[test]
+fn check_of_validities(rt: HostRuntime) -> Result<(), VortexError> {
+    let validity = Validity::Array(booleans(rt.alloc(), &[true, false])?);
+    assert!(rt; validity.check(2).is_ok() && Validity::AllValid.check(7).is_ok());
+    let found = match validity.check(3) {
+        Err(
+            VortexError::LengthMismatch {
+                expected: 3,
+                found: 2,
+            },
+        ) => true,
+        _ => false,
+    };
+    assert!(rt; found);
+    Ok(())
+}
+
+#[test]
+fn shared_validity(rt: HostRuntime) -> Result<(), VortexError> {
+    let validity = Validity::Array(booleans(rt.alloc(), &[true, false])?);
+    assert_eq!(rt; validity.try_clone(rt.alloc())?.maybe_len(), Some(2));
+    Ok(())
+}
+
+#[test]
+fn mask_of_an_array(rt: HostRuntime) -> Result<(), VortexError> {
+    let mask = Validity::Array(booleans(rt.alloc(), &[true, false])?).execute_mask(rt.alloc(), 2)?;
+    assert_eq!(rt; mask.len(), 2);
+    assert!(rt; mask.value(0) && !mask.value(1));
+    Ok(())
+}
+
+#[test]
+fn mask_of_nulls(rt: HostRuntime) -> Result<(), VortexError> {
+    let mask = Validity::AllInvalid.execute_mask(rt.alloc(), 4)?;
+    assert!(rt; mask.len() == 4 && mask.all_false());
+    Ok(())
+}
+
+// ---- laws
+
+#[test]
+fn laws() {
+    rows_fit_their_kind();
+    rows_of_worked_arrays();
+    worked_arrays_are_formed();
+    slices_of_slices_are_slices();
+    selections_of_selections_are_selections();
+    faults_of_worked_arrays();
+}
