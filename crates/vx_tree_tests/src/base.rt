@@ -1,8 +1,13 @@
 // Each public call once, on values from outside.
 
+ghost use Rattle.std.specs.Prelude.{◌≡◌, length, IfOk};
+ghost use Rattle.vx_base.specs.DTypes.{field_names, field_kinds};
+ghost use Rattle.vx_base.specs.Fields.{kind_count};
+
 mod masks;
 pub(crate) mod scalars;
 
+use std::alloc::Global;
 use std::rc::Rc;
 use vx_base::{
     BitBuffer, BitBufferMut, Buffer, BufferMut, ByteBuffer, DType, FieldNames, Mask, NativePType,
@@ -206,23 +211,36 @@ fn equal_data_types(rt: HostRuntime) {
     assert!(rt; DType::Utf8(plain) != DType::Utf8(Nullability::Nullable));
 }
 
-#[test]
-fn fields_by_name_and_place(rt: HostRuntime) -> Result<(), VortexError> {
+// The fields `a` of truths, `b` of texts and `a` of bytes.
+fn three_fields(alloc: Global) -> Result<StructFields, VortexError>
+    ensures names { IfOk result (λ f. length (field_names f) ≡ 3) }
+    ensures kinds { IfOk result (λ f. kind_count (field_kinds f) ≡ 3) }
+{
     let plain = Nullability::NonNullable;
-    let names = FieldNames::try_new(rt.alloc(), &["a", "b", "a"])?;
-    let dtypes = vec![in rt.alloc();
+    let names = FieldNames::try_new(alloc, &["a", "b", "a"])?;
+    let dtypes = vec![in alloc;
         DType::Bool(plain),
         DType::Utf8(plain),
         DType::Binary(plain),
     ]?;
-    let fields = StructFields::new(names, Rc::new(rt.alloc(), dtypes)?);
+    Ok(StructFields::new(names, Rc::new(alloc, dtypes)?))
+}
+
+#[test]
+fn fields_by_name(rt: HostRuntime) -> Result<(), VortexError> {
+    let fields = three_fields(rt.alloc())?;
     assert!(rt; fields.find("b") == Some(1) && fields.find("a") == Some(0));
     assert!(rt; fields.find("c").is_none() && fields.names().len() == 3);
-    let rest = fields.without_field(rt.alloc(), 0)?;
+    Ok(())
+}
+
+#[test]
+fn fields_without_the_first(rt: HostRuntime) -> Result<(), VortexError> {
+    let rest = three_fields(rt.alloc())?.without_field(rt.alloc(), 0)?;
     assert!(rt; rest.names().get(0).as_str() == "b" && rest.find("a") == Some(1));
     let dtypes = rest.fields();
     assert!(rt; dtypes.len() == 2);
-    assert!(rt; dtypes[1] == DType::Binary(plain));
+    assert!(rt; dtypes[1] == DType::Binary(Nullability::NonNullable));
     Ok(())
 }
 
@@ -374,15 +392,24 @@ fn shared_buffers(rt: HostRuntime) -> Result<(), VortexError> {
 
 // ---- bits and masks
 
+// Whether the bits are these.
+fn are_bits(alloc: Global, bits: &BitBuffer, want: &[bool]) -> Result<bool, VortexError> {
+    Ok(*bits == BitBuffer::from_bools(alloc, want)?)
+}
+
+// The bits AC 69 00.
+fn sixteen_bits(alloc: Global) -> Result<BitBuffer, VortexError> {
+    let bytes = ByteBuffer::copy_from(alloc, &[0xac, 0x69, 0x00])?;
+    BitBuffer::new_with_offset(alloc, bytes, 16, 0)
+}
+
 #[test]
 fn slice_of_bits(rt: HostRuntime) -> Result<(), VortexError> {
-    let bytes = ByteBuffer::copy_from(rt.alloc(), &[0xac, 0x69, 0x00])?;
-    let bits = BitBuffer::new_with_offset(rt.alloc(), bytes, 16, 0)?;
+    let bits = sixteen_bits(rt.alloc())?;
     assert_eq!(rt; bits.len(), 16);
     let part = bits.slice(rt.alloc(), 9..15)?;
     assert!(rt; part.offset() == 1 && part.len() == 6 && part.true_count() == 3);
-    assert!(rt; !part.value(0) && !part.value(1) && part.value(2));
-    assert!(rt; !part.value(3) && part.value(4) && part.value(5));
+    assert!(rt; are_bits(rt.alloc(), &part, &[false, false, true, false, true, true])?);
     Ok(())
 }
 
@@ -398,25 +425,29 @@ fn bits_at_an_offset(rt: HostRuntime) -> Result<(), VortexError> {
 #[test]
 fn bits_of_booleans(rt: HostRuntime) -> Result<(), VortexError> {
     let bits = BitBuffer::from_bools(rt.alloc(), &[false, true, true])?;
-    assert!(rt; !bits.is_empty() && bits == bits.try_clone(rt.alloc())?);
-    let (_, _, bytes) = bits.into_inner();
+    assert!(rt; !bits.is_empty());
+    let (_, _, bytes) = bits.try_clone(rt.alloc())?.into_inner();
     assert!(rt; bytes.as_slice() == [0x06].as_slice());
     Ok(())
 }
 
+// The bits that are set in both.
+fn both(alloc: Global, left: &[bool; 3], right: &[bool; 3]) -> Result<BitBuffer, VortexError> {
+    let left = BitBuffer::from_bools(alloc, left)?;
+    left.and(alloc, &BitBuffer::from_bools(alloc, right)?)
+}
+
 #[test]
 fn bits_of_both(rt: HostRuntime) -> Result<(), VortexError> {
-    let left = BitBuffer::from_bools(rt.alloc(), &[true, false, true])?;
-    let right = BitBuffer::from_bools(rt.alloc(), &[true, true, false])?;
-    let both = left.and(rt.alloc(), &right)?;
-    assert!(rt; both == BitBuffer::from_bools(rt.alloc(), &[true, false, false])?);
+    let both = both(rt.alloc(), &[true, false, true], &[true, true, false])?;
+    assert!(rt; are_bits(rt.alloc(), &both, &[true, false, false])?);
     Ok(())
 }
 
 #[test]
 fn unequal_bits(rt: HostRuntime) -> Result<(), VortexError> {
     let left = BitBuffer::from_bools(rt.alloc(), &[true, false])?;
-    assert!(rt; left != BitBuffer::from_bools(rt.alloc(), &[true, true])?);
+    assert!(rt; !are_bits(rt.alloc(), &left, &[true, true])?);
     Ok(())
 }
 
@@ -449,43 +480,69 @@ fn repeated_bits(rt: HostRuntime) -> Result<(), VortexError> {
     assert_eq!(rt; BitBuffer::full(rt.alloc(), true, 11)?.true_count(), 11);
     let (_, _, bytes) = BitBuffer::new_set(rt.alloc(), 11)?.into_inner();
     assert!(rt; bytes.as_slice() == [0xff, 0x07].as_slice());
+    Ok(())
+}
+
+#[test]
+fn unset_bits(rt: HostRuntime) -> Result<(), VortexError> {
     let unset = BitBuffer::new_unset(rt.alloc(), 9)?;
     assert!(rt; unset.len() == 9 && unset.true_count() == 0);
     Ok(())
 }
 
+// Three bits that are not set, ten that are, and the middle three of five.
+fn sixteen_by_runs(alloc: Global) -> Result<BitBuffer, VortexError> {
+    let more = BitBuffer::from_bools(alloc, &[true, false, true, true, false])?;
+    let mut bits = BitBufferMut::new_unset(alloc, 3)?;
+    bits.append_n(true, 10)?;
+    bits.append_slice(&more, 1, 4)?;
+    bits.freeze()
+}
+
 #[test]
 fn appended_runs_of_bits(rt: HostRuntime) -> Result<(), VortexError> {
-    let mut bits = BitBufferMut::new_unset(rt.alloc(), 3)?;
-    bits.append_n(true, 10)?;
-    let more = BitBuffer::from_bools(rt.alloc(), &[true, false, true, true, false])?;
-    bits.append_slice(&more, 1, 4)?;
-    let (offset, len, bytes) = bits.freeze()?.into_inner();
+    let (offset, len, bytes) = sixteen_by_runs(rt.alloc())?.into_inner();
     assert!(rt; offset == 0 && len == 16 && bytes.as_slice() == [0xf8, 0xdf].as_slice());
     Ok(())
 }
 
+// The bits AC 69 35 without the first two.
+fn most_bits(alloc: Global) -> Result<BitBuffer, VortexError> {
+    let bytes = ByteBuffer::copy_from(alloc, &[0xac, 0x69, 0x35])?;
+    BitBuffer::new_with_offset(alloc, bytes, 22, 2)
+}
+
+// Twenty of these after five bits that are not set.
+fn five_and_twenty(alloc: Global) -> Result<BitBuffer, VortexError> {
+    let source = most_bits(alloc)?;
+    if source.len() != 22 {
+        return Err(VortexError::MismatchedTypes);
+    }
+    let mut bits = BitBufferMut::new_unset(alloc, 5)?;
+    bits.append_slice(&source, 1, 21)?;
+    bits.freeze()
+}
+
 #[test]
 fn appended_bytes_of_bits(rt: HostRuntime) -> Result<(), VortexError> {
-    let bytes = ByteBuffer::copy_from(rt.alloc(), &[0xac, 0x69, 0x35])?;
-    let source = BitBuffer::new_with_offset(rt.alloc(), bytes, 22, 2)?;
-    assert!(rt; source.len() == 22);
-    let mut bits = BitBufferMut::new_unset(rt.alloc(), 5)?;
-    bits.append_slice(&source, 1, 21)?;
-    let (_, len, bytes) = bits.freeze()?.into_inner();
+    let (_, len, bytes) = five_and_twenty(rt.alloc())?.into_inner();
     assert!(rt; len == 25 && bytes.as_slice() == [0xa0, 0xa6, 0xd5, 0x00].as_slice());
     Ok(())
 }
 
-#[test]
-fn picked_bits(rt: HostRuntime) -> Result<(), VortexError> {
-    let bits = BitBuffer::from_bools(rt.alloc(), &[false, true])?;
-    let picked = gather_bits(
-        rt.alloc(),
+// These bits at the places of some runs.
+fn picked(alloc: Global) -> Result<BitBuffer, VortexError> {
+    let bits = BitBuffer::from_bools(alloc, &[false, true])?;
+    gather_bits(
+        alloc,
         &bits,
         &Selection::of_runs(&[(1, 2), (7, 7), (0, 2)], 3),
-    )?;
-    assert!(rt; picked == BitBuffer::from_bools(rt.alloc(), &[true, false, true])?);
+    )
+}
+
+#[test]
+fn picked_bits(rt: HostRuntime) -> Result<(), VortexError> {
+    assert!(rt; are_bits(rt.alloc(), &picked(rt.alloc())?, &[true, false, true])?);
     Ok(())
 }
 

@@ -56,15 +56,23 @@ fn data_types_are_equal(rt: HostRuntime) -> Result<(), VortexError> {
     Ok(())
 }
 
+// A parcel named `crate` of that size.
+fn parcel_of(alloc: Global, size: i128) -> Result<Scalar, VortexError> {
+    let value = parcel_value(alloc, "crate", size)?;
+    Scalar::try_new(parcel(alloc)?, Some(value))
+}
+
 #[test]
 fn records_fit(rt: HostRuntime) -> Result<(), VortexError> {
-    let value = parcel_value(rt.alloc(), "crate", -3)?;
-    let scalar = Scalar::try_new(parcel(rt.alloc())?, Some(value))?;
+    let scalar = parcel_of(rt.alloc(), -3)?;
     assert!(rt; !scalar.is_null() && scalar.try_clone(rt.alloc())?.is_valid());
-    let long = parcel_value(rt.alloc(), "crate", 32768)?;
-    let refused = Scalar::try_new(parcel(rt.alloc())?, Some(long)).err();
-    assert!(rt; refused == Some(VortexError::MismatchedTypes));
     Ok(())
+}
+
+#[test]
+fn records_of_a_number_past_its_type_do_not_fit(rt: HostRuntime) {
+    let refused = parcel_of(rt.alloc(), 32768).err();
+    assert!(rt; refused == Some(VortexError::MismatchedTypes));
 }
 
 #[test]
@@ -86,19 +94,28 @@ fn numbers_and_truths(rt: HostRuntime) {
     assert!(rt; truth.as_bool() && truth.as_int().is_none() && truth.dtype().is_plain_bool());
 }
 
+// The default of pairs of numbers.
+fn default_pair(alloc: Global) -> Result<Scalar, VortexError> {
+    let items = Rc::new(alloc, DType::Primitive(PType::U8, Nullability::NonNullable))?;
+    Scalar::default_value(
+        alloc,
+        DType::FixedSizeList(items, 2, Nullability::NonNullable),
+    )
+}
+
 #[test]
 fn defaults(rt: HostRuntime) -> Result<(), VortexError> {
-    let items = Rc::new(
-        rt.alloc(),
-        DType::Primitive(PType::U8, Nullability::NonNullable),
-    )?;
-    let pairs = DType::FixedSizeList(items, 2, Nullability::NonNullable);
-    let scalar = Scalar::default_value(rt.alloc(), pairs)?;
+    let scalar = default_pair(rt.alloc())?;
     let Some(ScalarValue::List(rows)) = scalar.value() else {
         return Err(VortexError::MismatchedTypes);
     };
     assert!(rt; rows.as_slice().len() == 2);
     assert!(rt; matches!(rows.as_slice().last(), Some(Some(ScalarValue::Int(0)))));
+    Ok(())
+}
+
+#[test]
+fn default_of_what_may_be_null(rt: HostRuntime) -> Result<(), VortexError> {
     let null = Scalar::default_value(rt.alloc(), DType::Binary(Nullability::Nullable))?;
     assert!(rt; null.is_null());
     Ok(())

@@ -1,3 +1,4 @@
+use std::alloc::Global;
 use std::test::Fail;
 use vx_base::{Buffer, ByteBuffer, VortexError};
 use vx_views::{
@@ -145,19 +146,26 @@ fn views_are_those_of_their_values(rt: HostRuntime) -> Result<(), Fail> {
     Ok(())
 }
 
+// The buffers and views of the part of the text between its offsets.
+fn built_of_a_part(alloc: Global) -> Result<(Vec<ByteBuffer>, Buffer<BinaryView>), VortexError> {
+    let lens = offsets_to_lengths(alloc, &[2u32, 34, 38])?;
+    let part = ByteBuffer::copy_from(alloc, &TEXT[2..38])?;
+    build_views(alloc, 5, 33, part, lens.as_slice())
+}
+
+// Those of the whole text and its offsets.
+fn built_by_offsets(alloc: Global) -> Result<(Vec<ByteBuffer>, Buffer<BinaryView>), VortexError> {
+    let heap = ByteBuffer::copy_from(alloc, TEXT)?;
+    build_views_from_offsets(alloc, 5, 33, heap, &[2u32, 34, 38])
+}
+
 #[test]
 fn offsets_build_as_their_lengths_do(rt: HostRuntime) -> Result<(), Fail> {
-    let heap = ByteBuffer::copy_from(rt.alloc(), TEXT)?;
-    let part = ByteBuffer::copy_from(rt.alloc(), &TEXT[2..38])?;
-    let offsets = [2u32, 34, 38];
-    let lens = offsets_to_lengths(rt.alloc(), &offsets)?;
-    let (cut, views) = build_views_from_offsets(rt.alloc(), 5, 33, heap, &offsets)?;
-    let (others, same) = build_views(rt.alloc(), 5, 33, part, lens.as_slice())?;
-    assert_eq!(rt; views.as_slice(), same.as_slice());
-    assert_eq!(rt; cut.len(), 2);
-    assert_eq!(rt; others.len(), 2);
-    assert_eq!(rt; cut[0].as_slice(), others[0].as_slice());
-    assert_eq!(rt; cut[1].as_slice(), b"tiny".as_slice());
+    let (cut, views) = built_by_offsets(rt.alloc())?;
+    let (others, same) = built_of_a_part(rt.alloc())?;
+    assert!(rt; views.as_slice() == same.as_slice() && cut.len() == 2 && others.len() == 2);
+    assert!(rt; cut[0].as_slice() == others[0].as_slice());
+    assert!(rt; cut[1].as_slice() == b"tiny".as_slice());
     Ok(())
 }
 
