@@ -126,26 +126,37 @@ fn too_many_joined_rows_are_refused(rt: HostRuntime) -> Result<(), VortexError> 
 
 #[test]
 fn booleans_of_an_iterator(rt: HostRuntime) -> Result<(), VortexError> {
-    let alloc = rt.alloc();
-    let some = Validity::from_iter(alloc, [true, false, true].into_iter())?;
-    expect_valid(&rt, alloc, &some, &[true, false, true])?;
-    let all = Validity::from_iter(alloc, [true, true].into_iter())?;
+    let some = Validity::from_iter(rt.alloc(), [true, false, true].into_iter())?;
+    expect_valid(&rt, rt.alloc(), &some, &[true, false, true])
+}
+
+#[test]
+fn even_booleans_of_an_iterator(rt: HostRuntime) -> Result<(), VortexError> {
+    let all = Validity::from_iter(rt.alloc(), [true, true].into_iter())?;
     assert!(rt; all.definitely_no_nulls() && all.nullability() == Nullability::Nullable);
-    let none = Validity::from_iter(alloc, [false].into_iter())?;
+    let none = Validity::from_iter(rt.alloc(), [false].into_iter())?;
     assert!(rt; none.definitely_all_null());
-    let empty = Validity::from_iter(alloc, [true; 0].into_iter())?;
+    Ok(())
+}
+
+#[test]
+fn no_booleans_of_an_iterator(rt: HostRuntime) -> Result<(), VortexError> {
+    let empty = Validity::from_iter(rt.alloc(), [true; 0].into_iter())?;
     assert!(rt; empty.definitely_no_nulls());
     Ok(())
 }
 
 #[test]
 fn masks_of_an_iterator(rt: HostRuntime) -> Result<(), VortexError> {
-    let alloc = rt.alloc();
-    let masks = vec![in alloc; Mask::new_true(1), Mask::new_false(2)]?;
-    let some = Validity::from_mask_iter(alloc, masks.into_iter())?;
-    expect_valid(&rt, alloc, &some, &[true, false, false])?;
-    let masks = vec![in alloc; Mask::new_true(usize::MAX), Mask::new_true(1)]?;
-    let many = Validity::from_mask_iter(alloc, masks.into_iter());
+    let masks = vec![in rt.alloc(); Mask::new_true(1), Mask::new_false(2)]?;
+    let some = Validity::from_mask_iter(rt.alloc(), masks.into_iter())?;
+    expect_valid(&rt, rt.alloc(), &some, &[true, false, false])
+}
+
+#[test]
+fn too_many_masks_of_an_iterator(rt: HostRuntime) -> Result<(), VortexError> {
+    let masks = vec![in rt.alloc(); Mask::new_true(usize::MAX), Mask::new_true(1)]?;
+    let many = Validity::from_mask_iter(rt.alloc(), masks.into_iter());
     assert!(rt; matches!(many, Err(VortexError::Overflow)));
     Ok(())
 }

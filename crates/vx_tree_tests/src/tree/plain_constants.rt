@@ -58,10 +58,15 @@ fn plain(
     ArrayRef::constant(alloc, Scalar::try_new(dtype, value)?, len)?.to_canonical(alloc)
 }
 
+// Three times the list of 7 and -8.
+fn three_lists(alloc: Global) -> Result<ArrayRef, VortexError> {
+    let value = list_value(alloc, &[Some(7), Some(-8)])?;
+    plain(alloc, lists(alloc)?, Some(value), 3)
+}
+
 #[test]
 fn lists_have_their_elements_once(rt: HostRuntime) -> Result<(), VortexError> {
-    let value = list_value(rt.alloc(), &[Some(7), Some(-8)])?;
-    let array = plain(rt.alloc(), lists(rt.alloc())?, Some(value), 3)?;
+    let array = three_lists(rt.alloc())?;
     assert!(rt; array.len() == 3 && array.dtype().is_nullable());
     for i in 0..3 {
         expect_list(&rt, rt.alloc(), &array, i, Some(&[7, -8]))?;
@@ -70,15 +75,25 @@ fn lists_have_their_elements_once(rt: HostRuntime) -> Result<(), VortexError> {
         panic!(rt; "no list view");
     };
     assert!(rt; elements.len() == 2 && matches!(elements.layout(), Layout::Primitive { .. }));
+    Ok(())
+}
+
+#[test]
+fn lists_that_are_null(rt: HostRuntime) -> Result<(), VortexError> {
     let none = plain(rt.alloc(), lists(rt.alloc())?, None, 2)?;
     assert!(rt; none.len() == 2 && !none.is_valid(rt.alloc(), 1)?);
     Ok(())
 }
 
+// Two times the pair of 7 and null.
+fn two_pairs(alloc: Global) -> Result<ArrayRef, VortexError> {
+    let value = list_value(alloc, &[Some(7), None])?;
+    plain(alloc, pairs(alloc)?, Some(value), 2)
+}
+
 #[test]
 fn pairs_are_repeated(rt: HostRuntime) -> Result<(), VortexError> {
-    let value = list_value(rt.alloc(), &[Some(7), None])?;
-    let array = plain(rt.alloc(), pairs(rt.alloc())?, Some(value), 2)?;
+    let array = two_pairs(rt.alloc())?;
     let Layout::FixedSizeList { elements, .. } = array.layout() else {
         panic!(rt; "no lists of one size");
     };
@@ -88,14 +103,22 @@ fn pairs_are_repeated(rt: HostRuntime) -> Result<(), VortexError> {
     Ok(())
 }
 
+// The value of a record of a long text and no pair.
+fn record_value(alloc: Global) -> Result<ScalarValue, VortexError> {
+    let text = ScalarValue::Text(ByteBuffer::copy_from(alloc, LONG)?);
+    let fields = vec![in alloc; Some(text), None]?;
+    Ok(ScalarValue::Record(ScalarValues::from_vec(alloc, fields)?))
+}
+
+// So many of these records.
+fn same_records(alloc: Global, len: usize) -> Result<ArrayRef, VortexError> {
+    let value = record_value(alloc)?;
+    plain(alloc, records(alloc)?, Some(value), len)
+}
+
 #[test]
 fn records_by_columns(rt: HostRuntime) -> Result<(), VortexError> {
-    let mut fields = Vec::new(rt.alloc());
-    fields.push(Some(ScalarValue::Text(ByteBuffer::copy_from(rt.alloc(), LONG)?)))?;
-    fields.push(None)?;
-    let value = ScalarValue::Record(ScalarValues::from_vec(rt.alloc(), fields)?);
-    let again = value.try_clone(rt.alloc())?;
-    let array = plain(rt.alloc(), records(rt.alloc())?, Some(value), 2)?;
+    let array = same_records(rt.alloc(), 2)?;
     let Layout::Struct { columns, .. } = array.layout() else {
         panic!(rt; "no records");
     };
@@ -106,7 +129,12 @@ fn records_by_columns(rt: HostRuntime) -> Result<(), VortexError> {
     };
     assert_eq!(rt; buffers.len(), 1);
     assert!(rt; columns[0].bytes_at(0) == Some(LONG) && columns[0].bytes_at(1) == Some(LONG));
-    let none = plain(rt.alloc(), records(rt.alloc())?, Some(again), 0)?;
+    Ok(())
+}
+
+#[test]
+fn no_records(rt: HostRuntime) -> Result<(), VortexError> {
+    let none = same_records(rt.alloc(), 0)?;
     assert!(rt; none.is_empty() && matches!(none.layout(), Layout::Struct { .. }));
     Ok(())
 }

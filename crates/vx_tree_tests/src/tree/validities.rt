@@ -54,44 +54,87 @@ fn expect_valid(
 
 // ---- patches
 
+// Stops unless five rows, patched at the places 2 and 4, are valid where this is true.
+fn expect_patched(
+    rt: &impl Abort,
+    alloc: Global,
+    rows: Validity,
+    patches: &Validity,
+    want: &[bool],
+) -> Result<(), VortexError> {
+    let patched = rows.patch(alloc, 5, 0, &two_and_four(alloc)?, patches)?;
+    expect_valid(rt, alloc, &patched, want)
+}
+
 #[test]
 fn all_valid_rows_are_patched(rt: HostRuntime) -> Result<(), VortexError> {
     let alloc = rt.alloc();
-    let places = two_and_four(alloc)?;
-    let same = Validity::AllValid.patch(alloc, 5, 0, &places, &Validity::AllValid)?;
-    expect_valid(&rt, alloc, &same, &[true, true, true, true, true])?;
-    let none = Validity::AllValid.patch(alloc, 5, 0, &places, &Validity::AllInvalid)?;
-    expect_valid(&rt, alloc, &none, &[true, true, false, true, false])?;
+    let all = Validity::AllValid;
+    expect_patched(
+        &rt,
+        alloc,
+        all,
+        &Validity::AllValid,
+        &[true, true, true, true, true],
+    )?;
+    let all = Validity::AllValid;
+    expect_patched(
+        &rt,
+        alloc,
+        all,
+        &Validity::AllInvalid,
+        &[true, true, false, true, false],
+    )?;
     let patches = valid(alloc, &[true, false])?;
-    let some = Validity::AllValid.patch(alloc, 5, 0, &places, &patches)?;
-    expect_valid(&rt, alloc, &some, &[true, true, true, true, false])
+    expect_patched(
+        &rt,
+        alloc,
+        Validity::AllValid,
+        &patches,
+        &[true, true, true, true, false],
+    )
 }
 
 #[test]
 fn null_rows_are_patched(rt: HostRuntime) -> Result<(), VortexError> {
     let alloc = rt.alloc();
-    let places = two_and_four(alloc)?;
-    let all = Validity::AllInvalid.patch(alloc, 5, 0, &places, &Validity::AllValid)?;
-    expect_valid(&rt, alloc, &all, &[false, false, true, false, true])?;
-    let same = Validity::AllInvalid.patch(alloc, 5, 0, &places, &Validity::AllInvalid)?;
-    expect_valid(&rt, alloc, &same, &[false, false, false, false, false])?;
+    let none = Validity::AllInvalid;
+    expect_patched(
+        &rt,
+        alloc,
+        none,
+        &Validity::AllValid,
+        &[false, false, true, false, true],
+    )?;
+    let none = Validity::AllInvalid;
+    expect_patched(&rt, alloc, none, &Validity::AllInvalid, &[false; 5])?;
     let patches = valid(alloc, &[true, false])?;
-    let some = Validity::AllInvalid.patch(alloc, 5, 0, &places, &patches)?;
-    expect_valid(&rt, alloc, &some, &[false, false, true, false, false])
+    let none = Validity::AllInvalid;
+    expect_patched(
+        &rt,
+        alloc,
+        none,
+        &patches,
+        &[false, false, true, false, false],
+    )
 }
 
 #[test]
 fn rows_of_an_array_are_patched(rt: HostRuntime) -> Result<(), VortexError> {
     let alloc = rt.alloc();
-    let places = two_and_four(alloc)?;
     let rows = [false, true, false, true, false];
-    let all = valid(alloc, &rows)?.patch(alloc, 5, 0, &places, &Validity::AllValid)?;
-    expect_valid(&rt, alloc, &all, &[false, true, true, true, true])?;
-    let none = valid(alloc, &rows)?.patch(alloc, 5, 0, &places, &Validity::AllInvalid)?;
-    expect_valid(&rt, alloc, &none, &rows)?;
+    let want = [false, true, true, true, true];
+    expect_patched(&rt, alloc, valid(alloc, &rows)?, &Validity::AllValid, &want)?;
+    expect_patched(
+        &rt,
+        alloc,
+        valid(alloc, &rows)?,
+        &Validity::AllInvalid,
+        &rows,
+    )?;
     let patches = valid(alloc, &[true, false])?;
-    let some = valid(alloc, &rows)?.patch(alloc, 5, 0, &places, &patches)?;
-    expect_valid(&rt, alloc, &some, &[false, true, true, true, false])
+    let want = [false, true, true, true, false];
+    expect_patched(&rt, alloc, valid(alloc, &rows)?, &patches, &want)
 }
 
 #[test]
@@ -134,20 +177,37 @@ fn patch_of_another_nullability(rt: HostRuntime) -> Result<(), VortexError> {
 
 // ---- rows
 
+// The numbers 0, null.
+fn zero_and_null(alloc: Global) -> Result<ArrayRef, VortexError> {
+    zero_and_one(alloc)?.mask(alloc, &booleans(alloc, &[true, false])?)
+}
+
+// Stops unless the rows at these places are valid where this is true, and can be null.
+fn expect_taken(
+    rt: &impl Abort,
+    alloc: Global,
+    rows: Validity,
+    places: &ArrayRef,
+    want: &[bool],
+) -> Result<(), VortexError> {
+    let taken = rows.take(alloc, places)?;
+    assert!(rt; taken.nullability() == Nullability::Nullable);
+    expect_valid(rt, alloc, &taken, want)
+}
+
+#[test]
+fn rows_at_indices_with_null(rt: HostRuntime) -> Result<(), VortexError> {
+    let alloc = rt.alloc();
+    let places = zero_and_null(alloc)?;
+    expect_taken(&rt, alloc, Validity::AllValid, &places, &[true, false])?;
+    expect_taken(&rt, alloc, Validity::NonNullable, &places, &[true, false])
+}
+
 #[test]
 fn rows_at_indices(rt: HostRuntime) -> Result<(), VortexError> {
-    let alloc = rt.alloc();
-    let plain = zero_and_one(alloc)?;
-    let some = plain.mask(alloc, &booleans(alloc, &[true, false])?)?;
-    let taken = Validity::AllValid.take(alloc, &some)?;
-    expect_valid(&rt, alloc, &taken, &[true, false])?;
-    let taken = Validity::NonNullable.take(alloc, &some)?;
-    expect_valid(&rt, alloc, &taken, &[true, false])?;
-    assert!(rt; taken.nullability() == Nullability::Nullable);
-    let taken = Validity::AllValid.take(alloc, &plain)?;
-    expect_valid(&rt, alloc, &taken, &[true, true])?;
-    assert!(rt; taken.nullability() == Nullability::Nullable);
-    let taken = Validity::NonNullable.take(alloc, &plain)?;
+    let places = zero_and_one(rt.alloc())?;
+    expect_taken(&rt, rt.alloc(), Validity::AllValid, &places, &[true, true])?;
+    let taken = Validity::NonNullable.take(rt.alloc(), &places)?;
     assert!(rt; taken.nullability() == Nullability::NonNullable);
     Ok(())
 }
@@ -216,18 +276,38 @@ fn row_of_another_data_type(rt: HostRuntime) -> Result<(), VortexError> {
 
 // ---- two of them
 
+// Stops unless the rows that are valid in both are those where this is true.
+fn expect_both(
+    rt: &impl Abort,
+    alloc: Global,
+    first: Validity,
+    second: Validity,
+    want: &[bool],
+) -> Result<(), VortexError> {
+    expect_valid(rt, alloc, &first.and(alloc, second)?, want)
+}
+
 #[test]
 fn rows_valid_in_both(rt: HostRuntime) -> Result<(), VortexError> {
     let alloc = rt.alloc();
-    let rows = valid(alloc, &[true, true, false])?;
-    let both = rows.and(alloc, valid(alloc, &[true, false, false])?)?;
-    expect_valid(&rt, alloc, &both, &[true, false, false])?;
-    let both = valid(alloc, &[true, false])?.and(alloc, Validity::NonNullable)?;
-    expect_valid(&rt, alloc, &both, &[true, false])?;
-    let both = Validity::AllValid.and(alloc, Validity::NonNullable)?;
+    let (first, second) = ([true, true, false], [true, false, false]);
+    expect_both(
+        &rt,
+        alloc,
+        valid(alloc, &first)?,
+        valid(alloc, &second)?,
+        &second,
+    )?;
+    let some = valid(alloc, &[true, false])?;
+    expect_both(&rt, alloc, some, Validity::NonNullable, &[true, false])
+}
+
+#[test]
+fn states_of_both(rt: HostRuntime) -> Result<(), VortexError> {
+    let both = Validity::AllValid.and(rt.alloc(), Validity::NonNullable)?;
     assert!(rt; both.definitely_no_nulls() && both.nullability() == Nullability::Nullable);
-    let both = valid(alloc, &[true, false])?.and(alloc, Validity::AllInvalid)?;
-    assert!(rt; both.definitely_all_null());
+    let none = valid(rt.alloc(), &[true, false])?.and(rt.alloc(), Validity::AllInvalid)?;
+    assert!(rt; none.definitely_all_null());
     Ok(())
 }
 
@@ -255,27 +335,39 @@ fn states_with_the_same_rows(rt: HostRuntime) -> Result<(), VortexError> {
 }
 
 #[test]
-fn arrays_with_the_same_rows(rt: HostRuntime) -> Result<(), VortexError> {
-    let alloc = rt.alloc();
-    let all = valid(alloc, &[true, true, true])?;
-    assert!(rt; all.mask_eq(alloc, &Validity::AllValid, 3)?);
-    assert!(rt; Validity::NonNullable.mask_eq(alloc, &all, 3)?);
-    let none = valid(alloc, &[false, false, false])?;
-    assert!(rt; none.mask_eq(alloc, &Validity::AllInvalid, 3)?);
-    let some = valid(alloc, &[true, false, true])?;
-    assert!(rt; !some.mask_eq(alloc, &Validity::AllValid, 3)?);
-    assert!(rt; !some.mask_eq(alloc, &Validity::AllInvalid, 3)?);
+fn arrays_of_even_rows(rt: HostRuntime) -> Result<(), VortexError> {
+    let all = valid(rt.alloc(), &[true, true, true])?;
+    assert!(rt; all.mask_eq(rt.alloc(), &Validity::AllValid, 3)?);
+    assert!(rt; Validity::NonNullable.mask_eq(rt.alloc(), &all, 3)?);
+    Ok(())
+}
+
+#[test]
+fn arrays_of_nulls(rt: HostRuntime) -> Result<(), VortexError> {
+    let none = valid(rt.alloc(), &[false, false, false])?;
+    assert!(rt; none.mask_eq(rt.alloc(), &Validity::AllInvalid, 3)?);
+    Ok(())
+}
+
+#[test]
+fn arrays_of_mixed_rows(rt: HostRuntime) -> Result<(), VortexError> {
+    let some = valid(rt.alloc(), &[true, false, true])?;
+    assert!(rt; !some.mask_eq(rt.alloc(), &Validity::AllValid, 3)?);
+    assert!(rt; !some.mask_eq(rt.alloc(), &Validity::AllInvalid, 3)?);
     Ok(())
 }
 
 #[test]
 fn masks_as_validities(rt: HostRuntime) -> Result<(), VortexError> {
-    let alloc = rt.alloc();
-    let bits = BitBuffer::from_bools(alloc, &[true, false])?;
-    let mask = Mask::from_buffer(alloc, bits)?;
-    let some = Validity::from_mask(alloc, mask, Nullability::Nullable)?;
-    expect_valid(&rt, alloc, &some, &[true, false])?;
-    let none = Validity::from_mask(alloc, Mask::new_false(9), Nullability::Nullable)?;
+    let bits = BitBuffer::from_bools(rt.alloc(), &[true, false])?;
+    let mask = Mask::from_buffer(rt.alloc(), bits)?;
+    let some = Validity::from_mask(rt.alloc(), mask, Nullability::Nullable)?;
+    expect_valid(&rt, rt.alloc(), &some, &[true, false])
+}
+
+#[test]
+fn even_masks_as_validities(rt: HostRuntime) -> Result<(), VortexError> {
+    let none = Validity::from_mask(rt.alloc(), Mask::new_false(9), Nullability::Nullable)?;
     assert!(rt; none.definitely_all_null());
     Ok(())
 }
@@ -294,15 +386,24 @@ fn arrays_of_states(rt: HostRuntime) -> Result<(), VortexError> {
 
 #[test]
 fn booleans_as_a_validity(rt: HostRuntime) -> Result<(), VortexError> {
-    let alloc = rt.alloc();
-    let some = Validity::from_buffer(alloc, BitBuffer::from_bools(alloc, &[true, false])?)?;
-    expect_valid(&rt, alloc, &some, &[true, false])?;
-    let none = Validity::from_buffer(alloc, BitBuffer::new_unset(alloc, 2)?)?;
+    let bits = BitBuffer::from_bools(rt.alloc(), &[true, false])?;
+    let some = Validity::from_buffer(rt.alloc(), bits)?;
+    expect_valid(&rt, rt.alloc(), &some, &[true, false])
+}
+
+#[test]
+fn even_booleans_as_a_validity(rt: HostRuntime) -> Result<(), VortexError> {
+    let none = Validity::from_buffer(rt.alloc(), BitBuffer::new_unset(rt.alloc(), 2)?)?;
     assert!(rt; none.definitely_all_null());
-    let all = BitBuffer::new_set(alloc, 2)?;
-    let all = Validity::from_bit_buffer(alloc, all, Nullability::NonNullable)?;
+    let all = BitBuffer::new_set(rt.alloc(), 2)?;
+    let all = Validity::from_bit_buffer(rt.alloc(), all, Nullability::NonNullable)?;
     assert!(rt; all.nullability() == Nullability::NonNullable);
-    let empty = Validity::from_buffer(alloc, BitBuffer::new_set(alloc, 0)?)?;
+    Ok(())
+}
+
+#[test]
+fn no_booleans_as_a_validity(rt: HostRuntime) -> Result<(), VortexError> {
+    let empty = Validity::from_buffer(rt.alloc(), BitBuffer::new_set(rt.alloc(), 0)?)?;
     assert!(rt; empty.definitely_no_nulls() && empty.nullability() == Nullability::Nullable);
     Ok(())
 }
