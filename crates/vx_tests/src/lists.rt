@@ -123,28 +123,36 @@ fn lists_in_another_order_are_laid_out(rt: HostRuntime) -> Result<(), Fail> {
     Ok(())
 }
 
-#[test]
-fn elements_of_another_layout_are_taken(rt: HostRuntime) -> Result<(), Fail> {
-    let alloc = rt.alloc();
+// Two lists of two zeroes each, out of nine that are one constant.
+fn lists_of_a_constant(alloc: Global) -> Result<ListViewArray, VortexError> {
     let zero = Scalar::int(0, PType::I64, Nullability::NonNullable);
     let elements = ArrayRef::constant(alloc, zero, 9)?;
     let sizes = Scalar::int(2, PType::U8, Nullability::NonNullable);
     let sizes = ArrayRef::constant(alloc, sizes, 2)?;
     let offsets = ints::<u8>(alloc, &[7, 0])?;
-    let lists = ListViewArray::try_new(alloc, elements, offsets, sizes, Validity::NonNullable)?;
-    assert!(rt; rebuilds_to(alloc, &lists, &[(0, 2), (2, 2)], &[0, 0, 0, 0])?);
-    Ok(())
+    ListViewArray::try_new(alloc, elements, offsets, sizes, Validity::NonNullable)
 }
 
 #[test]
-fn a_total_past_the_offset_type_is_refused(rt: HostRuntime) -> Result<(), Fail> {
-    let alloc = rt.alloc();
+fn elements_of_another_layout_are_taken(rt: HostRuntime) -> Result<(), Fail> {
+    let lists = lists_of_a_constant(rt.alloc())?;
+    assert!(rt; rebuilds_to(rt.alloc(), &lists, &[(0, 2), (2, 2)], &[0, 0, 0, 0])?);
+    Ok(())
+}
+
+// Lists of 2^31 elements in all, with offsets of 32 bits.
+fn lists_past_their_offsets(alloc: Global) -> Result<ListViewArray, VortexError> {
     let zero = Scalar::int(0, PType::I32, Nullability::NonNullable);
     let elements = ArrayRef::constant(alloc, zero, 4_294_967_296)?;
     let offsets = ints::<i32>(alloc, &[0, 0])?;
     let sizes = ints::<i32>(alloc, &[2_147_483_647, 1])?;
-    let lists = ListViewArray::try_new(alloc, elements, offsets, sizes, Validity::NonNullable)?;
-    assert!(rt; matches!(lists.rebuild_by_take(alloc), Err(VortexError::Overflow)));
+    ListViewArray::try_new(alloc, elements, offsets, sizes, Validity::NonNullable)
+}
+
+#[test]
+fn a_total_past_the_offset_type_is_refused(rt: HostRuntime) -> Result<(), Fail> {
+    let rebuilt = lists_past_their_offsets(rt.alloc())?.rebuild_by_take(rt.alloc());
+    assert!(rt; matches!(rebuilt, Err(VortexError::Overflow)));
     Ok(())
 }
 
@@ -198,12 +206,16 @@ fn list_elements_are_a_slice(rt: HostRuntime) -> Result<(), Fail> {
 }
 
 #[test]
-fn another_layout_comes_back(rt: HostRuntime) -> Result<(), Fail> {
-    let alloc = rt.alloc();
-    let lists = view::<u32>(alloc, &[1], &[0], &[1], Validity::NonNullable)?;
+fn lists_come_back(rt: HostRuntime) -> Result<(), Fail> {
+    let lists = view::<u32>(rt.alloc(), &[1], &[0], &[1], Validity::NonNullable)?;
     assert!(rt; matches!(lists.dtype(), DType::List(_, _)) && lists.as_array().len() == 1);
     assert!(rt; ListViewArray::try_from_array(lists.into_array()).is_ok());
-    assert!(rt; ListViewArray::try_from_array(bools(alloc, &[true])?).is_err());
+    Ok(())
+}
+
+#[test]
+fn another_layout_comes_back(rt: HostRuntime) -> Result<(), Fail> {
+    assert!(rt; ListViewArray::try_from_array(bools(rt.alloc(), &[true])?).is_err());
     Ok(())
 }
 
@@ -256,16 +268,25 @@ fn lists_that_reach_both_ends_stay(rt: HostRuntime) -> Result<(), Fail> {
     Ok(())
 }
 
+// The lists of two from the fifth element on, of none after the seventh, and null.
+fn scattered(alloc: Global) -> Result<ListViewArray, VortexError> {
+    let validity = Validity::Array(bools(alloc, &[true, true, false])?);
+    view::<i32>(alloc, &[0; 9], &[4, 7, 1], &[2, 0, 1], validity)
+}
+
 #[test]
 fn bounds_count_null_and_empty_lists(rt: HostRuntime) -> Result<(), Fail> {
-    let alloc = rt.alloc();
-    let validity = Validity::Array(bools(alloc, &[true, true, false])?);
-    let lists = view::<i32>(alloc, &[0; 9], &[4, 7, 1], &[2, 0, 1], validity)?;
+    let lists = scattered(rt.alloc())?;
     let (start, end) = lists.referenced_element_bounds()?;
     assert_eq!(rt; (start, end), (1, 7));
-    let trimmed = lists.trim_elements(alloc, start, end)?;
+    let trimmed = lists.trim_elements(rt.alloc(), start, end)?;
     assert!(rt; has_ranges(&trimmed, &[(3, 2), (6, 0), (0, 1)]) && trimmed.elements().len() == 6);
-    let none = view::<i32>(alloc, &[1], &[], &[], Validity::NonNullable)?;
+    Ok(())
+}
+
+#[test]
+fn no_lists_have_no_bounds(rt: HostRuntime) -> Result<(), Fail> {
+    let none = view::<i32>(rt.alloc(), &[1], &[], &[], Validity::NonNullable)?;
     assert_eq!(rt;
         none.referenced_element_bounds(),
         Err(VortexError::EmptyInput)
@@ -284,28 +305,50 @@ fn referenced_elements_are_marked(rt: HostRuntime) -> Result<(), Fail> {
 }
 
 #[test]
-fn exact_views_have_no_other_element(rt: HostRuntime) -> Result<(), Fail> {
-    let alloc = rt.alloc();
-    let middle = flagged_middle(alloc)?;
-    let kept = middle.rebuild(alloc, ListViewRebuildMode::MakeZeroCopyToList)?;
+fn flagged_views_keep_their_elements(rt: HostRuntime) -> Result<(), Fail> {
+    let middle = flagged_middle(rt.alloc())?;
+    let kept = middle.rebuild(rt.alloc(), ListViewRebuildMode::MakeZeroCopyToList)?;
     assert!(rt; has_ranges(&kept, &[(1, 1), (2, 1)]) && kept.elements().len() == 4);
-    let exact = middle.rebuild(alloc, ListViewRebuildMode::MakeExact)?;
-    assert!(rt; has_ranges(&exact, &[(0, 1), (1, 1)]) && exact.is_zero_copy_to_list());
-    assert!(rt; has_numbers(exact.elements(), &[1, 2]));
-    let lists = view::<u8>(alloc, &[5, 6, 7], &[2, 0], &[1, 1], Validity::NonNullable)?;
+    Ok(())
+}
+
+// Whether making it exact gives a flagged view of these elements.
+fn is_exact_with(
+    alloc: Global,
+    lists: &ListViewArray,
+    elements: &[i128],
+) -> Result<bool, VortexError> {
     let exact = lists.rebuild(alloc, ListViewRebuildMode::MakeExact)?;
-    assert!(rt; has_numbers(exact.elements(), &[7, 5]) && exact.is_zero_copy_to_list());
+    let has_two = has_ranges(&exact, &[(0, 1), (1, 1)]);
+    Ok(has_two && exact.is_zero_copy_to_list() && has_numbers(exact.elements(), elements))
+}
+
+#[test]
+fn exact_views_have_no_other_element(rt: HostRuntime) -> Result<(), Fail> {
+    assert!(rt; is_exact_with(rt.alloc(), &flagged_middle(rt.alloc())?, &[1, 2])?);
+    let lists = view::<u8>(
+        rt.alloc(),
+        &[5, 6, 7],
+        &[2, 0],
+        &[1, 1],
+        Validity::NonNullable,
+    )?;
+    assert!(rt; is_exact_with(rt.alloc(), &lists, &[7, 5])?);
+    Ok(())
+}
+
+#[test]
+fn overlaps_of_no_lists_are_compressed(rt: HostRuntime) -> Result<(), Fail> {
+    let none = view::<u8>(rt.alloc(), &[1, 2, 3], &[], &[], Validity::NonNullable)?;
+    let kept = none.rebuild(rt.alloc(), ListViewRebuildMode::OverlapCompression)?;
+    assert!(rt; kept.is_zero_copy_to_list() && kept.elements().len() == 3);
     Ok(())
 }
 
 #[test]
 fn overlaps_are_not_compressed(rt: HostRuntime) -> Result<(), Fail> {
-    let alloc = rt.alloc();
-    let none = view::<u8>(alloc, &[1, 2, 3], &[], &[], Validity::NonNullable)?;
-    let kept = none.rebuild(alloc, ListViewRebuildMode::OverlapCompression)?;
-    assert!(rt; kept.is_zero_copy_to_list() && kept.elements().len() == 3);
-    let one = view::<u8>(alloc, &[1, 2, 3], &[0], &[1], Validity::NonNullable)?;
-    let refused = one.rebuild(alloc, ListViewRebuildMode::OverlapCompression);
+    let one = view::<u8>(rt.alloc(), &[1, 2, 3], &[0], &[1], Validity::NonNullable)?;
+    let refused = one.rebuild(rt.alloc(), ListViewRebuildMode::OverlapCompression);
     assert!(rt; matches!(refused, Err(VortexError::NotImplemented)));
     Ok(())
 }
@@ -334,15 +377,18 @@ fn runs_give_the_same_layout(rt: HostRuntime) -> Result<(), Fail> {
     Ok(())
 }
 
-#[test]
-fn more_elements_than_positions_fit_are_rebuilt(rt: HostRuntime) -> Result<(), Fail> {
-    let alloc = rt.alloc();
+// One list of 2^60 zeroes.
+fn long_list(alloc: Global) -> Result<ListViewArray, VortexError> {
     let zero = Scalar::int(0, PType::U8, Nullability::NonNullable);
     let elements = ArrayRef::constant(alloc, zero, 1_152_921_504_606_846_976)?;
     let offsets = ints::<u64>(alloc, &[0])?;
     let sizes = ints::<u64>(alloc, &[1_152_921_504_606_846_976])?;
-    let lists = ListViewArray::try_new(alloc, elements, offsets, sizes, Validity::NonNullable)?;
-    let rebuilt = lists.rebuild_by_runs(alloc)?;
+    ListViewArray::try_new(alloc, elements, offsets, sizes, Validity::NonNullable)
+}
+
+#[test]
+fn more_elements_than_positions_fit_are_rebuilt(rt: HostRuntime) -> Result<(), Fail> {
+    let rebuilt = long_list(rt.alloc())?.rebuild_by_runs(rt.alloc())?;
     assert!(rt; has_ranges(&rebuilt, &[(0, 1_152_921_504_606_846_976)]));
     assert!(rt; rebuilt.elements().len() == 1_152_921_504_606_846_976);
     Ok(())

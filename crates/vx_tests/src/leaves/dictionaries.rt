@@ -28,12 +28,17 @@ fn two_of_three(alloc: Global) -> Result<DictArray, VortexError> {
     DictArray::try_new(alloc, plain(alloc, &[0, 2, 0])?, plain(alloc, &[5, 6, 9])?)
 }
 
+// The rows null, null, 9, null, 6 by codes, of which two are null, into values, of which one is.
+fn nulls_of_both(alloc: Global) -> Result<DictArray, VortexError> {
+    let valid = [true, false, true, false, true];
+    let codes = masked(alloc, &[0, -3, 2, 99, 1], &valid)?;
+    let values = masked(alloc, &[0, 6, 9], &[false, true, true])?;
+    DictArray::try_new(alloc, codes, values)
+}
+
 #[test]
 fn null_codes_and_null_values(rt: HostRuntime) -> Result<(), Fail> {
-    let valid = [true, false, true, false, true];
-    let codes = masked(rt.alloc(), &[0, -3, 2, 99, 1], &valid)?;
-    let values = masked(rt.alloc(), &[0, 6, 9], &[false, true, true])?;
-    let array = DictArray::try_new(rt.alloc(), codes, values)?.into_array();
+    let array = nulls_of_both(rt.alloc())?.into_array();
     assert!(rt; array.len() == 5 && !array.is_valid(rt.alloc(), 0)?);
     assert!(rt; !array.is_valid(rt.alloc(), 1)? && !array.is_valid(rt.alloc(), 3)?);
     assert!(rt; array.execute_scalar(rt.alloc(), 2)?.as_int() == Some(9));
