@@ -3,6 +3,9 @@
 //! The data, the names, the checksums and what is printed are those of `crates/vx_bench`. Buffers are
 //! shared by `Arc`; each function tests what it is given, and refuses by an `Err`.
 
+mod leaves;
+mod trees;
+
 use std::hint::black_box;
 use std::ops::Range;
 use std::process::ExitCode;
@@ -16,6 +19,7 @@ type Result<T> = std::result::Result<T, Refusal>;
 enum Refusal {
     Usage,
     LengthMismatch,
+    HasNulls,
     OutOfBounds(usize),
     Overflow,
     ValueTooLong(usize),
@@ -356,12 +360,6 @@ fn referenced_values(codes: &[u32], count: usize) -> Bits {
         words[*code as usize / 64] |= 1 << (code % 64);
     }
     Bits { words: Buffer::new(words), len: count }
-}
-
-#[inline(never)]
-fn mask_views(views: &[View], mask: &Bits) -> Vec<View> {
-    let rows = views.iter().enumerate();
-    rows.map(|(i, view)| if mask.value(i) { *view } else { View(0) }).collect()
 }
 
 /// Numbers of a type that is known at run time.
@@ -957,23 +955,6 @@ impl Operation for ReferencedValues {
     }
 }
 
-struct MaskViews {
-    views: Vec<View>,
-    mask: Bits,
-}
-
-impl Operation for MaskViews {
-    type Made = Vec<View>;
-
-    fn run(&mut self) -> Result<Vec<View>> {
-        Ok(mask_views(&self.views, &self.mask))
-    }
-
-    fn checksum(&self, made: Vec<View>) -> u64 {
-        EMPTY.with_views(&made).0
-    }
-}
-
 struct SliceListView {
     array: Arc<ListViewArray>,
     count: usize,
@@ -1274,7 +1255,7 @@ impl Operation for WriteCounts {
     }
 }
 
-const OPERATIONS: [&str; 41] = [
+const OPERATIONS: [&str; 64] = [
     "rebuild_in_order",
     "rebuild_at_random",
     "rebuild_in_order_null",
@@ -1293,7 +1274,21 @@ const OPERATIONS: [&str; 41] = [
     "filter_views",
     "filter_fixed_lists",
     "filter_records",
+    "filter_dictionary",
+    "mask_numbers",
+    "mask_list_view",
     "mask_views",
+    "concat_numbers",
+    "concat_bools",
+    "concat_list_view",
+    "concat_views",
+    "concat_fixed_lists",
+    "concat_records",
+    "canonical_constant",
+    "canonical_constant_text",
+    "canonical_constant_list",
+    "canonical_dictionary",
+    "canonical_list_view",
     "slice_list_view",
     "list_view_try_new",
     "is_consecutive",
@@ -1314,6 +1309,15 @@ const OPERATIONS: [&str; 41] = [
     "from_byte_buffer",
     "read_counts",
     "write_counts",
+    "numbers_from_iter",
+    "numbers_from_option_iter",
+    "numbers_from_values",
+    "numbers_to_buffer",
+    "bools_from_iter",
+    "bools_from_option_iter",
+    "bools_from_indices",
+    "bools_execute_mask",
+    "bools_to_mask",
     "narrow",
     "referenced_values",
 ];
@@ -1353,14 +1357,11 @@ fn views_of(rows: usize) -> Result<Vec<View>> {
 
 fn measure_rows(bench: &Bench, name: &str) -> Result<()> {
     let rows = rows_of(bench.rows, name)?;
-    let mask = || random_bits(bench.rows, 4, 8);
     if name.starts_with("take") {
         let indices = random_numbers(bench.rows, bench.rows as u32, 5);
         bench.measure(TakeRows { rows, indices })
-    } else if name.starts_with("filter") {
-        bench.measure(FilterRows { rows, mask: mask() })
     } else {
-        bench.measure(MaskViews { views: views_of(bench.rows)?, mask: mask() })
+        bench.measure(FilterRows { rows, mask: random_bits(bench.rows, 4, 8) })
     }
 }
 
@@ -1393,10 +1394,23 @@ fn measure_lists(bench: &Bench, name: &str) -> Result<()> {
         }
         "take_views" | "take_fixed_lists" | "take_records" | "take_dictionary" | "filter_numbers" | "filter_bools"
         | "filter_list_view" | "filter_views" | "filter_fixed_lists" | "filter_records"
-        | "mask_views" => measure_rows(bench, name),
+        | "filter_dictionary" => measure_rows(bench, name),
         "list_view_try_new" => bench.measure(ListViewTryNew(list_view(rows, AT_RANDOM)?)),
         "is_consecutive" => bench.measure(IsConsecutive(list_view(rows, IN_ORDER)?)),
         _ => measure_flat(bench, name),
+    }
+}
+
+/// The operation of a name, by the first word of it.
+fn measure(bench: &Bench, name: &str) -> Result<()> {
+    let (verb, rest) = name.split_once('_').unwrap_or((name, ""));
+    match verb {
+        "mask" => trees::measure_mask(bench, rest),
+        "concat" => trees::measure_concat(bench, rest),
+        "canonical" => trees::measure_canonical(bench, rest),
+        "numbers" => leaves::measure_numbers(bench, rest),
+        "bools" => leaves::measure_bools(bench, rest),
+        _ => measure_lists(bench, name),
     }
 }
 
@@ -1449,13 +1463,13 @@ fn start() -> Result<()> {
             let bench = Bench { rows: 1_000, runs: None };
             for name in OPERATIONS {
                 print!("{name} ");
-                measure_lists(&bench, name)?;
+                measure(&bench, name)?;
             }
             Ok(())
         }
         [name, runs] => {
             let runs = runs.parse().map_err(|_| Refusal::Usage)?;
-            measure_lists(&Bench { rows: 1_000_000, runs: Some(runs) }, name)
+            measure(&Bench { rows: 1_000_000, runs: Some(runs) }, name)
         }
         _ => Err(Refusal::Usage),
     }

@@ -2,7 +2,7 @@
 
 use vx_base::{BitBuffer, ByteBuffer};
 use vx_lists::ListViewArray;
-use vx_tree::{ArrayRef, Layout};
+use vx_tree::{ArrayRef, Layout, Validity};
 use vx_views::BinaryView;
 
 // A running sum.
@@ -26,6 +26,14 @@ impl Checksum {
         let mut sum = self;
         for word in words {
             sum = sum.with_word(*word as u64);
+        }
+        sum
+    }
+
+    pub(crate) fn with_numbers(self, numbers: &[u32]) -> Checksum {
+        let mut sum = self;
+        for number in numbers {
+            sum = sum.with_word(*number as u64);
         }
         sum
     }
@@ -106,6 +114,26 @@ impl Checksum {
             Layout::VarBinView { views, .. } => self.with_views(views.as_slice()),
             Layout::Struct { columns, .. } => self.with_arrays(columns),
             _ => self.with_array(array),
+        }
+    }
+
+    // The array of a validity, if it has one.
+    pub(crate) fn with_validity(self, validity: &Validity) -> Checksum {
+        match validity {
+            Validity::Array(array) => self.with_array(array),
+            _ => self,
+        }
+    }
+
+    // The parts of an array, its validity among them.
+    pub(crate) fn with_nullable(self, array: &ArrayRef) -> Checksum {
+        let sum = self.with_parts(array);
+        match array.layout() {
+            Layout::Bool { validity, .. } => sum.with_validity(validity),
+            Layout::Primitive { validity, .. } => sum.with_validity(validity),
+            Layout::ListView { validity, .. } => sum.with_validity(validity),
+            Layout::VarBinView { validity, .. } => sum.with_validity(validity),
+            _ => sum,
         }
     }
 

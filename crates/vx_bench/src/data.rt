@@ -4,8 +4,12 @@ ghost use Rattle.std.specs.Prelude.{◌≤◌, ◌<◌};
 
 use crate::fault::Fault;
 use std::alloc::Global;
-use vx_base::{BitBuffer, Buffer, ByteBuffer, DType, FieldNames, Mask, Nullability};
-use vx_leaves::{BoolArray, DictArray, PrimitiveArray};
+use std::rc::Rc;
+use vx_base::{
+    BitBuffer, Buffer, ByteBuffer, DType, FieldNames, Mask, Nullability, PType, Scalar,
+    ScalarValue, ScalarValues,
+};
+use vx_leaves::{BoolArray, ConstantArray, DictArray, PrimitiveArray};
 use vx_lists::ListViewArray;
 use vx_tree::{ArrayRef, TypedArray, Validity};
 use vx_views::{MAX_BUFFER_LEN, build_views, check_views};
@@ -17,6 +21,10 @@ pub(crate) enum Scale {
     Small,
     // A million rows.
     Large,
+    // A quarter of a thousand rows.
+    SmallQuarter,
+    // A quarter of a million rows.
+    LargeQuarter,
 }
 
 impl Scale {
@@ -26,6 +34,17 @@ impl Scale {
         match self {
             Scale::Small => 1_000,
             Scale::Large => 1_000_000,
+            Scale::SmallQuarter => 250,
+            Scale::LargeQuarter => 250_000,
+        }
+    }
+
+    // A quarter of as much; of a quarter the same.
+    pub(crate) fn quarter(self) -> Scale {
+        match self {
+            Scale::Small => Scale::SmallQuarter,
+            Scale::Large => Scale::LargeQuarter,
+            quarter => quarter,
         }
     }
 }
@@ -73,6 +92,15 @@ pub(crate) fn random_numbers(
     Ok(numbers)
 }
 
+// So many positions below that number.
+pub(crate) fn random_positions(alloc: Global, count: usize) -> Result<Vec<usize>, Fault> {
+    let mut positions = Vec::with_capacity(alloc, count)?;
+    for number in random_numbers(alloc, count, count as u32, 5)? {
+        positions.push(number as usize)?;
+    }
+    Ok(positions)
+}
+
 // So many truth values, of which one in `limit` is false.
 pub(crate) fn random_bools(
     alloc: Global,
@@ -98,6 +126,30 @@ pub(crate) fn random_bits(
     Ok(BitBuffer::from_bools(alloc, &bools)?)
 }
 
+// So many numbers, of which one in ten is left out.
+pub(crate) fn optional_numbers(alloc: Global, count: usize) -> Result<Vec<Option<u32>>, Fault> {
+    let numbers = random_numbers(alloc, count, u32::MAX, 6)?;
+    let mut present = Random::new(3);
+    let mut items = Vec::with_capacity(alloc, count)?;
+    for number in numbers {
+        let is_present = present.below(10) != 0;
+        items.push(is_present.then_some(number))?;
+    }
+    Ok(items)
+}
+
+// So many truth values, of which one in ten is left out.
+pub(crate) fn optional_bools(alloc: Global, count: usize) -> Result<Vec<Option<bool>>, Fault> {
+    let bools = random_bools(alloc, count, 2, 7)?;
+    let mut present = Random::new(3);
+    let mut items = Vec::with_capacity(alloc, count)?;
+    for truth in bools {
+        let is_present = present.below(10) != 0;
+        items.push(is_present.then_some(truth))?;
+    }
+    Ok(items)
+}
+
 // The multiples of `step`, from 0 on.
 pub(crate) fn multiples(alloc: Global, count: usize, step: u32) -> Result<Vec<u32>, Fault> {
     let mut numbers = Vec::with_capacity(alloc, count)?;
@@ -112,6 +164,23 @@ pub(crate) fn multiples(alloc: Global, count: usize, step: u32) -> Result<Vec<u3
 pub(crate) fn number_array(alloc: Global, numbers: Vec<u32>) -> Result<ArrayRef, Fault> {
     let buffer = Buffer::from_vec(alloc, numbers)?;
     Ok(PrimitiveArray::try_new(alloc, buffer, Validity::NonNullable)?.into_array())
+}
+
+// The bytes of so many numbers.
+pub(crate) fn number_bytes(alloc: Global, rows: usize) -> Result<ByteBuffer, Fault> {
+    let buffer = Buffer::from_vec(alloc, random_numbers(alloc, rows, u32::MAX, 6)?)?;
+    Ok(buffer.into_byte_buffer(alloc)?)
+}
+
+// Numbers that are null where a bit is false.
+pub(crate) fn nullable_numbers(
+    alloc: Global,
+    numbers: Vec<u32>,
+    valid: BitBuffer,
+) -> Result<ArrayRef, Fault> {
+    let buffer = Buffer::from_vec(alloc, numbers)?;
+    let validity = Validity::Array(bool_array(alloc, valid)?);
+    Ok(PrimitiveArray::try_new(alloc, buffer, validity)?.into_array())
 }
 
 pub(crate) fn bool_array(alloc: Global, bits: BitBuffer) -> Result<ArrayRef, Fault> {
@@ -245,6 +314,46 @@ pub(crate) fn dictionary(alloc: Global, rows: usize) -> Result<DictArray, Fault>
     let codes = number_array(alloc, random_numbers(alloc, rows, 1000, 9)?)?;
     let values = number_array(alloc, random_numbers(alloc, 1000, u32::MAX, 6)?)?;
     Ok(DictArray::try_new(alloc, codes, values)?)
+}
+
+// A number in so many rows.
+pub(crate) fn constant_number(alloc: Global, number: u32, rows: usize) -> Result<ArrayRef, Fault> {
+    let dtype = DType::Primitive(PType::U32, Nullability::NonNullable);
+    let scalar = Scalar::try_new(dtype, Some(ScalarValue::Int(number as i128)))?;
+    Ok(ConstantArray::new(alloc, scalar, rows)?.into_array())
+}
+
+// A text of 24 bytes in so many rows.
+pub(crate) fn constant_text(alloc: Global, rows: usize) -> Result<ArrayRef, Fault> {
+    let text = ByteBuffer::copy_from(alloc, b"the same text everywhere")?;
+    let dtype = DType::Utf8(Nullability::NonNullable);
+    let scalar = Scalar::try_new(dtype, Some(ScalarValue::Text(text)))?;
+    Ok(ConstantArray::new(alloc, scalar, rows)?.into_array())
+}
+
+// A list of a hundred numbers in so many rows.
+pub(crate) fn constant_list(alloc: Global, rows: usize) -> Result<ArrayRef, Fault> {
+    let mut values = Vec::with_capacity(alloc, 100)?;
+    for number in random_numbers(alloc, 100, u32::MAX, 6)? {
+        values.push(Some(ScalarValue::Int(number as i128)))?;
+    }
+    let values = ScalarValue::List(ScalarValues::from_vec(alloc, values)?);
+    let items = DType::Primitive(PType::U32, Nullability::NonNullable);
+    let dtype = DType::List(Rc::new(alloc, items)?, Nullability::NonNullable);
+    let scalar = Scalar::try_new(dtype, Some(values))?;
+    Ok(ConstantArray::new(alloc, scalar, rows)?.into_array())
+}
+
+// Lists of four numbers each that lie anywhere, their sizes a constant.
+pub(crate) fn lists_of_one_size(alloc: Global, scale: Scale) -> Result<ArrayRef, Fault> {
+    let rows = scale.rows();
+    let count = 4 * rows;
+    let limit = (count as u32).saturating_sub(4);
+    let elements = number_array(alloc, random_numbers(alloc, count, u32::MAX, 1)?)?;
+    let offsets = number_array(alloc, random_numbers(alloc, rows, limit, 2)?)?;
+    let sizes = constant_number(alloc, 4, rows)?;
+    let validity = Validity::NonNullable;
+    Ok(ListViewArray::try_new(alloc, elements, offsets, sizes, validity)?.into_array())
 }
 
 // So many numbers below 60000.

@@ -87,11 +87,7 @@ impl Operation for FromByteBuffer {
     }
 
     fn checksum(&self, made: Buffer<u32>) -> Result<u64, Fault> {
-        let mut sum = Checksum::new();
-        for number in made.as_slice() {
-            sum = sum.with_word(*number as u64);
-        }
-        Ok(sum.value())
+        Ok(Checksum::new().with_numbers(made.as_slice()).value())
     }
 }
 

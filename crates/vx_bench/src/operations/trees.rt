@@ -2,8 +2,9 @@
 
 use crate::checksum::Checksum;
 use crate::data::{
-    ListShape, Scale, bool_array, dictionary, fixed_size_lists, list_view, number_array,
-    random_bits, random_numbers, records, text_array,
+    ListShape, Scale, bool_array, constant_list, constant_number, constant_text, dictionary,
+    fixed_size_lists, list_view, lists_of_one_size, nullable_numbers, number_array, random_bits,
+    random_numbers, records, text_array,
 };
 use crate::fault::Fault;
 use crate::operation::{Bench, Operation};
@@ -15,6 +16,11 @@ const LISTS: ListShape = ListShape {
     size: 4,
     in_order: false,
     some_null: false,
+};
+
+const NULLABLE_LISTS: ListShape = ListShape {
+    some_null: true,
+    ..LISTS
 };
 
 // Taking rows of an array at indices of which each is any.
@@ -70,47 +76,128 @@ impl Operation for MakeNull {
     }
 
     fn checksum(&self, made: ArrayRef) -> Result<u64, Fault> {
+        Ok(Checksum::new().with_nullable(&made).value())
+    }
+}
+
+// Joining arrays, one after another.
+#[derive(Drop)]
+struct Concat {
+    arrays: Vec<ArrayRef>,
+}
+
+impl Operation for Concat {
+    type Made = ArrayRef;
+
+    fn run(&mut self, alloc: Global) -> Result<ArrayRef, Fault> {
+        Ok(ArrayRef::concat(alloc, &self.arrays)?)
+    }
+
+    fn checksum(&self, made: ArrayRef) -> Result<u64, Fault> {
         Ok(Checksum::new().with_parts(&made).value())
     }
 }
 
-// The array of an operation, by the last word of its name.
-fn array_of(alloc: Global, scale: Scale, name: &str) -> Result<ArrayRef, Fault> {
+// The plain layout of an array.
+#[derive(Drop)]
+struct ToCanonical {
+    array: ArrayRef,
+}
+
+impl Operation for ToCanonical {
+    type Made = ArrayRef;
+
+    fn run(&mut self, alloc: Global) -> Result<ArrayRef, Fault> {
+        Ok(self.array.to_canonical(alloc)?)
+    }
+
+    fn checksum(&self, made: ArrayRef) -> Result<u64, Fault> {
+        Ok(Checksum::new().with_parts(&made).value())
+    }
+}
+
+// Plain rows of a layout.
+fn array_of(alloc: Global, scale: Scale, layout: &str) -> Result<ArrayRef, Fault> {
     let rows = scale.rows();
-    match name {
-        "take_numbers" | "filter_numbers" => {
-            number_array(alloc, random_numbers(alloc, rows, u32::MAX, 6)?)
+    match layout {
+        "numbers" => number_array(alloc, random_numbers(alloc, rows, u32::MAX, 6)?),
+        "bools" => bool_array(alloc, random_bits(alloc, rows, 2, 7)?),
+        "list_view" => Ok(list_view(alloc, scale, LISTS)?.into_array()),
+        "views" => text_array(alloc, rows),
+        "fixed_lists" => fixed_size_lists(alloc, scale),
+        "records" => records(alloc, rows),
+        "dictionary" => Ok(dictionary(alloc, rows)?.into_array()),
+        _ => Err(Fault::Usage),
+    }
+}
+
+// Rows some of which are null, where they are to become null.
+fn array_to_mask(alloc: Global, scale: Scale, layout: &str) -> Result<ArrayRef, Fault> {
+    let rows = scale.rows();
+    match layout {
+        "numbers" => {
+            let numbers = random_numbers(alloc, rows, u32::MAX, 6)?;
+            nullable_numbers(alloc, numbers, random_bits(alloc, rows, 10, 3)?)
         }
-        "take_bools" | "filter_bools" => bool_array(alloc, random_bits(alloc, rows, 2, 7)?),
-        "take_views" | "filter_views" | "mask_views" => text_array(alloc, rows),
-        "take_fixed_lists" | "filter_fixed_lists" => fixed_size_lists(alloc, scale),
-        "take_records" | "filter_records" => records(alloc, rows),
-        "take_dictionary" => Ok(dictionary(alloc, rows)?.into_array()),
-        _ => Ok(list_view(alloc, scale, LISTS)?.into_array()),
+        "list_view" => Ok(list_view(alloc, scale, NULLABLE_LISTS)?.into_array()),
+        _ => array_of(alloc, scale, layout),
+    }
+}
+
+// Rows that are not in plain layout.
+fn array_to_write(alloc: Global, scale: Scale, layout: &str) -> Result<ArrayRef, Fault> {
+    let rows = scale.rows();
+    match layout {
+        "constant" => constant_number(alloc, 1_000_003, rows),
+        "constant_text" => constant_text(alloc, rows),
+        "constant_list" => constant_list(alloc, rows),
+        "list_view" => lists_of_one_size(alloc, scale),
+        _ => array_of(alloc, scale, layout),
     }
 }
 
 // Measures a taking.
-pub(crate) fn measure_take(rt: &HostRuntime, bench: &Bench, name: &str) -> Result<(), Fault> {
+pub(crate) fn measure_take(rt: &HostRuntime, bench: &Bench, layout: &str) -> Result<(), Fault> {
     let alloc = rt.alloc();
-    let array = array_of(alloc, bench.scale, name)?;
+    let array = array_of(alloc, bench.scale, layout)?;
     let rows = bench.scale.rows();
     let indices = number_array(alloc, random_numbers(alloc, rows, rows as u32, 5)?)?;
     bench.measure(rt, Take { array, indices })
 }
 
 // Measures a filter, which keeps three rows of four.
-pub(crate) fn measure_filter(rt: &HostRuntime, bench: &Bench, name: &str) -> Result<(), Fault> {
+pub(crate) fn measure_filter(rt: &HostRuntime, bench: &Bench, layout: &str) -> Result<(), Fault> {
     let alloc = rt.alloc();
-    let array = array_of(alloc, bench.scale, name)?;
+    let array = array_of(alloc, bench.scale, layout)?;
     let mask = Mask::from_buffer(alloc, random_bits(alloc, bench.scale.rows(), 4, 8)?)?;
     bench.measure(rt, Filter { array, mask })
 }
 
 // Measures making one row of four null.
-pub(crate) fn measure_mask(rt: &HostRuntime, bench: &Bench, name: &str) -> Result<(), Fault> {
+pub(crate) fn measure_mask(rt: &HostRuntime, bench: &Bench, layout: &str) -> Result<(), Fault> {
     let alloc = rt.alloc();
-    let array = array_of(alloc, bench.scale, name)?;
+    let array = array_to_mask(alloc, bench.scale, layout)?;
     let mask = bool_array(alloc, random_bits(alloc, bench.scale.rows(), 4, 8)?)?;
     bench.measure(rt, MakeNull { array, mask })
+}
+
+// Measures the joining of four arrays of a quarter of the rows.
+pub(crate) fn measure_concat(rt: &HostRuntime, bench: &Bench, layout: &str) -> Result<(), Fault> {
+    let alloc = rt.alloc();
+    let array = array_of(alloc, bench.scale.quarter(), layout)?;
+    let mut arrays = Vec::with_capacity(alloc, 4)?;
+    for _ in 0..4 {
+        arrays.push(array.try_clone(alloc)?)?;
+    }
+    bench.measure(rt, Concat { arrays })
+}
+
+// Measures the making of a plain layout.
+pub(crate) fn measure_canonical(
+    rt: &HostRuntime,
+    bench: &Bench,
+    layout: &str,
+) -> Result<(), Fault> {
+    let array = array_to_write(rt.alloc(), bench.scale, layout)?;
+    bench.measure(rt, ToCanonical { array })
 }
