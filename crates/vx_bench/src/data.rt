@@ -92,10 +92,14 @@ pub(crate) fn random_numbers(
     Ok(numbers)
 }
 
-// So many positions below that number.
-pub(crate) fn random_positions(alloc: Global, count: usize) -> Result<Vec<usize>, Fault> {
+// So many positions below `limit`.
+pub(crate) fn random_positions(
+    alloc: Global,
+    count: usize,
+    limit: u32,
+) -> Result<Vec<usize>, Fault> {
     let mut positions = Vec::with_capacity(alloc, count)?;
-    for number in random_numbers(alloc, count, count as u32, 5)? {
+    for number in random_numbers(alloc, count, limit, 5)? {
         positions.push(number as usize)?;
     }
     Ok(positions)

@@ -233,7 +233,7 @@ pub(crate) fn measure_bools(rt: &HostRuntime, bench: &Bench, name: &str) -> Resu
             bench.measure(rt, BoolsFromOptionIter { items })
         }
         "from_indices" => {
-            let indices = random_positions(alloc, rows)?;
+            let indices = random_positions(alloc, rows, rows as u32)?;
             bench.measure(rt, BoolsFromIndices { rows, indices })
         }
         "execute_mask" => {
