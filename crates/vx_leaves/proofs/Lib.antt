@@ -2,7 +2,7 @@ pub mod MaskedRows
 pub mod NamedValues
 pub mod NarrowedRows
 pub mod NarrowedTypes
-pub mod OptionalItems
+pub mod NumbersPut
 pub mod SpreadRows
 pub mod ValueRows
 pub mod Widths

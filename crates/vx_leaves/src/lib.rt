@@ -12,6 +12,7 @@ mod dict_data;
 mod dict_ext;
 pub mod laws;
 mod narrow;
+mod number_bytes;
 mod primitive_array;
 mod primitive_buffers;
 mod primitive_data;

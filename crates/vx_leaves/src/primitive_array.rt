@@ -13,7 +13,7 @@ ghost use Rattle.vx_tree.specs.Parts.{valid_of};
 ghost use Rattle.vx_leaves.specs.Leaves.{is_primitive, validity_fault, IsPrimitive, plain_state, number_or_zero};
 ghost use Rattle.vx_leaves.specs.Spread.{spread, never_null, whole_fault, count_fault, values_fault};
 
-use crate::collect::{collect_items, collect_options};
+use crate::number_bytes::{collect_numbers, collect_optional_numbers};
 use crate::spread::spread_numbers;
 use std::alloc::Global;
 use std::marker::Model;
@@ -170,9 +170,9 @@ impl PrimitiveArray {
         ensures { Gives result (λ a. (xs : List T) × Drains I.next_gives items xs
             × IsPrimitive T.PTYPE (map T.value xs) non_nullable a) }
     {
-        let numbers = collect_items(alloc, items)?;
-        let buffer = Buffer::from_vec(alloc, numbers)?;
-        PrimitiveArray::new(alloc, buffer, Validity::NonNullable)
+        let bytes = ByteBuffer::from_vec(alloc, collect_numbers(alloc, items)?)?;
+        let len = number_count(bytes.as_slice(), T::PTYPE);
+        primitive_array(alloc, T::PTYPE, bytes, len, Validity::NonNullable)
     }
 
     /// The array of the items, null and 0 where there is none. No row is null by the state alone
@@ -187,11 +187,12 @@ impl PrimitiveArray {
         ensures { Gives result (λ a. (xs : List (Option T)) × Drains I.next_gives items xs
             × IsPrimitive T.PTYPE (map (number_or_zero T.value) xs) (valid_from (map is_some xs) all_valid) a) }
     {
-        let all = collect_options(alloc, items, zero_number::<T>())?;
+        let all = collect_optional_numbers(alloc, items)?;
+        let len = all.present.len();
         let present = BitBuffer::from_bools(alloc, &all.present)?;
         let validity = Validity::from_buffer(alloc, present)?;
-        let buffer = Buffer::from_vec(alloc, all.items)?;
-        PrimitiveArray::new(alloc, buffer, validity)
+        let bytes = ByteBuffer::from_vec(alloc, all.bytes)?;
+        primitive_array(alloc, T::PTYPE, bytes, len, validity)
     }
 
     // The parts, which are well formed.
@@ -248,13 +249,6 @@ fn plain_validity(nullability: Nullability) -> Validity
         Nullability::NonNullable => Validity::NonNullable,
         Nullability::Nullable => Validity::AllValid,
     }
-}
-
-// The number 0.
-fn zero_number<T: NativePType>() -> T
-    ensures { T.value result ≡ pos 0 }
-{
-    T::zero()
 }
 
 // The array of the numbers that these bytes hold.
