@@ -1,4 +1,4 @@
-use Rattle.std.proofs.Common.{◌≡◌, ◌-◌, ◌+◌, ◌*◌, ap, ◌∙◌, arith}
+use Rattle.std.proofs.Common.{◌≡◌, ◌-◌, ◌+◌, ◌*◌, ap, ◌∙◌}
 use Rattle.vx_base.specs.Integers.{byte_width}
 use Rattle.vx_leaves.proofs.NumbersPut.{put_after}
 use Rattle.vx_leaves.proofs.number_bytes.put_number.Goals as goal
