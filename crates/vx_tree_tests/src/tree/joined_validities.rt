@@ -5,8 +5,8 @@ ghost use Rattle.vx_tree.specs.Formed.{IsLenOf};
 ghost use Rattle.vx_tree.specs.Parts.{valid_of};
 ghost use Rattle.vx_tree.specs.Tree.{bools, by_array, non_nullable};
 
+use super::validities::expect_valid;
 use std::alloc::Global;
-use std::process::Abort;
 use vx_base::{BitBuffer, Mask, Nullability, PType, Scalar, VortexError};
 use vx_tree::{ArrayRef, Layout, Validity};
 
@@ -24,20 +24,6 @@ fn not_of_booleans(alloc: Global) -> Result<Validity, VortexError>
 {
     let scalar = Scalar::int(1, PType::U8, Nullability::NonNullable);
     Ok(Validity::Array(ArrayRef::constant(alloc, scalar, 2)?))
-}
-
-// Stops unless the rows are valid where this is true.
-fn expect_valid(
-    rt: &impl Abort,
-    alloc: Global,
-    validity: &Validity,
-    want: &[bool],
-) -> Result<(), VortexError> {
-    validity.check(want.len())?;
-    for (i, valid) in want.iter().enumerate() {
-        assert_eq!(rt; validity.is_valid(alloc, i)?, *valid, "at {i}");
-    }
-    Ok(())
 }
 
 // ---- joined

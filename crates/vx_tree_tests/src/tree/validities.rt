@@ -39,7 +39,7 @@ fn zero_and_one(alloc: Global) -> Result<ArrayRef, VortexError> {
 }
 
 // Stops unless the rows are valid where this is true.
-fn expect_valid(
+pub(crate) fn expect_valid(
     rt: &impl Abort,
     alloc: Global,
     validity: &Validity,
