@@ -4,6 +4,8 @@ use Rattle.std.specs.Int.{bit_at}
 use Rattle.std.proofs.lemmas.Bool.{cases_lt}
 use Rattle.std.proofs.lemmas.Nat.Bits.{bit_at-zero}
 use Rattle.std.proofs.lemmas.List.{get_or-set_same, get_or-set_other, same_lists, get_or_append_left, get_or-append_right, get_or-replicate, get_or-take, get_or-drop, length-append, length-take-le, length-replicate, length-drop}
+use Rattle.std.proofs.lemmas.Slice.{take-put_mid, take-put_mid_below, drop-put_mid}
+use borrow.Rule.Slice.PartMut.{put_mid}
 use Rattle.vx_base.specs.Bits.{bit_of, byte_like, unpacked, Written, Filled}
 use Rattle.vx_base.proofs.PackedBits.{get_unpacked, length_unpacked}
 
@@ -42,6 +44,36 @@ written_byte old out start j byte f le within bits before = (
         let place : k / 8 ≡ j = omega arith in
         let same : 8 * j + k % 8 ≡ k = omega arith in
         rw (place, get_or-set_same) (bits (k % 8) (omega arith) ∙ ap f same)
+
+-- the bits of the bytes of a part
+pub written_part : (old ys : List ℕ) (first last : ℕ) (f : ℕ → Bool) → first ≤ last → last ≤ length old → length ys ≡ last - first
+    → ((k : ℕ) → k < 8 * (last - first) → bit_of ys k ≡ f (8 * first + k)) → Written old (put_mid first (last - first) old ys) (8 * first) (8 * last) f
+written_part old ys first last f le within size bits = (
+  λ k h l.
+      let place : (k - 8 * first) / 8 ≡ k / 8 - first = omega arith in
+      let bit : (k - 8 * first) % 8 ≡ k % 8 = omega arith in
+      let whole : 8 * first + (k - 8 * first) ≡ k = omega arith in
+      let front : length (take first old) ≡ first = length-take-le first old (omega arith) in
+      let byte : get_or new (k / 8) 0 ≡ get_or ys (k / 8 - first) 0 =
+      sym (get_or-take last new (k / 8) 0 (omega arith)) ∙ ap (λ (bs : List ℕ). get_or bs (k / 8) 0) (take-put_mid first (last - first) old ys last (omega arith) (omega arith))
+      ∙ get_or-append_right (take first old) ys first (k / 8) 0 front (omega arith) in
+      rw byte ((rw (place, bit) at (bits (k - 8 * first) (omega arith))) ∙ ap f whole),
+  λ k h.
+      let byte : get_or new (k / 8) 0 ≡ get_or old (k / 8) 0 =
+      sym (get_or-take first new (k / 8) 0 (omega arith)) ∙ ap (λ (bs : List ℕ). get_or bs (k / 8) 0) (take-put_mid_below first (last - first) old ys first (omega arith) (omega arith))
+      ∙ get_or-take first old (k / 8) 0 (omega arith) in
+      rw byte,
+  λ k h.
+      let place : last + (k / 8 - last) ≡ k / 8 = omega arith in
+      let same : (bs : List ℕ) → get_or bs (k / 8) 0 ≡ get_or (drop last bs) (k / 8 - last) 0 =
+      λ bs. sym (get_or-drop last bs (k / 8 - last) 0 ∙ ap (λ (n : ℕ). get_or bs n 0) place) in
+      let byte : get_or new (k / 8) 0 ≡ get_or old (k / 8) 0 =
+      same new ∙ ap (λ (bs : List ℕ). get_or bs (k / 8 - last) 0) (drop-put_mid first (last - first) old ys last (omega arith) (omega arith) size) ∙ sym (same old) in
+      rw byte,
+)
+  where
+    new : List ℕ
+    new = put_mid first (last - first) old ys
 
 -- a run at the end
 pub written_end : (old mid new : List ℕ) (len count : ℕ) (f : ℕ → Bool) (tail : List Bool) → ((k : ℕ) → k < len → bit_of mid k ≡ bit_of old k) → Written mid new len (len + count) f

@@ -1,7 +1,7 @@
 -- Booleans that are packed eight to a byte.
 use Rattle.std.proofs.Common.{ℕ, zero, suc, ◌+◌, ◌*◌, ◌/◌, ◌%◌, ◌^◌, ◌<◌, ◌≤◌, ◌≡◌, ◌≢◌, ◌⊎◌, ◌-◌, Bool, true, false, cond, eqb, List, [], ◌∷◌, length, get_or, set, take, drop, refl, sym, ◌∙◌, ap, zero-add, inl, inr, arith}
 use Rattle.std.specs.Int.{bit_at, w64, from_le_bytes}
-use Rattle.std.specs.Prelude.{bit_and, ◌&&◌, count_by, count_ones}
+use Rattle.std.specs.Prelude.{bit_and, bit_or, ◌&&◌, count_by, count_ones}
 use lib.Count.{ones_cat}
 use Rattle.std.proofs.lemmas.Bool.{cases_lt}
 use Rattle.std.proofs.lemmas.Simd.{bit_mask_l}
@@ -9,7 +9,7 @@ use Rattle.std.proofs.lemmas.List.{get_or-take, take_all, length-take-le, get_or
 use lib.Lanes.{mask_l}
 use mir.Val.{bool_byte}
 use Rattle.vx_base.specs.Bits.{bit_of, byte_from, unpacked, bool_at}
-use Rattle.vx_base.proofs.PackedBytes.{bit_of-and, bit_of-byte_from, byte_from-whole, count_more}
+use Rattle.vx_base.proofs.PackedBytes.{bit_of-and, bit_of-byte_from, byte_from-whole, byte_from-joined, count_more}
 use Rattle.vx_base.proofs.PackedBits.{get_unpacked, length_unpacked, unpacked_none, unpacked_part, unpacked-same}
 use Rattle.vx_base.proofs.SameBits.{byte_of_part, same_byte}
 
@@ -85,6 +85,16 @@ and_put_joined ls rs out from at j within before = byte_put out (λ k. bit_of ls
     (λ i h. let left : from + 8 * j + i ≡ from + (8 * j + i) = omega arith in
     let right : at + 8 * j + i ≡ at + (8 * j + i) = omega arith in
     bit_of-and (byte_from ls (from + 8 * j)) (byte_from rs (at + 8 * j)) i ∙ rw (bit_of-byte_from ls (from + 8 * j) i h, bit_of-byte_from rs (at + 8 * j) i h, left, right) refl) before
+
+-- one byte more of bits that begin within a byte
+pub join_put : (bs out : List ℕ) (shift j : ℕ) → shift < 8 → j < length out → ((i : ℕ) → get_or bs i 0 < 256) → ((k : ℕ) → k < 8 * j → bit_of out k ≡ bit_of bs (shift + k))
+    → (k : ℕ) → k < 8 * (j + 1) → bit_of (set out j (bit_or (get_or bs j 0 / 2 ^ shift) (get_or bs (j + 1) 0 * 2 ^ (8 - shift) % 2 ^ 8))) k ≡ bit_of bs (shift + k)
+join_put bs out shift j small within fit before =
+    let place : (shift + 8 * j) / 8 ≡ j = omega arith in
+    let bit : (shift + 8 * j) % 8 ≡ shift = omega arith in
+    let joined = rw (place, bit) at (byte_from-joined bs (shift + 8 * j) fit) in
+    rw joined (byte_put out (λ k. bit_of bs (shift + k)) j (byte_from bs (shift + 8 * j)) within
+    (λ i h. let whole : shift + 8 * j + i ≡ shift + (8 * j + i) = omega arith in bit_of-byte_from bs (shift + 8 * j) i h ∙ ap (bit_of bs) whole) before)
 
 -- ---- set bits of words
 

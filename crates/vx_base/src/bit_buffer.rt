@@ -106,17 +106,35 @@ fn copy_each(source: &[u8], from: usize, out: &mut [u8], at: usize, start: usize
     }
 }
 
-// The same of the bytes from `first` up to, but not at, `last`, a byte at a time.
+// Writes bytes that are each joined from two: the bits of the source from bit `shift` on.
+fn join_bytes(source: &[u8], shift: usize, out: &mut [u8])
+    requires shift { (0 < shift) × (shift < 8) }
+    requires source { length out.old < length source.now }
+    ensures len { length out.new ≡ length out.old }
+    ensures bits { (k : ℕ) → k < 8 * length out.old → bit_of out.new k ≡ bit_of source.now (shift + k) }
+{
+    for (j, byte) in out.iter_mut().enumerate() {
+        *byte = source[j] >> shift | source[j + 1] << (8 - shift);
+    }
+}
+
+// The same as `copy_each` of the bytes from `first` up to, but not at, `last`, many at a time.
 fn copy_bytes(source: &[u8], from: usize, out: &mut [u8], at: usize, first: usize, last: usize)
     requires ordered { (at ≤ 8 * first) × (first ≤ last) }
+    requires source { from + (8 * last - at) ≤ 8 * length source.now }
     requires room { last ≤ length out.old }
     requires counted { 8 * last < 2 ^ 64 }
     requires fits { from + (8 * last - at) < 2 ^ 64 }
     ensures len { length out.new ≡ length out.old }
     ensures written { Written out.old out.new (8 * first) (8 * last) (λ k. bit_of source.now (from + (k - at))) }
 {
-    for j in first..last {
-        out[j] = byte_from(source, from + (8 * j - at));
+    let start = from + (8 * first - at);
+    let skip = start / 8;
+    let shift = start % 8;
+    if shift == 0 {
+        out[first..last].copy_from_slice(&source[skip..skip + (last - first)]);
+    } else {
+        join_bytes(&source[skip..], shift, &mut out[first..last]);
     }
 }
 
