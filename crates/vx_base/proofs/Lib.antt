@@ -9,6 +9,7 @@ pub mod Joined
 pub mod Positions
 pub mod Gathered
 pub mod Packing
+pub mod BitWords
 pub mod Filling
 pub mod Refused
 pub mod FirstFaults

@@ -16,7 +16,7 @@ use Rattle.vx_base.specs.Bits.{bit_of, both, byte_from, unpacked}
 use Rattle.vx_base.proofs.PackedBits.{get_unpacked, length_unpacked, unpacked_part}
 
 -- a bit after `>> s`, after `<< s` and in a byte
-bit_at-shr : (n s i : ℕ) → bit_at (n / 2 ^ s) i ≡ bit_at n (s + i)
+pub bit_at-shr : (n s i : ℕ) → bit_at (n / 2 ^ s) i ≡ bit_at n (s + i)
 bit_at-shr n s i = ap (λ (m : ℕ). m % 2) (shr-shr n s i)
 
 bit_at-shl_low : (n s i : ℕ) → i < s → bit_at (n * 2 ^ s) i ≡ 0

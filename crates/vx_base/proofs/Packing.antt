@@ -33,20 +33,20 @@ eight (a ∷ b ∷ c ∷ d ∷ e ∷ []) long = absurd (omega arith)
 eight (a ∷ b ∷ c ∷ d ∷ e ∷ f ∷ []) long = absurd (omega arith)
 eight (a ∷ b ∷ c ∷ d ∷ e ∷ f ∷ g ∷ []) long = absurd (omega arith)
 
--- the byte of eight booleans from a place on
-abbrev pub eight_from : (ℕ → Bool) → ℕ → List Bool
+-- eight values from a place on
+abbrev pub eight_from : {X : Type 0} → (ℕ → X) → ℕ → List X
 eight_from f n = f n ∷ f (n + 1) ∷ f (n + 2) ∷ f (n + 3) ∷ f (n + 4) ∷ f (n + 5) ∷ f (n + 6) ∷ f (n + 7) ∷ []
 
-eight_at : (f : ℕ → Bool) (n i : ℕ) → i < 8 → get_or (eight_from f n) i false ≡ f (n + i)
-eight_at f n zero h = ap f (omega arith)
-eight_at f n (suc zero) h = refl
-eight_at f n (suc (suc zero)) h = refl
-eight_at f n (suc (suc (suc zero))) h = refl
-eight_at f n (suc (suc (suc (suc zero)))) h = refl
-eight_at f n (suc (suc (suc (suc (suc zero))))) h = refl
-eight_at f n (suc (suc (suc (suc (suc (suc zero)))))) h = refl
-eight_at f n (suc (suc (suc (suc (suc (suc (suc zero))))))) h = refl
-eight_at f n (suc (suc (suc (suc (suc (suc (suc (suc i)))))))) h = absurd (omega arith)
+pub eight_at : {X : Type 0} → (f : ℕ → X) (n i : ℕ) (d : X) → i < 8 → get_or (eight_from f n) i d ≡ f (n + i)
+eight_at f n zero d h = ap f (omega arith)
+eight_at f n (suc zero) d h = refl
+eight_at f n (suc (suc zero)) d h = refl
+eight_at f n (suc (suc (suc zero))) d h = refl
+eight_at f n (suc (suc (suc (suc zero)))) d h = refl
+eight_at f n (suc (suc (suc (suc (suc zero))))) d h = refl
+eight_at f n (suc (suc (suc (suc (suc (suc zero)))))) d h = refl
+eight_at f n (suc (suc (suc (suc (suc (suc (suc zero))))))) d h = refl
+eight_at f n (suc (suc (suc (suc (suc (suc (suc (suc i)))))))) d h = absurd (omega arith)
 
 is_one : (b : Bool) → eqb (cond b 1 0) 1 ≡ b
 is_one true = refl
@@ -155,7 +155,7 @@ words_front bs bits offset len words e (inr none) h = rw none (unpacked_none bs 
 pub eight_packed : (out : List ℕ) (f : ℕ → Bool) (j byte : ℕ) → j < length out → byte ≡ mask_l (eight_from f (8 * j)) → ((k : ℕ) → k < 8 * j → bit_of out k ≡ f k)
     → (k : ℕ) → k < 8 * (j + 1) → bit_of (set out j byte) k ≡ f k
 eight_packed out f j byte within e before = byte_put out f j byte within
-    (λ i h. ap (λ (n : ℕ). eqb (bit_at n i) 1) e ∙ ap (λ (n : ℕ). eqb n 1) (bit_mask_l (eight_from f (8 * j)) i) ∙ is_one (get_or (eight_from f (8 * j)) i false) ∙ eight_at f (8 * j) i h) before
+    (λ i h. ap (λ (n : ℕ). eqb (bit_at n i) 1) e ∙ ap (λ (n : ℕ). eqb n 1) (bit_mask_l (eight_from f (8 * j)) i) ∙ is_one (get_or (eight_from f (8 * j)) i false) ∙ eight_at f (8 * j) i false h) before
 
 -- the bits are those that were packed
 pub packed_all : (out : List ℕ) (bits : List Bool) (len : ℕ) → length bits ≡ len → ((k : ℕ) → k < len → bit_of out k ≡ bool_at bits k) → unpacked out 0 len ≡ bits

@@ -1,45 +1,34 @@
 -- The runs in which a mask is true.
-use Rattle.std.proofs.Common.{ℕ, zero, suc, ◌+◌, ◌-◌, ◌<◌, ◌≤◌, ◌≡◌, Bool, true, false, cond, eqb, List, [], ◌∷◌, ◌++◌, length, replicate, refl, sym, ◌∙◌, ap, append-nil, map, inl, inr, arith}
+use Rattle.std.proofs.Common.{ℕ, zero, suc, ◌+◌, ◌-◌, ◌<◌, ◌≤◌, ◌≡◌, ◌≢◌, Bool, true, false, cond, List, [], ◌∷◌, ◌++◌, length, replicate, refl, sym, ◌∙◌, ap, append-nil, map, arith}
 use Rattle.std.specs.Prelude.{count_by}
 use Rattle.std.specs.List.{filter, flat_map, range_with_len}
-use Rattle.std.specs.Int.{bit_at}
-use Rattle.std.proofs.lemmas.Bool.{cases_lt}
 use Rattle.std.proofs.lemmas.List.{length-replicate, get_or-replicate}
 use Rattle.std.proofs.lemmas.List.Elements.{filter-append}
 use Rattle.std.proofs.lemmas.Grind.{flat_map-append}
-use Rattle.vx_base.specs.Bits.{bit_of, byte_from, byte_like, bool_at, unpacked}
+use Rattle.vx_base.specs.Bits.{bit_of, bool_at, unpacked, AreBits}
 use Rattle.vx_base.specs.Selections.{run_positions}
-use Rattle.vx_base.specs.Trues.{trues, AreAll}
-use Rattle.vx_base.proofs.PackedBits.{get_unpacked}
-use Rattle.vx_base.proofs.PackedBytes.{bit_of-byte_from}
-use Rattle.vx_base.proofs.Filling.{like_bit}
+use Rattle.vx_base.specs.Trues.{trues, AreAll, IsRunEnd}
+use Rattle.vx_base.proofs.PackedBits.{get_unpacked, length_unpacked}
 use Rattle.vx_base.proofs.Runs.{range_append}
 use Rattle.vx_base.proofs.MaskCounts.{count-true, count-false}
 use Rattle.std.proofs.lemmas.List.FromFn.{fill_by_all}
 
--- ---- eight booleans of a byte
+-- ---- the end of a run
 
-pub eight_alike : (bs : List ℕ) (from len place : ℕ) (value : Bool) → place + 8 ≤ len → byte_from bs (from + place) ≡ byte_like value → AreAll (unpacked bs from len) place (place + 8) value
-eight_alike bs from len place value within e = λ k low high.
-    let step : k - place < 8 = omega arith in
-    let place_k : from + place + (k - place) ≡ from + k = omega arith in
-    get_unpacked bs from len k false (omega arith) ∙ ap (bit_of bs) (sym place_k) ∙ sym (bit_of-byte_from bs (from + place) (k - place) step)
-    ∙ ap (λ b. eqb (bit_at b (k - place)) 1) e ∙ like_bit value (k - place) step
-
--- ---- runs that are passed
-
-pub AreAll-joined : (bits : List Bool) (start middle end : ℕ) (value : Bool) → AreAll bits start middle value → AreAll bits middle end value → AreAll bits start end value
-AreAll-joined bits start middle end value before after = λ k low high. elim (cases_lt k middle) [
-  | inl early ↦ before k low early
-  | inr late ↦ after k (omega arith) high
-]
-
--- one boolean more
-pub AreAll-more : (bits : List Bool) (start place : ℕ) (value : Bool) → AreAll bits start place value → bool_at bits place ≡ value → AreAll bits start (place + 1) value
-AreAll-more bits start place value before here = λ k low high. elim (cases_lt k place) [
-  | inl early ↦ before k low early
-  | inr late ↦ let same : k ≡ place = omega arith in ap (bool_at bits) same ∙ here
-]
+-- where bits cease to be this one, the booleans that they hold do
+pub run_of_bits : (bs : List ℕ) (from len start end : ℕ) (value : Bool) → start ≤ len → from + start ≤ end → end ≤ from + len → AreBits bs (from + start) end value
+    → (end < from + len → bit_of bs end ≢ value) → IsRunEnd (unpacked bs from len) start (end - from) value
+run_of_bits bs from len start end value within low high alike other =
+    let long = length_unpacked bs from len in
+    record {
+      ordered = omega arith;
+      within = omega (arith, long);
+      same = λ k above below. get_unpacked bs from len k false (omega arith) ∙ alike (from + k) (omega arith) (omega arith);
+      ends = λ short same.
+          let place : from + (end - from) ≡ end = omega arith in
+          let small : end - from < len = omega (arith, long) in
+          other (omega arith) (ap (bit_of bs) (sym place) ∙ sym (get_unpacked bs from len (end - from) false small) ∙ same);
+    }
 
 -- ---- the positions that are kept of a range
 

@@ -11,12 +11,6 @@ trues mask = filter (bool_at mask) (range_with_len 0 (length mask))
 abbrev pub AreAll : List Bool → ℕ → ℕ → Bool → Type 0
 AreAll bits start end value = (k : ℕ) → start ≤ k → k < end → bool_at bits k ≡ value
 
--- a place that those from start on reach with no other boolean between
-pub record IsReached (bits : List Bool) (start end : ℕ) (value : Bool) : Type 0 where
-  pub ordered : start ≤ end
-  pub within : end ≤ length bits
-  pub same : AreAll bits start end value
-
 -- where the booleans from start on cease to be this one: at another, or at the end
 pub record IsRunEnd (bits : List Bool) (start end : ℕ) (value : Bool) : Type 0 where
   pub ordered : start ≤ end

@@ -9,10 +9,11 @@ ghost use Rattle.std.specs.Cmp.{bool_eq_equiv, on_equiv, partial_equiv_from_equi
 ghost use Rattle.std.specs.Cmp.Lexicographic.{pointwise, lists_equiv};
 ghost use Rattle.std.specs.Ordering.{on};
 ghost use Rattle.vx_base.specs.Bits.{packed, bits_of, bit_of, unpacked, bool_at, both, byte_from, byte_of, byte_like, Written};
-ghost use Rattle.vx_base.specs.Trues.{AreAll};
+ghost use Rattle.vx_base.specs.Trues.{IsRunEnd};
 
 use crate::bit_buffer_mut::{fill_bits, put_bit};
 use crate::bit_buffer_view::{BitBufferMeta, BitBufferView};
+use crate::bit_words::alike_end;
 use crate::byte_buffer::ByteBuffer;
 use crate::errors::VortexError;
 use std::alloc::Global;
@@ -40,7 +41,7 @@ impl Model for BitBuffer {
 }
 
 // The byte at place `i`, or 0 past the end.
-fn byte_or_zero(bytes: &[u8], i: usize) -> u8
+pub(crate) fn byte_or_zero(bytes: &[u8], i: usize) -> u8
     ensures { result ≡ slice_index bytes.now i }
 {
     if i < bytes.len() { bytes[i] } else { 0 }
@@ -437,13 +438,14 @@ impl BitBuffer {
         (offset, len, bytes)
     }
 
-    // Whether the eight booleans from `place` on are all this one.
+    // Where the booleans from `start` on cease to be this one.
     #[inline]
-    pub(crate) fn are_eight(&self, place: usize, value: bool) -> bool
-        requires { place + 8 ≤ length self.now.bits }
-        ensures { IsTrue result → AreAll self.now.bits place (place + 8) value }
+    pub(crate) fn run_end(&self, start: usize, value: bool) -> usize
+        requires { start ≤ length self.now.bits }
+        ensures { IsRunEnd self.now.bits start result value }
     {
-        byte_from(self.bytes.as_slice(), self.offset + place) == byte_like(value)
+        let end = self.offset + self.len;
+        alike_end(self.bytes.as_slice(), self.offset + start, end, value) - self.offset
     }
 
     // Copies the booleans from place `start` on to the bits of `out` from `at` up to, but not at,

@@ -4,6 +4,7 @@
 mod bit_buffer;
 mod bit_buffer_mut;
 mod bit_buffer_view;
+mod bit_words;
 mod buffer;
 mod buffer_mut;
 mod byte_buffer;
