@@ -1,14 +1,15 @@
 -- Bits of words of 64.
 use Rattle.std.proofs.Common.{ℕ, zero, suc, ◌+◌, ◌-◌, ◌*◌, ◌/◌, ◌%◌, ◌^◌, ◌<◌, ◌≤◌, ◌≡◌, ◌≢◌, ◌↔◌, Bool, true, eqb, List, [], ◌∷◌, get_or, min, refl, sym, ◌∙◌, ap, inl, inr, arith}
 use Rattle.std.specs.Int.{bit_at, bit_not, w64, from_le_bytes, trailing_zeros}
+use Rattle.std.specs.Prelude.{bit_and, bit_or}
 use Rattle.std.specs.Int.Count.{trailing_of_zero}
 use Rattle.std.proofs.Math.ListN.{get_or-eq_default}
 use Rattle.std.proofs.lemmas.Bool.{cases_lt, cases_eq}
-use Rattle.std.proofs.lemmas.Nat.{shr_le}
-use Rattle.std.proofs.lemmas.Nat.Bits.{bit_at-zero, bit_at-lt, bit_at_not, bit_at_cat_low, bit_at_cat_high, bit_at-trailing_zeros}
-use Rattle.vx_base.specs.Bits.{bit_of, AreBits}
+use Rattle.std.proofs.lemmas.Nat.{shr_le, one_shl}
+use Rattle.std.proofs.lemmas.Nat.Bits.{bit_at_or, bit_at_and, bit_at_ones, bit_at_ones_above, bit_at-zero, bit_at-lt, bit_at_not, bit_at_cat_low, bit_at_cat_high, bit_at-trailing_zeros}
+use Rattle.vx_base.specs.Bits.{bit_of, AreBits, Written}
 use Rattle.vx_base.proofs.Packing.{eight_from, eight_at}
-use Rattle.vx_base.proofs.PackedBytes.{bit_at-shr}
+use Rattle.vx_base.proofs.PackedBytes.{bit_at-shr, bit_at-shl_low, bit_at-shl_high, bit_at-low}
 
 -- the number of bytes, the first of them the lowest
 abbrev number_of : List ℕ → ℕ
@@ -92,3 +93,51 @@ module _ (bs : List ℕ) (place others : ℕ) (value : Bool) (small : others < 2
               absurd (omega (arith, rw at at zero_there, first.1)),
         )
   ]
+
+-- ---- words that are written
+
+-- a bit of the bits from a place on
+pub bits_seen : (bs : List ℕ) (place word : ℕ) → ((i : ℕ) → i < 64 → eqb (bit_at word i) 1 ≡ bit_of bs (8 * (place / 8) + i)) → (i : ℕ) → i < 57
+    → eqb (bit_at (word / 2 ^ (place % 8)) i) 1 ≡ bit_of bs (place + i)
+bits_seen bs place word seen i h =
+    let whole : 8 * (place / 8) + (place % 8 + i) ≡ place + i = omega arith in
+    rw (bit_at-shr word (place % 8) i, ← whole) (seen (place % 8 + i) (omega arith))
+
+-- `n & ((1 << count) - 1)` has the low bits of n, and no other
+pub low_kept : (n count i : ℕ) → count < 8 → i < count → bit_at (bit_and n (1 * 2 ^ count % 2 ^ 8 - 1)) i ≡ bit_at n i
+low_kept n count i h l = rw (one_shl count 8 h) (omega (arith, bit_at_and n (2 ^ count - 1) i, bit_at_ones count i l, bit_at-lt n i))
+
+pub low_cleared : (n count i : ℕ) → count < 8 → count ≤ i → bit_at (bit_and n (1 * 2 ^ count % 2 ^ 8 - 1)) i ≡ 0
+low_cleared n count i h l = rw (one_shl count 8 h) (omega (arith, bit_at_and n (2 ^ count - 1) i, bit_at_ones_above count i l))
+
+-- a bit of a byte of a word
+pub byte_of_word : (word first j i : ℕ) → first ≤ j → i < 8 → eqb (bit_at (word / 2 ^ (8 * (j - first)) % 256) i) 1 ≡ eqb (bit_at word (8 * j + i - 8 * first)) 1
+byte_of_word word first j i le h =
+    let place : 8 * (j - first) + i ≡ 8 * j + i - 8 * first = omega arith in
+    ap (λ (b : ℕ). eqb b 1) (bit_at-low 8 (word / 2 ^ (8 * (j - first))) i h ∙ bit_at-shr word (8 * (j - first)) i ∙ ap (bit_at word) place)
+
+-- the bits of a word after those of a byte that stay
+module _ (old new : List ℕ) (at last word low : ℕ)
+    (kept : (i : ℕ) → i < at % 8 → bit_at low i ≡ bit_at (get_or old (at / 8) 0) i)
+    (cleared : (i : ℕ) → at % 8 ≤ i → bit_at low i ≡ 0)
+    (written : Written old new (8 * (at / 8)) (8 * last) (λ k. eqb (bit_at (bit_or (word * 2 ^ (at % 8) % 2 ^ 64) low) (k - 8 * (at / 8))) 1)) where
+  pub word_before : at < 8 * last → (k : ℕ) → k < at → bit_of new k ≡ bit_of old k
+  word_before room k h = elim (cases_lt k (8 * (at / 8))) [
+    | inl early ↦ written.1 k early
+    | inr late ↦
+        let q : k / 8 ≡ at / 8 = omega arith in
+        let r : k % 8 ≡ k - 8 * (at / 8) = omega arith in
+        let none : bit_at (word * 2 ^ (at % 8) % 2 ^ 64) (k - 8 * (at / 8)) ≡ 0 = bit_at-low 64 (word * 2 ^ (at % 8)) (k - 8 * (at / 8)) (omega arith) ∙ bit_at-shl_low word (at % 8) (k - 8 * (at / 8)) (omega arith) in
+        let bit : bit_at (bit_or (word * 2 ^ (at % 8) % 2 ^ 64) low) (k - 8 * (at / 8)) ≡ bit_at (get_or old (at / 8) 0) (k - 8 * (at / 8)) =
+        omega (arith, bit_at_or (word * 2 ^ (at % 8) % 2 ^ 64) low (k - 8 * (at / 8)), none, kept (k - 8 * (at / 8)) (omega arith)) in
+        written.0 k late (omega arith) ∙ ap (λ (b : ℕ). eqb b 1) bit ∙ sym (ap (λ (b : ℕ). eqb (bit_at (get_or old b 0) (k % 8)) 1) q ∙ ap (λ (b : ℕ). eqb (bit_at (get_or old (at / 8) 0) b) 1) r)
+  ]
+
+  pub word_after : (k : ℕ) → at ≤ k → k < 8 * last → k < at + 56 → bit_of new k ≡ eqb (bit_at word (k - at)) 1
+  word_after k h room near =
+      let place : k - 8 * (at / 8) - at % 8 ≡ k - at = omega arith in
+      let some : bit_at (word * 2 ^ (at % 8) % 2 ^ 64) (k - 8 * (at / 8)) ≡ bit_at word (k - at) =
+      bit_at-low 64 (word * 2 ^ (at % 8)) (k - 8 * (at / 8)) (omega arith) ∙ bit_at-shl_high word (at % 8) (k - 8 * (at / 8)) (omega arith) ∙ ap (bit_at word) place in
+      let bit : bit_at (bit_or (word * 2 ^ (at % 8) % 2 ^ 64) low) (k - 8 * (at / 8)) ≡ bit_at word (k - at) =
+      omega (arith, bit_at_or (word * 2 ^ (at % 8) % 2 ^ 64) low (k - 8 * (at / 8)), some, cleared (k - 8 * (at / 8)) (omega arith)) in
+      written.0 k (omega arith) room ∙ ap (λ (b : ℕ). eqb b 1) bit

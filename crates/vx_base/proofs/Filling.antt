@@ -76,9 +76,10 @@ written_part old ys first last f le within size bits = (
     new = put_mid first (last - first) old ys
 
 -- a run at the end
-pub written_end : (old mid new : List ℕ) (len count : ℕ) (f : ℕ → Bool) (tail : List Bool) → ((k : ℕ) → k < len → bit_of mid k ≡ bit_of old k) → Written mid new len (len + count) f
+pub written_end : (old mid new : List ℕ) (len count : ℕ) (f : ℕ → Bool) (tail : List Bool) → ((k : ℕ) → k < len → bit_of mid k ≡ bit_of old k) → ((k : ℕ) → k < len → bit_of new k ≡ bit_of mid k)
+    → ((k : ℕ) → len ≤ k → k < len + count → bit_of new k ≡ f k)
     → length tail ≡ count → ((i : ℕ) (d : Bool) → i < count → get_or tail i d ≡ f (len + i)) → unpacked new 0 (len + count) ≡ unpacked old 0 len ++ tail
-written_end old mid new len count f tail kept written size bits = same_lists _ _ long each
+written_end old mid new len count f tail kept before written size bits = same_lists _ _ long each
   where
     front : length (unpacked old 0 len) ≡ len
     front = length_unpacked old 0 len
@@ -91,10 +92,10 @@ written_end old mid new len count f tail kept written size bits = same_lists _ _
         let small : k < len + count = omega (arith, length_unpacked new 0 (len + count)) in
         let left : get_or (unpacked new 0 (len + count)) k d ≡ bit_of new k = get_unpacked new 0 (len + count) k d small ∙ ap (bit_of new) (zero-add k) in
         elim (cases_lt k len) [
-          | inl before ↦ left ∙ written.1 k before ∙ kept k before ∙ sym (get_or_append_left (unpacked old 0 len) tail d k (omega (arith, front)) ∙ get_unpacked old 0 len k d before ∙ ap (bit_of old) (zero-add k))
+          | inl early ↦ left ∙ before k early ∙ kept k early ∙ sym (get_or_append_left (unpacked old 0 len) tail d k (omega (arith, front)) ∙ get_unpacked old 0 len k d early ∙ ap (bit_of old) (zero-add k))
           | inr from ↦
               let place : len + (k - len) ≡ k = omega arith in
-              left ∙ written.0 k from small ∙ sym (get_or-append_right (unpacked old 0 len) tail len k d front from ∙ bits (k - len) d (omega arith) ∙ ap f place)
+              left ∙ written k from small ∙ sym (get_or-append_right (unpacked old 0 len) tail len k d front from ∙ bits (k - len) d (omega arith) ∙ ap f place)
         ]
 
 -- ---- equal bits

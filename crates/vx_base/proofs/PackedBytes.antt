@@ -15,18 +15,18 @@ use lib.Lanes.{mask_l}
 use Rattle.vx_base.specs.Bits.{bit_of, both, byte_from, unpacked}
 use Rattle.vx_base.proofs.PackedBits.{get_unpacked, length_unpacked, unpacked_part}
 
--- a bit after `>> s`, after `<< s` and in a byte
+-- a bit after `>> s`, after `<< s` and in the low w
 pub bit_at-shr : (n s i : ℕ) → bit_at (n / 2 ^ s) i ≡ bit_at n (s + i)
 bit_at-shr n s i = ap (λ (m : ℕ). m % 2) (shr-shr n s i)
 
-bit_at-shl_low : (n s i : ℕ) → i < s → bit_at (n * 2 ^ s) i ≡ 0
+pub bit_at-shl_low : (n s i : ℕ) → i < s → bit_at (n * 2 ^ s) i ≡ 0
 bit_at-shl_low n s i h = ap (λ (m : ℕ). bit_at m i) (sym (add-zero (n * 2 ^ s))) ∙ bit_at_cat_low n s 0 i h ∙ bit_at-zero i
 
-bit_at-shl_high : (n s i : ℕ) → s ≤ i → bit_at (n * 2 ^ s) i ≡ bit_at n (i - s)
+pub bit_at-shl_high : (n s i : ℕ) → s ≤ i → bit_at (n * 2 ^ s) i ≡ bit_at n (i - s)
 bit_at-shl_high n s i h = ap (λ (m : ℕ). bit_at m i) (sym (add-zero (n * 2 ^ s))) ∙ bit_at_cat_high n s 0 i (pow_pos s) h
 
-bit_at-byte : (n i : ℕ) → i < 8 → bit_at (n % 2 ^ 8) i ≡ bit_at n i
-bit_at-byte n i h = sym (bit_at_cat_low (n / 2 ^ 8) 8 (n % 2 ^ 8) i h) ∙ ap (λ (m : ℕ). bit_at m i) (shr_split n 8)
+pub bit_at-low : (w n i : ℕ) → i < w → bit_at (n % 2 ^ w) i ≡ bit_at n i
+bit_at-low w n i h = sym (bit_at_cat_low (n / 2 ^ w) w (n % 2 ^ w) i h) ∙ ap (λ (m : ℕ). bit_at m i) (shr_split n w)
 
 -- a bit as the number that a mask holds
 bit_at-cond : (n i : ℕ) → cond (eqb (bit_at n i) 1) 1 0 ≡ bit_at n i
@@ -40,14 +40,14 @@ bit_at-cond n i = by_bit (bit_at n i) (bit_at-lt n i)
 -- two bytes joined at a bit that is not the first of the second
 joined_low : (lo hi s i : ℕ) → s < 8 → i < 8 → s + i < 8 → bit_at (bit_or (lo / 2 ^ s) (hi * 2 ^ (8 - s) % 2 ^ 8)) i ≡ bit_at lo (s + i)
 joined_low lo hi s i below within h =
-    let none : bit_at (hi * 2 ^ (8 - s) % 2 ^ 8) i ≡ 0 = bit_at-byte (hi * 2 ^ (8 - s)) i within ∙ bit_at-shl_low hi (8 - s) i (omega arith) in
+    let none : bit_at (hi * 2 ^ (8 - s) % 2 ^ 8) i ≡ 0 = bit_at-low 8 (hi * 2 ^ (8 - s)) i within ∙ bit_at-shl_low hi (8 - s) i (omega arith) in
     omega (arith, bit_at_or (lo / 2 ^ s) (hi * 2 ^ (8 - s) % 2 ^ 8) i, bit_at-shr lo s i, none)
 
 joined_high : (lo hi s i : ℕ) → lo < 2 ^ 8 → s < 8 → i < 8 → 8 ≤ s + i → bit_at (bit_or (lo / 2 ^ s) (hi * 2 ^ (8 - s) % 2 ^ 8)) i ≡ bit_at hi (s + i - 8)
 joined_high lo hi s i small below within h =
     let none : bit_at (lo / 2 ^ s) i ≡ 0 = bit_at-shr lo s i ∙ bit_at_above lo 8 (s + i) small h in
     let place : i - (8 - s) ≡ s + i - 8 = omega arith in
-    let some : bit_at (hi * 2 ^ (8 - s) % 2 ^ 8) i ≡ bit_at hi (s + i - 8) = bit_at-byte (hi * 2 ^ (8 - s)) i within ∙ bit_at-shl_high hi (8 - s) i (omega arith) ∙ ap (bit_at hi) place in
+    let some : bit_at (hi * 2 ^ (8 - s) % 2 ^ 8) i ≡ bit_at hi (s + i - 8) = bit_at-low 8 (hi * 2 ^ (8 - s)) i within ∙ bit_at-shl_high hi (8 - s) i (omega arith) ∙ ap (bit_at hi) place in
     omega (arith, bit_at_or (lo / 2 ^ s) (hi * 2 ^ (8 - s) % 2 ^ 8) i, none, some)
 
 -- a byte with the eight bits from a place on

@@ -2,7 +2,8 @@
 #![tactic(auto, using(crate::proofs::PackedBits::length_unpacked, crate::proofs::PackedBits::unpacked_none, crate::proofs::PackedBits::get_unpacked))]
 
 ghost use Rattle.std.specs.Prelude.{ℕ, ◌&&◌, ◌≡◌, ◌≤◌, ◌<◌, ◌+◌, ◌*◌, ◌/◌, ◌^◌, ◌↔◌, Bool, [], length, take, slice_range, count_by};
-ghost use Rattle.std.specs.Prelude.{slice_index, IsTrue, ◌%◌, true, false, replicate, ◌-◌, IfOk};
+ghost use Rattle.std.specs.Prelude.{slice_index, IsTrue, ◌%◌, true, false, replicate, ◌-◌, ◌==◌, IfOk};
+ghost use Rattle.std.specs.Int.{bit_at};
 ghost use Rattle.vx_base.specs.Refusals.{Gives};
 ghost use Rattle.std.specs.Bool.{beq};
 ghost use Rattle.std.specs.Cmp.{bool_eq_equiv, on_equiv, partial_equiv_from_equiv};
@@ -13,7 +14,7 @@ ghost use Rattle.vx_base.specs.Trues.{IsRunEnd};
 
 use crate::bit_buffer_mut::{fill_bits, put_bit};
 use crate::bit_buffer_view::{BitBufferMeta, BitBufferView};
-use crate::bit_words::alike_end;
+use crate::bit_words::{alike_end, bits_from};
 use crate::byte_buffer::ByteBuffer;
 use crate::errors::VortexError;
 use std::alloc::Global;
@@ -446,6 +447,15 @@ impl BitBuffer {
     {
         let end = self.offset + self.len;
         alike_end(self.bytes.as_slice(), self.offset + start, end, value) - self.offset
+    }
+
+    // The booleans from place `start` on as the bits of a word, which holds 57 of them or more.
+    #[inline]
+    pub(crate) fn word_at(&self, start: usize) -> u64
+        requires { start ≤ length self.now.bits }
+        ensures { (i : ℕ) → i < 57 → start + i < length self.now.bits → (bit_at result i == 1) ≡ bool_at self.now.bits (start + i) }
+    {
+        bits_from(self.bytes.as_slice(), self.offset + start)
     }
 
     // Copies the booleans from place `start` on to the bits of `out` from `at` up to, but not at,

@@ -4,10 +4,11 @@
 ghost use Rattle.std.specs.Prelude.{◌≡◌, ◌≢◌, ◌≤◌, ◌<◌, ◌+◌, ◌-◌, ◌/◌, ◌*◌, ◌^◌, ℕ, Bool, true, false, [], ◌∷◌, ◌++◌, length, take, drop};
 ghost use Rattle.std.specs.Prelude.{replicate, slice_set, slice_range, OnOk, OnErr, IfOk, IsOkUnless};
 ghost use Rattle.vx_base.specs.Refusals.{Gives};
-ghost use Rattle.vx_base.specs.Bits.{bit_of, Filled};
+ghost use Rattle.vx_base.specs.Bits.{bit_of, bool_at, Filled};
 ghost use Rattle.vx_base.specs.declared.errors.VortexError.TheVariants.{Memory};
 
 use crate::bit_buffer::{BitBuffer, byte_like};
+use crate::bit_words::put_word;
 use crate::byte_buffer::ByteBuffer;
 use crate::errors::VortexError;
 use std::alloc::Global;
@@ -103,6 +104,39 @@ fn make_room(bytes: &mut Vec<u8>, len: usize) -> Result<(), VortexError>
     Ok(())
 }
 
+// Adds bytes until there are `total` bits, where there are fewer.
+#[inline]
+fn grow(bytes: &mut Vec<u8>, len: usize, total: usize) -> Result<(), VortexError>
+    requires { len ≤ 8 * length bytes.old.items }
+    ensures room { OnOk result (total ≤ 8 * length bytes.new.items) }
+    ensures longer { length bytes.old.items ≤ length bytes.new.items }
+    ensures same { (j : ℕ) → j < len → bit_of bytes.new.items j ≡ bit_of bytes.old.items j }
+    ensures memory { IsOkUnless result Memory }
+{
+    let room = total.div_ceil(8);
+    if bytes.len() < room {
+        bytes.resize(room, 0)?;
+    }
+    Ok(())
+}
+
+// Writes the booleans of a buffer from place `start` on to the last bits: those from `at` up to,
+// but not at, `end`.
+fn put_last(bytes: &mut [u8], at: usize, end: usize, bits: &BitBuffer, start: usize)
+    requires ordered { at ≤ end }
+    requires source { start + (end - at) ≤ length bits.now.bits }
+    requires room { end ≤ 8 * length bytes.old }
+    ensures len { length bytes.new ≡ length bytes.old }
+    ensures before { (k : ℕ) → k < at → bit_of bytes.new k ≡ bit_of bytes.old k }
+    ensures written { (k : ℕ) → at ≤ k → k < end → bit_of bytes.new k ≡ bool_at bits.now.bits (start + (k - at)) }
+{
+    if at < end && end - at <= 56 {
+        put_word(bytes, at, end, bits.word_at(start));
+    } else {
+        bits.copy_to(start, bytes, at, end);
+    }
+}
+
 impl BitBufferMut {
     /// No booleans, with room for `capacity` of them. Fails only for want of memory.
     pub fn with_capacity(alloc: Global, capacity: usize) -> Result<BitBufferMut, VortexError>
@@ -184,9 +218,8 @@ impl BitBufferMut {
             return Err(VortexError::Memory);
         }
         let total = self.len + count;
-        let room = total.div_ceil(8).max(self.bytes.len());
-        self.bytes.resize(room, 0)?;
-        bits.copy_to(start, &mut self.bytes, self.len, total);
+        grow(&mut self.bytes, self.len, total)?;
+        put_last(&mut self.bytes, self.len, total, bits, start);
         self.len = total;
         Ok(())
     }

@@ -2,7 +2,7 @@
 
 ghost use Rattle.std.specs.Prelude.{ℕ, ◌≡◌, ◌≢◌, ◌≤◌, ◌<◌, ◌+◌, ◌-◌, ◌*◌, ◌/◌, ◌%◌, ◌^◌, ◌==◌, ◌↔◌, length};
 ghost use Rattle.std.specs.Int.{bit_at};
-ghost use Rattle.vx_base.specs.Bits.{bit_of, AreBits};
+ghost use Rattle.vx_base.specs.Bits.{bit_of, AreBits, Written};
 
 use crate::bit_buffer::byte_or_zero;
 
@@ -87,4 +87,53 @@ pub(crate) fn alike_end(bytes: &[u8], start: usize, end: usize, value: bool) -> 
         }
     }
     end
+}
+
+// The bits from `place` on, of which a word holds 57 or more.
+#[inline]
+pub(crate) fn bits_from(bytes: &[u8], place: usize) -> u64
+    ensures { (i : ℕ) → i < 57 → (bit_at result i == 1) ≡ bit_of bytes.now (place + i) }
+{
+    word_from(bytes, place / 8) >> (place % 8)
+}
+
+// The first `count` bits of a byte, and zeroes after them.
+#[inline]
+fn low_bits(byte: u8, count: usize) -> u8
+    requires { count < 8 }
+    ensures kept { (i : ℕ) → i < count → bit_at result i ≡ bit_at byte i }
+    ensures cleared { (i : ℕ) → count ≤ i → bit_at result i ≡ 0 }
+{
+    byte & ((1 << count) - 1)
+}
+
+// Writes the bytes of a word from byte `first` up to, but not at, `last`.
+#[inline]
+fn put_bytes(out: &mut [u8], first: usize, last: usize, word: u64)
+    requires ordered { first ≤ last }
+    requires few { last ≤ first + 8 }
+    requires room { last ≤ length out.old }
+    ensures len { length out.new ≡ length out.old }
+    ensures written { Written out.old out.new (8 * first) (8 * last) (λ k. bit_at word (k - 8 * first) == 1) }
+{
+    for j in first..last {
+        out[j] = ((word >> (8 * (j - first))) % 256) as u8;
+    }
+}
+
+// Writes the bits of a word to the places from `at` up to, but not at, `end`. What else there is
+// in their last byte may change.
+#[inline]
+pub(crate) fn put_word(out: &mut [u8], at: usize, end: usize, word: u64)
+    requires ordered { at < end }
+    requires few { end ≤ at + 56 }
+    requires room { end ≤ 8 * length out.old }
+    ensures len { length out.new ≡ length out.old }
+    ensures before { (k : ℕ) → k < at → bit_of out.new k ≡ bit_of out.old k }
+    ensures written { (k : ℕ) → at ≤ k → k < end → bit_of out.new k ≡ (bit_at word (k - at) == 1) }
+{
+    let first = at / 8;
+    let shift = at % 8;
+    let joined = word << shift | low_bits(out[first], shift) as u64;
+    put_bytes(out, first, end.div_ceil(8), joined);
 }

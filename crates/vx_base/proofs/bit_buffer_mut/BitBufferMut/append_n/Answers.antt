@@ -15,4 +15,4 @@ returns-clause-ok c =
     let filled = rw c.deref_mut.ensures.value at c.fill_bits.ensures.filled in
     let kept : (k : ℕ) → k < s.len → bit_of made.items k ≡ bit_of s.bytes.items k =
     λ k h. ap (λ (n : ℕ). eqb (bit_at n (k % 8)) 1) (c.in_ok-resize.ensures.by_index.0 (k / 8) 0 (omega arith) (omega arith)) in
-    rw (items, ← c.self.view_is) (written_end s.bytes.items made.items bits s.len c.args.count (λ k. c.args.value) (replicate c.args.count c.args.value) kept filled (length-replicate c.args.count c.args.value) (λ i d h. get_or-replicate c.args.count i c.args.value d h))
+    rw (items, ← c.self.view_is) (written_end s.bytes.items made.items bits s.len c.args.count (λ k. c.args.value) (replicate c.args.count c.args.value) kept filled.1 filled.0 (length-replicate c.args.count c.args.value) (λ i d h. get_or-replicate c.args.count i c.args.value d h))
