@@ -1,6 +1,7 @@
 pub mod ListParts
 pub mod NumberBytes
 pub mod NumberLists
+pub mod NumberChunks
 pub mod PackedBits
 pub mod PackedBytes
 pub mod SameBits

@@ -1,5 +1,5 @@
 -- Numbers of a type that are positions, which are never negative.
-use Rattle.std.proofs.Common.{ℕ, ◌^◌, ◌*◌, ◌/◌, ◌<◌, ◌≡◌, List, length, take, drop, true, sym, ◌∙◌, ap, subst, arith, to_z, of_z}
+use Rattle.std.proofs.Common.{ℕ, suc, ◌^◌, ◌*◌, ◌<◌, ◌≡◌, List, [], ◌∷◌, length, take, drop, map, true, refl, sym, ◌∙◌, ap, subst, arith, to_z, of_z}
 use Rattle.std.specs.Prelude.{ℤ, pos, negsuc, ◌≤ℤ◌, ◌<ℤ◌, unsigned_abs}
 use Rattle.std.specs.Int.{w128}
 use Rattle.std.specs.List.{All}
@@ -20,12 +20,26 @@ holds-below I16 z h = omega (arith, ints)
 holds-below I32 z h = omega (arith, ints)
 holds-below I64 z h = omega (arith, ints)
 
--- a number at a place, where none of them is negative
-pub numbers-not_negative : (t : PType) (bs : List ℕ) (i : ℕ) (z : ℤ) → All (λ y. pos 0 ≤ℤ y) (numbers t bs) → i < length bs / byte_width t → z ≡ number_at t bs i → pos 0 ≤ℤ z
-numbers-not_negative t bs i z all h e =
-    let within : i < length (numbers t bs) = omega (arith, length_numbers t bs) in
-    let P : ℤ → Type 0 = λ y. pos 0 ≤ℤ y in
-    subst P (get_numbers t bs i (pos 0) h ∙ sym e) (all i (pos 0) within)
+-- the size of a number is a position
+pub size_below : (t : PType) (z : ℤ) → Holds t z → unsigned_abs z < 2 ^ 64
+size_below U8 z h = omega (arith, ints)
+size_below U16 z h = omega (arith, ints)
+size_below U32 z h = omega (arith, ints)
+size_below U64 z h = omega (arith, ints)
+size_below I8 z h = omega (arith, ints)
+size_below I16 z h = omega (arith, ints)
+size_below I32 z h = omega (arith, ints)
+size_below I64 z h = omega (arith, ints)
+
+-- the size of a number that is not negative
+size_of : (z : ℤ) → pos 0 ≤ℤ z → pos (unsigned_abs z) ≡ z
+size_of (pos n) low = refl
+size_of (negsuc n) low = absurd (omega (arith, ints))
+
+-- the sizes of numbers none of which is negative
+pub sizes_of : (zs : List ℤ) → All (λ z. pos 0 ≤ℤ z) zs → map pos (map unsigned_abs zs) ≡ zs
+sizes_of [] all = refl
+sizes_of (z ∷ zs) all = ap (λ (x : ℤ). x ∷ map pos (map unsigned_abs zs)) (size_of z (all 0 (pos 0) (omega arith))) ∙ ap (λ (xs : List ℤ). z ∷ xs) (sizes_of zs (λ k d within. all (suc k) d (omega (arith, within))))
 
 -- what a cast to a position gives
 pub position_of : (z : ℤ) → pos 0 ≤ℤ z → z <ℤ pos (2 ^ 64) → pos (unsigned_abs (to_z w128 (of_z w128 z))) ≡ z

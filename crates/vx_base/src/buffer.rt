@@ -13,25 +13,13 @@ use std::marker::Model;
 use std::ops::Range;
 use std::rc::Rc;
 
-// Reads the numbers that these bytes hold, one number after another.
-fn get_numbers<T: NativePType>(bytes: &[u8], out: &mut [T])
-    requires { length out.old ≡ length bytes.now / byte_width T.PTYPE }
-    ensures { map T.value out.new ≡ numbers T.PTYPE bytes.now }
-{
-    let width = T::PTYPE.byte_width();
-    for (i, item) in out.iter_mut().enumerate() {
-        *item = T::get_le(&bytes[i * width..i * width + width]);
-    }
-}
-
-// The numbers that these bytes hold.
+// The numbers that these bytes hold: memory is had once, and each number is written into it once.
 pub(crate) fn numbers_of<T: NativePType>(alloc: Global, bytes: &[u8]) -> Result<Vec<T>, VortexError>
     ensures { Gives result (λ v. map T.value v.items ≡ numbers T.PTYPE bytes.now) }
 {
     let width = T::PTYPE.byte_width();
-    let mut items = vec![in alloc; T::zero(); bytes.len() / width]?;
-    get_numbers(bytes, &mut items);
-    Ok(items)
+    let places = bytes.chunks_exact(width);
+    Ok(places.map(|place| T::get_le(place)).collect(alloc)?)
 }
 
 // Writes the bytes of these numbers, one number after another.

@@ -1,9 +1,9 @@
 // Positions and sizes, as bytes of an integer type.
 
-ghost use Rattle.std.specs.Prelude.{◌≡◌, ◌≤ℤ◌, ◌*◌, ◌/◌, pos, length, map, IfOk};
+ghost use Rattle.std.specs.Prelude.{◌≡◌, ◌≤ℤ◌, ◌*◌, pos, length, map, unsigned_abs, IfOk};
 ghost use Rattle.vx_base.specs.Refusals.{Gives};
 ghost use Rattle.std.specs.List.{All};
-ghost use Rattle.vx_base.specs.Integers.{byte_width, numbers, Holds};
+ghost use Rattle.vx_base.specs.Integers.{byte_width, number_of, numbers, Holds};
 
 use crate::byte_buffer::ByteBuffer;
 use crate::call_native;
@@ -26,9 +26,19 @@ fn read_native<T: NativePType>(alloc: Global, bytes: &[u8]) -> Result<Vec<usize>
     requires { All (λ z. pos 0 ≤ℤ z) (numbers T.PTYPE bytes.now) }
     ensures { Gives result (λ counts. map pos counts.items ≡ numbers T.PTYPE bytes.now) }
 {
-    let mut counts = vec![in alloc; 0usize; bytes.len() / T::PTYPE.byte_width()]?;
-    get_counts::<T>(bytes, &mut counts);
-    Ok(counts)
+    let width = T::PTYPE.byte_width();
+    let places = bytes.chunks_exact(width);
+    Ok(places.map(|place| count_of::<T>(place)).collect(alloc)?)
+}
+
+// The number of these bytes without its sign, which is the number itself where it is a position.
+#[tactic(auto, using(crate::proofs::Positions::size_below))]
+#[inline]
+fn count_of<T: NativePType>(place: &[u8]) -> usize
+    requires { length place.now ≡ byte_width T.PTYPE }
+    ensures { result ≡ unsigned_abs (number_of T.PTYPE place.now) }
+{
+    T::get_le(place).as_i128().unsigned_abs() as usize
 }
 
 /// The bytes of these positions as numbers of a type, the least significant byte of each first.
@@ -53,18 +63,6 @@ fn write_native<T: NativePType>(alloc: Global, counts: &[usize]) -> Result<ByteB
     let mut bytes = vec![in alloc; 0u8; counts.len() * T::PTYPE.byte_width()]?;
     put_counts::<T>(counts, &mut bytes);
     ByteBuffer::from_vec(alloc, bytes)
-}
-
-// Reads the numbers that these bytes hold as positions.
-fn get_counts<T: NativePType>(bytes: &[u8], out: &mut [usize])
-    requires positions { All (λ z. pos 0 ≤ℤ z) (numbers T.PTYPE bytes.now) }
-    requires room { length out.old ≡ length bytes.now / byte_width T.PTYPE }
-    ensures { map pos out.new ≡ numbers T.PTYPE bytes.now }
-{
-    let width = T::PTYPE.byte_width();
-    for (i, count) in out.iter_mut().enumerate() {
-        *count = T::get_le(&bytes[i * width..i * width + width]).as_i128() as usize;
-    }
 }
 
 // Writes the bytes of these positions, one number after another.

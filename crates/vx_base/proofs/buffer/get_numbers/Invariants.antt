@@ -1,6 +1,0 @@
-use Rattle.std.proofs.Common.{◌≡◌, take, map}
-use Rattle.vx_base.specs.Integers.{numbers}
-use Rattle.vx_base.proofs.buffer.get_numbers.Given as goal
-
-abbrev pub invariant-loop-i : goal.invariant-loop-i
-invariant-loop-i g l = map g.T.Number.value (take l.i l.out) ≡ take l.i (numbers g.T.NativePType.PTYPE l.bytes)
