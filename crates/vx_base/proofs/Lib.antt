@@ -13,6 +13,7 @@ pub mod Packing
 pub mod BitWords
 pub mod Filling
 pub mod Refused
+pub mod Repeated
 pub mod FirstFaults
 pub mod Runs
 pub mod TrueRuns

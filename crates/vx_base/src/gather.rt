@@ -1,6 +1,6 @@
 // Numbers, booleans and items of the rows that are picked.
 
-ghost use Rattle.std.specs.Prelude.{◌≡◌, ◌<◌, ◌≤◌, ◌*◌, ◌/◌, ◌+◌, ◌++◌, length, map, IfOk};
+ghost use Rattle.std.specs.Prelude.{◌≡◌, ◌<◌, ◌≤◌, ◌*◌, ◌/◌, ◌+◌, ◌++◌, length, map, replicate, slice_index_or, unsigned_abs, IfOk};
 ghost use Rattle.vx_base.specs.Refusals.{Gives};
 ghost use Rattle.std.specs.List.{All, flat_map};
 ghost use Rattle.vx_base.specs.Bits.{unpacked};
@@ -11,7 +11,10 @@ use crate::bit_buffer::{BitBuffer, byte_of};
 use crate::bit_buffer_mut::{BitBufferMut, put_bit};
 use crate::buffer::Buffer;
 use crate::byte_buffer::ByteBuffer;
+use crate::call_native;
 use crate::errors::VortexError;
+use crate::native::NativePType;
+use crate::places::{Listed, Numbered, Places, Same};
 use crate::ptypes::PType;
 use crate::selection::{Picks, Selection};
 use std::alloc::Global;
@@ -48,7 +51,11 @@ fn gather_width<const WIDTH: usize>(
     ensures { Gives result (λ picked. picked.items ≡ flat_map (bytes_of_position WIDTH bytes.now) selection.now) }
 {
     match selection.picks() {
-        Picks::Positions(positions) => bytes_at::<WIDTH>(alloc, bytes, positions),
+        Picks::Positions(positions) => bytes_at::<WIDTH, Listed>(alloc, bytes, Listed(positions)),
+        Picks::Numbers(ptype, numbers) => {
+            call_native!(*ptype, bytes_at_numbers::<WIDTH>(alloc, bytes, numbers))
+        }
+        Picks::Repeated(position, len) => bytes_repeated::<WIDTH>(alloc, bytes, *position, *len),
         Picks::Runs(runs) => {
             let capacity = selection.len().saturating_mul(WIDTH);
             bytes_of_runs::<WIDTH>(alloc, bytes, runs, capacity)
@@ -56,31 +63,79 @@ fn gather_width<const WIDTH: usize>(
     }
 }
 
-// One number at a time.
-fn bytes_at<const WIDTH: usize>(
+// The same, where the positions are numbers in bytes.
+fn bytes_at_numbers<const WIDTH: usize, T: NativePType>(
     alloc: Global,
     bytes: &[u8],
-    positions: &[usize],
+    places: &[u8],
 ) -> Result<Vec<u8>, VortexError>
     requires width { WIDTH ≤ 8 }
-    requires within { All (λ k. k * WIDTH + WIDTH ≤ length bytes.now) positions.now }
-    ensures { Gives result (λ picked. picked.items ≡ flat_map (bytes_of_position WIDTH bytes.now) positions.now) }
+    requires within { All (λ k. k * WIDTH + WIDTH ≤ length bytes.now) (map unsigned_abs (numbers T.PTYPE places.now)) }
+    ensures { Gives result (λ picked. picked.items
+        ≡ flat_map (bytes_of_position WIDTH bytes.now) (map unsigned_abs (numbers T.PTYPE places.now))) }
 {
-    let mut picked = vec![in alloc; 0u8; positions.len() * WIDTH]?;
-    put_numbers_at::<WIDTH>(bytes, positions, &mut picked);
+    bytes_at::<WIDTH, Numbered<T>>(alloc, bytes, Numbered::new(places))
+}
+
+// One number at a time.
+fn bytes_at<const WIDTH: usize, P: Places>(
+    alloc: Global,
+    bytes: &[u8],
+    places: P,
+) -> Result<Vec<u8>, VortexError>
+    requires width { WIDTH ≤ 8 }
+    requires within { All (λ k. k * WIDTH + WIDTH ≤ length bytes.now) (P.positions places) }
+    ensures { Gives result (λ picked. picked.items ≡ flat_map (bytes_of_position WIDTH bytes.now) (P.positions places)) }
+{
+    let mut picked = vec![in alloc; 0u8; places.count().saturating_mul(WIDTH)]?;
+    put_numbers_at::<WIDTH, P>(bytes, places, &mut picked);
     Ok(picked)
 }
 
 // Writes the numbers at these positions.
 #[inline(never)]
-fn put_numbers_at<const WIDTH: usize>(bytes: &[u8], positions: &[usize], out: &mut [u8])
-    requires within { All (λ k. k * WIDTH + WIDTH ≤ length bytes.now) positions.now }
-    requires room { length out.old ≡ length positions.now * WIDTH }
-    ensures { out.new ≡ flat_map (bytes_of_position WIDTH bytes.now) positions.now }
+fn put_numbers_at<const WIDTH: usize, P: Places>(bytes: &[u8], places: P, out: &mut [u8])
+    requires within { All (λ k. k * WIDTH + WIDTH ≤ length bytes.now) (P.positions places) }
+    requires room { length out.old ≡ length (P.positions places) * WIDTH }
+    ensures { out.new ≡ flat_map (bytes_of_position WIDTH bytes.now) (P.positions places) }
 {
-    for (i, k) in positions.iter().enumerate() {
+    for i in 0..places.count() {
+        let k = places.at(i);
         let mut number = [0u8; WIDTH];
-        number.copy_from_slice(&bytes[*k * WIDTH..*k * WIDTH + WIDTH]);
+        number.copy_from_slice(&bytes[k * WIDTH..k * WIDTH + WIDTH]);
+        out[i * WIDTH..i * WIDTH + WIDTH].copy_from_slice(&number);
+    }
+}
+
+// One number, `len` times.
+fn bytes_repeated<const WIDTH: usize>(
+    alloc: Global,
+    bytes: &[u8],
+    position: usize,
+    len: usize,
+) -> Result<Vec<u8>, VortexError>
+    requires width { WIDTH ≤ 8 }
+    requires within { All (λ k. k * WIDTH + WIDTH ≤ length bytes.now) (replicate len position) }
+    ensures { Gives result (λ picked. picked.items ≡ flat_map (bytes_of_position WIDTH bytes.now) (replicate len position)) }
+{
+    if len == 0 {
+        return Ok(Vec::new(alloc));
+    }
+    let mut picked = vec![in alloc; 0u8; len.saturating_mul(WIDTH)]?;
+    fill_numbers::<WIDTH>(bytes, position, len, &mut picked);
+    Ok(picked)
+}
+
+// Writes the number at a position `len` times.
+#[inline(never)]
+fn fill_numbers<const WIDTH: usize>(bytes: &[u8], position: usize, len: usize, out: &mut [u8])
+    requires within { position * WIDTH + WIDTH ≤ length bytes.now }
+    requires room { length out.old ≡ len * WIDTH }
+    ensures { out.new ≡ flat_map (bytes_of_position WIDTH bytes.now) (replicate len position) }
+{
+    let mut number = [0u8; WIDTH];
+    number.copy_from_slice(&bytes[position * WIDTH..position * WIDTH + WIDTH]);
+    for i in 0..len {
         out[i * WIDTH..i * WIDTH + WIDTH].copy_from_slice(&number);
     }
 }
@@ -133,47 +188,95 @@ pub fn gather_bits(
     ensures offset { IfOk result (λ b. b.offset ≡ 0) }
 {
     match selection.picks() {
-        Picks::Positions(positions) => bits_at(alloc, bits, positions),
+        Picks::Positions(positions) => bits_at::<Listed>(alloc, bits, Listed(positions)),
+        Picks::Numbers(ptype, numbers) => {
+            call_native!(*ptype, bits_at_numbers(alloc, bits, numbers))
+        }
+        Picks::Repeated(position, len) => bits_repeated(alloc, bits, *position, *len),
         Picks::Runs(runs) => bits_of_runs(alloc, bits, runs, selection.len()),
     }
 }
 
-// One boolean at a time.
-fn bits_at(alloc: Global, bits: &BitBuffer, positions: &[usize]) -> Result<BitBuffer, VortexError>
-    requires { All (λ k. k < length bits.now.bits) positions.now }
-    ensures bits { Gives result (λ b. b.bits ≡ map (bit_of_position bits.now.bits) positions.now) }
+// The same, where the positions are numbers in bytes.
+fn bits_at_numbers<T: NativePType>(
+    alloc: Global,
+    bits: &BitBuffer,
+    places: &[u8],
+) -> Result<BitBuffer, VortexError>
+    requires { All (λ k. k < length bits.now.bits) (map unsigned_abs (numbers T.PTYPE places.now)) }
+    ensures bits { Gives result (λ b. b.bits
+        ≡ map (bit_of_position bits.now.bits) (map unsigned_abs (numbers T.PTYPE places.now))) }
     ensures offset { IfOk result (λ b. b.offset ≡ 0) }
 {
-    let mut bytes = vec![in alloc; 0u8; positions.len().div_ceil(8)]?;
-    put_bits_at(bits, positions, &mut bytes);
-    Ok(BitBuffer::from_parts(ByteBuffer::from_vec(alloc, bytes)?, 0, positions.len()))
+    bits_at::<Numbered<T>>(alloc, bits, Numbered::new(places))
+}
+
+// One boolean at a time.
+fn bits_at<P: Places>(alloc: Global, bits: &BitBuffer, places: P) -> Result<BitBuffer, VortexError>
+    requires { All (λ k. k < length bits.now.bits) (P.positions places) }
+    ensures bits { Gives result (λ b. b.bits ≡ map (bit_of_position bits.now.bits) (P.positions places)) }
+    ensures offset { IfOk result (λ b. b.offset ≡ 0) }
+{
+    let len = places.count();
+    let mut bytes = vec![in alloc; 0u8; len.div_ceil(8)]?;
+    put_bits_at::<P>(bits, places, &mut bytes);
+    Ok(BitBuffer::from_parts(ByteBuffer::from_vec(alloc, bytes)?, 0, len))
 }
 
 // Writes the booleans at these positions, eight to a byte.
 #[inline(never)]
-fn put_bits_at(bits: &BitBuffer, positions: &[usize], out: &mut [u8])
-    requires within { All (λ k. k < length bits.now.bits) positions.now }
-    requires room { length positions.now ≤ 8 * length out.old }
+fn put_bits_at<P: Places>(bits: &BitBuffer, places: P, out: &mut [u8])
+    requires within { All (λ k. k < length bits.now.bits) (P.positions places) }
+    requires room { length (P.positions places) ≤ 8 * length out.old }
     ensures len { length out.new ≡ length out.old }
-    ensures bits { unpacked out.new 0 (length positions.now) ≡ map (bit_of_position bits.now.bits) positions.now }
+    ensures bits { unpacked out.new 0 (length (P.positions places)) ≡ map (bit_of_position bits.now.bits) (P.positions places) }
 {
-    let whole = positions.len() / 8;
+    let len = places.count();
+    let whole = len / 8;
     for j in 0..whole {
         let at = 8 * j;
         out[j] = byte_of([
-            bits.value(positions[at]),
-            bits.value(positions[at + 1]),
-            bits.value(positions[at + 2]),
-            bits.value(positions[at + 3]),
-            bits.value(positions[at + 4]),
-            bits.value(positions[at + 5]),
-            bits.value(positions[at + 6]),
-            bits.value(positions[at + 7]),
+            bit_at(bits, places, at),
+            bit_at(bits, places, at + 1),
+            bit_at(bits, places, at + 2),
+            bit_at(bits, places, at + 3),
+            bit_at(bits, places, at + 4),
+            bit_at(bits, places, at + 5),
+            bit_at(bits, places, at + 6),
+            bit_at(bits, places, at + 7),
         ]);
     }
-    for i in 8 * whole..positions.len() {
-        put_bit(out, i, bits.value(positions[i]));
+    for i in 8 * whole..len {
+        put_bit(out, i, bit_at(bits, places, i));
     }
+}
+
+// The boolean at the position that stands at a place.
+#[inline]
+fn bit_at<P: Places>(bits: &BitBuffer, places: P, i: usize) -> bool
+    requires within { All (λ k. k < length bits.now.bits) (P.positions places) }
+    requires place { i < length (P.positions places) }
+    ensures { result ≡ bit_of_position bits.now.bits (slice_index_or (P.positions places) i 0) }
+{
+    bits.value(places.at(i))
+}
+
+// One boolean, `len` times.
+#[tactic(auto, using(crate::proofs::Repeated::map_repeated))]
+fn bits_repeated(
+    alloc: Global,
+    bits: &BitBuffer,
+    position: usize,
+    len: usize,
+) -> Result<BitBuffer, VortexError>
+    requires { All (λ k. k < length bits.now.bits) (replicate len position) }
+    ensures bits { Gives result (λ b. b.bits ≡ map (bit_of_position bits.now.bits) (replicate len position)) }
+    ensures offset { IfOk result (λ b. b.offset ≡ 0) }
+{
+    if len == 0 {
+        return BitBuffer::new_unset(alloc, 0);
+    }
+    BitBuffer::full(alloc, bits.value(position), len)
 }
 
 // One run at a time.
@@ -222,34 +325,59 @@ pub fn gather_items<T: Copy>(
     ensures { Gives result (λ b. (d : T) → b ≡ map (item_of_position d items.now) selection.now) }
 {
     let picked = match selection.picks() {
-        Picks::Positions(positions) => items_at(alloc, items, positions)?,
+        Picks::Positions(positions) => items_at::<T, Listed>(alloc, items, Listed(positions))?,
+        Picks::Numbers(ptype, numbers) => {
+            call_native!(*ptype, items_at_numbers::<T>(alloc, items, numbers))?
+        }
+        Picks::Repeated(position, len) => {
+            let (position, len) = (*position, *len);
+            items_at::<T, Same>(alloc, items, Same { position, len })?
+        }
         Picks::Runs(runs) => items_of_runs(alloc, items, runs, selection.len())?,
     };
     Buffer::from_vec(alloc, picked)
 }
 
-// One item at a time.
-fn items_at<T: Copy>(alloc: Global, items: &[T], positions: &[usize]) -> Result<Vec<T>, VortexError>
-    requires { All (λ k. k < length items.now) positions.now }
-    ensures { Gives result (λ picked. (d : T) → picked.items ≡ map (item_of_position d items.now) positions.now) }
+// The same, where the positions are numbers in bytes.
+fn items_at_numbers<T: Copy, N: NativePType>(
+    alloc: Global,
+    items: &[T],
+    places: &[u8],
+) -> Result<Vec<T>, VortexError>
+    requires { All (λ k. k < length items.now) (map unsigned_abs (numbers N.PTYPE places.now)) }
+    ensures { Gives result (λ picked. (d : T) → picked.items
+        ≡ map (item_of_position d items.now) (map unsigned_abs (numbers N.PTYPE places.now))) }
 {
-    let Some(first) = positions.first() else {
+    items_at::<T, Numbered<N>>(alloc, items, Numbered::new(places))
+}
+
+// One item at a time.
+fn items_at<T: Copy, P: Places>(
+    alloc: Global,
+    items: &[T],
+    places: P,
+) -> Result<Vec<T>, VortexError>
+    requires { All (λ k. k < length items.now) (P.positions places) }
+    ensures { Gives result (λ picked. (d : T) → picked.items ≡ map (item_of_position d items.now) (P.positions places)) }
+{
+    let len = places.count();
+    if len == 0 {
         return Ok(Vec::new(alloc));
-    };
-    let mut picked = vec![in alloc; items[*first]; positions.len()]?;
-    put_items_at(items, positions, &mut picked);
+    }
+    let mut picked = vec![in alloc; items[places.at(0)]; len]?;
+    put_items_at::<T, P>(items, places, &mut picked);
     Ok(picked)
 }
 
 // Writes the items at these positions.
 #[inline(never)]
-fn put_items_at<T: Copy>(items: &[T], positions: &[usize], out: &mut [T])
-    requires within { All (λ k. k < length items.now) positions.now }
-    requires room { length out.old ≡ length positions.now }
-    ensures { (d : T) → out.new ≡ map (item_of_position d items.now) positions.now }
+fn put_items_at<T: Copy, P: Places>(items: &[T], places: P, out: &mut [T])
+    requires within { All (λ k. k < length items.now) (P.positions places) }
+    requires room { length out.old ≡ length (P.positions places) }
+    ensures { (d : T) → out.new ≡ map (item_of_position d items.now) (P.positions places) }
 {
-    for (i, k) in positions.iter().enumerate() {
-        out[i] = items[*k];
+    for i in 0..places.count() {
+        out[i] = items[places.at(i)];
     }
 }
 

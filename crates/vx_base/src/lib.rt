@@ -20,6 +20,7 @@ mod mask_values;
 mod native;
 mod nullability;
 mod numbers;
+mod places;
 mod ptypes;
 mod scalar;
 mod scalar_value;

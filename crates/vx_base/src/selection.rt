@@ -1,26 +1,35 @@
 // Rows that are picked, by their positions or by runs of them.
 
-ghost use Rattle.std.specs.Prelude.{◌≡◌, ◌==◌, ◌<◌, ◌+◌, ◌*◌, ◌^◌, length};
+ghost use Rattle.std.specs.Prelude.{◌≡◌, ◌==◌, ◌<◌, ◌+◌, ◌*◌, ◌^◌, length, map, replicate, unsigned_abs};
 ghost use Rattle.vx_base.specs.Refusals.{Gives};
 ghost use Rattle.std.specs.List.{All, flat_map};
+ghost use Rattle.vx_base.specs.Integers.{numbers};
 ghost use Rattle.vx_base.specs.Selections.{run_positions, list_positions};
 
+use crate::call_native;
 use crate::errors::VortexError;
+use crate::native::NativePType;
+use crate::numbers::number_count;
+use crate::places::{Listed, Numbered, Places, Same};
+use crate::ptypes::PType;
 use std::alloc::Global;
 use std::marker::Model;
 
-/// Which rows are picked, in their order: at positions, or in runs, each from its start up to its
-/// end. What is picked is the list of all their positions, in both forms.
+/// Which rows are picked, in their order: at positions, which may lie in bytes as numbers of a
+/// type, one row again and again, or in runs, each from its start up to its end. What is picked is
+/// the list of all their positions, in each form.
 #[derive(Drop)]
 pub struct Selection<'a> {
     picks: Picks<'a>,
     len: usize,
 }
 
-// The two forms.
+// The forms.
 #[derive(Drop)]
 pub(crate) enum Picks<'a> {
     Positions(&'a [usize]),
+    Numbers(PType, &'a [u8]),
+    Repeated(usize, usize),
     Runs(&'a [(usize, usize)]),
 }
 
@@ -45,6 +54,27 @@ impl<'a> Selection<'a> {
         Selection {
             picks: Picks::Positions(positions),
             len: positions.len(),
+        }
+    }
+
+    /// The rows at the positions that these numbers are, where they lie, one after another in the
+    /// bytes. A number without its sign is the position.
+    pub fn at_numbers(ptype: PType, bytes: &'a [u8]) -> Selection<'a>
+        ensures { result ≡ map unsigned_abs (numbers ptype bytes.now) }
+    {
+        Selection {
+            picks: Picks::Numbers(ptype, bytes),
+            len: number_count(bytes, ptype),
+        }
+    }
+
+    /// One row, `len` times.
+    pub fn repeated(position: usize, len: usize) -> Selection<'a>
+        ensures { result ≡ replicate len position }
+    {
+        Selection {
+            picks: Picks::Repeated(position, len),
+            len,
         }
     }
 
@@ -82,7 +112,14 @@ impl<'a> Selection<'a> {
             flat_map run_positions runs.items ≡ flat_map (list_positions size) self.now) }
     {
         match &self.picks {
-            Picks::Positions(positions) => runs_at(alloc, positions, size),
+            Picks::Positions(positions) => runs_at::<Listed>(alloc, Listed(positions), size),
+            Picks::Numbers(ptype, bytes) => {
+                call_native!(*ptype, runs_at_numbers(alloc, bytes, size))
+            }
+            Picks::Repeated(position, len) => {
+                let (position, len) = (*position, *len);
+                runs_at::<Same>(alloc, Same { position, len }, size)
+            }
             Picks::Runs(runs) => runs_of_runs(alloc, runs, size),
         }
     }
@@ -95,19 +132,33 @@ impl<'a> Selection<'a> {
     }
 }
 
-// The run of each list.
-fn runs_at(
+// The run of each list, where the lists are numbers in bytes.
+fn runs_at_numbers<T: NativePType>(
     alloc: Global,
-    positions: &[usize],
+    places: &[u8],
     size: usize,
 ) -> Result<Vec<(usize, usize)>, VortexError>
-    requires { All (λ k. k * size + size < 2 ^ 64) positions.now }
-    ensures { Gives result (λ runs.
-        flat_map run_positions runs.items ≡ flat_map (list_positions size) positions.now) }
+    requires { All (λ k. k * size + size < 2 ^ 64) (map unsigned_abs (numbers T.PTYPE places.now)) }
+    ensures { Gives result (λ runs. flat_map run_positions runs.items
+        ≡ flat_map (list_positions size) (map unsigned_abs (numbers T.PTYPE places.now))) }
 {
-    let mut runs = Vec::with_capacity(alloc, positions.len())?;
-    for position in positions {
-        let start = *position * size;
+    runs_at::<Numbered<T>>(alloc, Numbered::new(places), size)
+}
+
+// The run of each list.
+fn runs_at<P: Places>(
+    alloc: Global,
+    places: P,
+    size: usize,
+) -> Result<Vec<(usize, usize)>, VortexError>
+    requires { All (λ k. k * size + size < 2 ^ 64) (P.positions places) }
+    ensures { Gives result (λ runs.
+        flat_map run_positions runs.items ≡ flat_map (list_positions size) (P.positions places)) }
+{
+    let len = places.count();
+    let mut runs = Vec::with_capacity(alloc, len)?;
+    for i in 0..len {
+        let start = places.at(i) * size;
         runs.push((start, start + size))?;
     }
     Ok(runs)
