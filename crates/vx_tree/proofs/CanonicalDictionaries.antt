@@ -1,10 +1,7 @@
 -- Values in plain layout, taken by codes.
-use Rattle.std.proofs.Common.{ℕ, ◌<◌, ◌≡◌, Bool, false, List, [], length, Option, Some, None, refl, sym, ◌∙◌, ap, inl, arith}
+use Rattle.std.proofs.Common.{ℕ, ◌<◌, ◌≡◌, Bool, false, List, [], length, Option, Some, None, refl, sym, ◌∙◌, ap, arith}
 use Rattle.std.proofs.lemmas.Bool.{lt-ltb}
 use Rattle.std.specs.Prelude.{pos, negsuc, nat_lt, is_some, slice_index, if◌then◌else◌}
-use Rattle.vx_base.specs.Refusals.{Refusal, IsMemoryOr}
-use Rattle.vx_base.specs.declared.errors.VortexError.{VortexError}
-use Rattle.vx_base.specs.declared.errors.VortexError.TheVariants.{Memory}
 use Rattle.vx_base.specs.Rows.{Row, null, boolean, whole, bytes, text, items, record_of, position_in}
 use Rattle.vx_base.specs.Kinds.{is_nullable_kind, or_nullable}
 use Rattle.vx_tree.specs.Tree.{Tree, dictionary, Valid}
@@ -95,7 +92,3 @@ dictionary_canonical t r c v w f a d x h =
 
 pub dictionary_renamed : (c v w : Tree) (f : Bool) → IsDictionary c v f → tree_len w ≡ tree_len v → IsDictionary c w false
 dictionary_renamed c v w f d same = record { codes = d.codes; within = λ i l. rw same (d.within i l); referenced = λ on. absurd (cc) }
-
--- want of memory may come in place of any fault
-pub refused_for_memory : (fault : Option Refusal) (e : VortexError) → e ≡ Memory → IsMemoryOr fault e
-refused_for_memory fault e h = inl h

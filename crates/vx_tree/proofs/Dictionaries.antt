@@ -300,8 +300,11 @@ code_faultless n i (items b) h = absurd h
 code_faultless n i (record_of b) h = absurd h
 
 -- codes are positions without a fault
+pub all_faultless : (c : Tree) (n : ℕ) → ((i : ℕ) → i < tree_len c → IsCode n (row_at c i)) → indices_fault n c ≡ None
+all_faultless c n within = first_fault-of_none (λ i. index_fault n i (row_at c i)) (tree_len c) (λ i l. code_faultless n i (row_at c i) (within i l))
+
 pub codes_faultless : (c v : Tree) (f : Bool) → IsDictionary c v f → indices_fault (tree_len v) c ≡ None
-codes_faultless c v f h = first_fault-of_none (λ i. index_fault (tree_len v) i (row_at c i)) (tree_len c) (λ i l. code_faultless (tree_len v) i (row_at c i) (h.within i l))
+codes_faultless c v f h = all_faultless c (tree_len v) h.within
 
 -- a call that finds no fault fails for want of memory alone
 only_memory : (e : VortexError) → None ≡ refusal_of e → e ≡ Memory

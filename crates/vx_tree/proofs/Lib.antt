@@ -1,6 +1,7 @@
 pub mod Masks
 pub mod RowLists
 pub mod Positions
+pub mod Named
 pub mod Sliced
 pub mod Selected
 pub mod Nulled

@@ -56,9 +56,13 @@ AreRead-more t len n k ps inside h p none =
     here : IsPosition len (row_at t n) (slice_index (set ps n k) n)
     here = subst (IsPosition len (row_at t n)) (sym (get_or-set_same ps n k 0 inside)) p
 
--- an index with a fault after some that are read is the first
+-- an index with a fault after some without one is the first
+pub fault_found : (t : Tree) (len n : ℕ) (r : Option Refusal) → first_fault (λ i. index_fault len i (row_at t i)) n ≡ None → index_fault len n (row_at t n) ≡ r → IsSome r → n < tree_len t → indices_fault len t ≡ r
+fault_found t len n r none f s l = first_fault-found (λ i. index_fault len i (row_at t i)) (tree_len t) n none (subst IsSome (sym f) s) l ∙ f
+
+-- and so it is after some that are read
 pub AreRead-fault : (t : Tree) (len n : ℕ) (ps : List ℕ) (r : Option Refusal) → AreRead t len n ps → index_fault len n (row_at t n) ≡ r → IsSome r → n < tree_len t → indices_fault len t ≡ r
-AreRead-fault t len n ps r h f s l = first_fault-found (λ i. index_fault len i (row_at t i)) (tree_len t) n h.faultless (subst IsSome (sym f) s) l ∙ f
+AreRead-fault t len n ps r h f s l = fault_found t len n r h.faultless f s l
 
 -- all of them were read
 pub AreRead-all : (t : Tree) (len n : ℕ) (ps : List ℕ) → n ≡ length ps → AreRead t len n ps → ArePositions t len ps

@@ -12,6 +12,7 @@ pub mod Layouts
 pub mod Falls
 pub mod Faults
 pub mod Operations
+pub mod Named
 pub mod Validities
 pub mod Patches
 pub mod Joins

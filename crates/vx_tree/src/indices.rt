@@ -1,17 +1,24 @@
 // Rows of whole numbers as positions.
 
-ghost use Rattle.std.specs.Prelude.{◌≡◌, ◌<◌, ◌≤ℤ◌, ◌*◌, ◌-◌, ◌^◌, pos, true, length, IfOk, slice_index_or};
-ghost use Rattle.vx_base.specs.Refusals.{Refuses, Tests};
+ghost use Rattle.std.specs.Prelude.{◌≡◌, ◌<◌, ◌≤ℤ◌, ◌*◌, ◌-◌, ◌^◌, ℕ, pos, true, length, IfOk, IfSome, slice_index_or};
+ghost use Rattle.vx_base.specs.Refusals.{Gives, Refuses, Tests};
 ghost use Rattle.vx_base.specs.Integers.{numbers};
 ghost use Rattle.vx_base.specs.Rows.{whole};
 ghost use Rattle.vx_base.specs.Kinds.{is_integers};
 ghost use Rattle.vx_tree.specs.Tree.{primitive, non_nullable};
 ghost use Rattle.vx_tree.specs.Meaning.{tree_len, kind_of, row_at};
 ghost use Rattle.vx_base.specs.Selections.{number_of_position};
+ghost use Rattle.vx_tree.specs.Formed.{IsCode};
 ghost use Rattle.vx_tree.specs.Faults.{indices_fault, index_fault};
+ghost use Rattle.vx_tree.specs.Named.{HasNumbers};
 ghost use Rattle.vx_tree.specs.Operations.{IsPosition, ArePositions, masked_numbers};
 
-use crate::array::{ArrayRef, Layout};
+mod checks;
+mod rows;
+
+use crate::array::{ArrayRef, Layout, Validity};
+use crate::indices::checks::check_numbers;
+pub(crate) use crate::indices::rows::Indices;
 use std::alloc::Global;
 use vx_base::{Mask, NativePType, PType, VortexError, call_native, int_at};
 
@@ -38,6 +45,55 @@ impl ArrayRef {
                 self.fill_positions(len, &mut positions)?;
                 Ok(positions)
             }
+        }
+    }
+
+    // The same positions, with no list of them where the rows are plain numbers and none is null.
+    pub(crate) fn indices(&self, alloc: Global, len: usize) -> Result<Indices<'_>, VortexError>
+        requires { is_integers (kind_of self.now) ≡ true }
+        ensures ok { IfOk result (λ ps. ArePositions self.now len ps) }
+        ensures refuses { Refuses result (indices_fault len self.now) }
+    {
+        let Some((ptype, bytes)) = self.plain_numbers() else {
+            return Ok(Indices::of_positions(self.positions(alloc, len)?));
+        };
+        check_numbers(ptype, bytes, len)?;
+        Ok(Indices::of_numbers(ptype, bytes))
+    }
+
+    // The positions that codes of `len` values name, 0 for a null code. Asks that each code names
+    // a value.
+    pub(crate) fn code_positions(
+        &self,
+        alloc: Global,
+        len: usize,
+    ) -> Result<Indices<'_>, VortexError>
+        requires ints { is_integers (kind_of self.now) ≡ true }
+        requires codes { (i : ℕ) → i < tree_len self.now → IsCode len (row_at self.now i) }
+        ensures { Gives result (λ ps. ArePositions self.now len ps) }
+    {
+        match self.plain_numbers() {
+            Some((ptype, bytes)) => Ok(Indices::of_numbers(ptype, bytes)),
+            None => Ok(Indices::of_positions(self.positions(alloc, len)?)),
+        }
+    }
+
+    // The numbers that the rows are, where they lie one after another and none is null.
+    fn plain_numbers(&self) -> Option<(PType, &[u8])>
+        ensures { IfSome result (λ n. HasNumbers self.now n.0 n.1.now) }
+    {
+        let Layout::Primitive {
+            ptype,
+            bytes,
+            validity,
+        } = self.layout()
+        else {
+            return None;
+        };
+        match validity {
+            Validity::NonNullable => Some((*ptype, bytes.as_slice())),
+            Validity::AllValid => Some((*ptype, bytes.as_slice())),
+            _ => None,
         }
     }
 
@@ -175,7 +231,12 @@ fn masked_position(
 
 // The position that the number of a row names.
 #[inline]
-fn number_position(bytes: &[u8], ptype: PType, row: usize, len: usize) -> Result<usize, VortexError>
+pub(crate) fn number_position(
+    bytes: &[u8],
+    ptype: PType,
+    row: usize,
+    len: usize,
+) -> Result<usize, VortexError>
     requires { row < length (numbers ptype bytes.now) }
     ensures ok { IfOk result (IsPosition len (whole (number_of_position (numbers ptype bytes.now) row))) }
     ensures tests { Tests result (index_fault len row (whole (number_of_position (numbers ptype bytes.now) row))) }

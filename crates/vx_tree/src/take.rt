@@ -11,8 +11,9 @@ ghost use Rattle.vx_tree.specs.Faults.{take_fault, take_overflow};
 ghost use Rattle.vx_tree.specs.Operations.{AreBelow, IsTakenAt, picks, positions};
 
 use crate::array::{ArrayRef, Validity};
+use crate::indices::Indices;
 use std::alloc::Global;
-use vx_base::{Selection, VortexError};
+use vx_base::VortexError;
 
 impl ArrayRef {
     /// The rows at these indices, in their order; a null index gives null. The layout is kept, but
@@ -31,7 +32,7 @@ impl ArrayRef {
         if !indices.dtype().is_int() {
             return Err(VortexError::MismatchedTypes);
         }
-        let positions = indices.positions(alloc, self.len())?;
+        let positions = indices.indices(alloc, self.len())?;
         let validity = indices.validity(alloc)?;
         Ok(self.take_at(alloc, &positions, &validity)?)
     }
@@ -41,7 +42,7 @@ impl ArrayRef {
     fn take_at(
         &self,
         alloc: Global,
-        positions: &[usize],
+        positions: &Indices,
         nulls: &Validity,
     ) -> Result<ArrayRef, VortexError>
         requires fits { ValidFits (valid_of nulls.now) (length positions.now) }
@@ -50,13 +51,14 @@ impl ArrayRef {
         ensures taken { IfOk result (IsTakenAt self.now positions.now (valid_of nulls.now)) }
         ensures refuses { Refuses result (take_overflow self.now (length positions.now)) }
     {
-        if !self.can_select(positions.len()) {
+        let selection = positions.selection();
+        if !self.can_select(selection.len()) {
             return Err(VortexError::Overflow);
         }
         if self.is_empty() {
-            return Ok(self.nulls(alloc, positions.len(), nulls)?);
+            return Ok(self.nulls(alloc, selection.len(), nulls)?);
         }
-        let selected = self.select_within(alloc, &Selection::at_positions(positions))?;
+        let selected = self.select_within(alloc, &selection)?;
         Ok(selected.nulled(alloc, nulls)?)
     }
 }

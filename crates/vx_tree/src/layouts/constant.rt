@@ -119,8 +119,7 @@ impl ArrayRef {
         if !row.can_select(*len) {
             return Err(VortexError::Overflow);
         }
-        let zeroes = vec![in alloc; 0; *len]?;
-        Ok(row.select_within(alloc, &Selection::at_positions(&zeroes))?)
+        Ok(row.select_within(alloc, &Selection::repeated(0, *len))?)
     }
 
     // The value of each row, `None` where they are null, its parts shared.

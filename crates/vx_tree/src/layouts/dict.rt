@@ -153,8 +153,8 @@ impl ArrayRef {
         if self.is_empty() {
             return Ok(self.plain_nulls(alloc, codes.len(), &nulls)?);
         }
-        let positions = codes.positions(alloc, self.len())?;
-        let selected = self.select_within(alloc, &Selection::at_positions(&positions))?;
+        let positions = codes.code_positions(alloc, self.len())?;
+        let selected = self.select_within(alloc, &positions.selection())?;
         Ok(selected.nulled(alloc, &nulls)?)
     }
 
@@ -210,8 +210,8 @@ impl ArrayRef {
         if values.is_empty() {
             return validity.nulls(alloc, codes.len(), &nulls);
         }
-        let positions = codes.positions(alloc, values.len())?;
-        let validity = validity.select_within(alloc, &Selection::at_positions(&positions))?;
+        let positions = codes.code_positions(alloc, values.len())?;
+        let validity = validity.select_within(alloc, &positions.selection())?;
         validity.nulled(alloc, &nulls, codes.len())
     }
 }

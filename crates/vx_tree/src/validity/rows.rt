@@ -18,7 +18,7 @@ use crate::array::{ArrayRef, Validity};
 use crate::validity::{nowhere_true, told_by};
 use std::alloc::Global;
 use std::ops::Range;
-use vx_base::{BitBuffer, Mask, Selection, VortexError};
+use vx_base::{BitBuffer, Mask, VortexError};
 
 #[tactic(auto, using(crate::proofs::Masks::plain_booleans))]
 impl Validity {
@@ -173,14 +173,14 @@ fn take_truths(alloc: Global, array: &ArrayRef, indices: &ArrayRef) -> Result<Va
     if !indices.dtype().is_int() {
         return Err(VortexError::MismatchedTypes);
     }
-    let positions = indices.positions(alloc, array.len())?;
+    let positions = indices.indices(alloc, array.len())?;
     let nulls = indices.validity(alloc)?;
     let len = indices.len();
     if array.is_empty() {
         let none = nowhere_true(alloc, len)?;
         return Ok(none);
     }
-    let selected = array.select_within(alloc, &Selection::at_positions(&positions))?;
+    let selected = array.select_within(alloc, &positions.selection())?;
     let validity = Validity::Array(selected).nulled(alloc, &nulls, len)?;
     Ok(validity)
 }

@@ -1,36 +1,26 @@
-use Rattle.std.proofs.Common.{false}
-use Rattle.std.proofs.lemmas.Result.{err_from_is_err_and}
 use Rattle.vx_tree.specs.Parts.{valid_of}
 use Rattle.vx_tree.specs.Meaning.{tree_len}
-use Rattle.vx_tree.specs.Faults.{indices_fault}
 use Rattle.vx_tree.specs.Operations.{ArePositions, IsSelected}
 use Rattle.vx_tree.specs.Canonical.{IsCanonicalValid}
-use Rattle.vx_tree.proofs.Dictionaries.{codes_faultless, memory_only, not_empty}
+use Rattle.vx_tree.proofs.Dictionaries.{not_empty}
 use Rattle.vx_tree.proofs.Taken.{positions_below}
-use Rattle.vx_tree.proofs.CanonicalDictionaries.{refused_for_memory, named_values}
+use Rattle.vx_tree.proofs.CanonicalDictionaries.{named_values}
 use Rattle.vx_tree.proofs.array.ArrayRef.named_by.Goals as goal
-
-pub returns-in_err-positions-clause-refuses : goal.returns-in_err-positions-clause-refuses
-returns-in_err-positions-clause-refuses c =
-    let p = err_from_is_err_and c.from_residual-in_err-positions.result c.from_residual-in_err-positions.ensures.1 in
-    let none = codes_faultless c.args.codes.now c.args.self.now false c.requires.codes in
-    let memory = memory_only (indices_fault c.len-3.result c.args.codes.now) c.in_err-positions.field-0.0 (rw c.len-3.ensures none) c.in_err-positions.ensures.refuses in
-    rw (p.1, p.2) (refused_for_memory _ c.in_err-positions.field-0.0 memory)
 
 pub select_within-requires-clause-within : goal.select_within-requires-clause-within
 select_within-requires-clause-within c =
     let v = c.args.self.now in
-    let ps = c.in_ok-positions.positions.items in
-    let are : ArePositions c.args.codes.now (tree_len v) ps = rw c.len-3.ensures at c.in_ok-positions.ensures.ok in
+    let ps = c.in_ok-positions.positions in
+    let are : ArePositions c.args.codes.now (tree_len v) ps = rw c.len-3.ensures at c.in_ok-positions.ensures in
     let below = positions_below c.args.codes.now (tree_len v) ps are (not_empty c.is_empty.result (tree_len v) c.is_empty.ensures c.if-is_empty.false) in
-    rw (c.at_positions.ensures, c.deref.ensures.value) below
+    rw c.selection.ensures below
 
 pub returns-clause-ok : goal.returns-clause-ok
 returns-clause-ok c =
     let v = c.args.self.now in
-    let ps = c.in_ok-positions.positions.items in
-    let are : ArePositions c.args.codes.now (tree_len v) ps = rw c.len-3.ensures at c.in_ok-positions.ensures.ok in
-    let selected : IsSelected v ps c.in_ok-selected.selected = rw (c.at_positions.ensures, c.deref.ensures.value) at c.in_ok-selected.ensures in
+    let ps = c.in_ok-positions.positions in
+    let are : ArePositions c.args.codes.now (tree_len v) ps = rw c.len-3.ensures at c.in_ok-positions.ensures in
+    let selected : IsSelected v ps c.in_ok-selected.selected = rw c.selection.ensures at c.in_ok-selected.ensures in
     let valid : IsCanonicalValid (valid_of c.in_ok-validity.field-0) (tree_len c.args.codes.now) (valid_of c.in_ok-nulls.nulls) = rw c.len-2.ensures at c.in_ok-nulls.ensures in
     named_values c.args.codes.now v c.in_ok-selected.selected c.in_ok-nulled.field-0 ps (valid_of c.in_ok-validity.field-0) (valid_of c.in_ok-nulls.nulls)
     c.requires.plain (not_empty c.is_empty.result (tree_len v) c.is_empty.ensures c.if-is_empty.false) c.in_ok-validity.ensures valid are selected c.in_ok-nulled.ensures

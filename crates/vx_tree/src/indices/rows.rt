@@ -1,0 +1,60 @@
+// The rows that indices name.
+
+ghost use Rattle.std.specs.Prelude.{◌≡◌, map, unsigned_abs};
+ghost use Rattle.vx_base.specs.Integers.{numbers};
+
+use std::marker::Model;
+use vx_base::{PType, Selection};
+
+// The positions that indices name, where they lie: numbers, where none of them is null, else a list.
+#[derive(Drop)]
+pub(crate) struct Indices<'a> {
+    form: Form<'a>,
+}
+
+// The two forms.
+#[derive(Drop)]
+enum Form<'a> {
+    Numbers(PType, &'a [u8]),
+    Positions(Vec<usize>),
+}
+
+impl<'a> Model for Indices<'a> {
+    ghost use Rattle.std.specs.Prelude.{ℕ, List};
+    ghost use Rattle.vx_tree.specs.Named.{named_by};
+
+    ghost Value = { List ℕ };
+
+    ghost view = { λ s. named_by s.form };
+}
+
+impl<'a> Indices<'a> {
+    // The positions that these numbers are, each without its sign.
+    pub(crate) fn of_numbers(ptype: PType, bytes: &'a [u8]) -> Indices<'a>
+        ensures { result ≡ map unsigned_abs (numbers ptype bytes.now) }
+    {
+        Indices {
+            form: Form::Numbers(ptype, bytes),
+        }
+    }
+
+    // These positions.
+    pub(crate) fn of_positions(positions: Vec<usize>) -> Indices<'a>
+        ensures { result ≡ positions.items }
+    {
+        Indices {
+            form: Form::Positions(positions),
+        }
+    }
+
+    // The rows at the positions.
+    pub(crate) fn selection(&self) -> Selection<'_>
+        ensures { result ≡ self.now }
+    {
+        let positions = match &self.form {
+            Form::Numbers(ptype, bytes) => return Selection::at_numbers(*ptype, bytes),
+            Form::Positions(positions) => positions,
+        };
+        Selection::at_positions(positions)
+    }
+}
