@@ -1,11 +1,12 @@
 -- Texts and byte lists by their views: sliced, selected, with other nulls.
-use Rattle.std.proofs.Common.{ℕ, ◌+◌, ◌-◌, ◌<◌, ◌≤◌, ◌≡◌, Bool, true, false, List, [], length, map, replicate, drop, get_or, set, refl, sym, ◌∙◌, ap, subst, zero-add, arith}
+use Rattle.std.proofs.Common.{ℕ, ◌+◌, ◌-◌, ◌<◌, ◌≤◌, ◌≡◌, Bool, true, false, List, [], ◌∷◌, ◌++◌, length, map, replicate, drop, get_or, refl, sym, ◌∙◌, ap, subst, zero-add, arith}
 use Rattle.std.specs.Prelude.{count_by, slice_index, slice_index_or, slice_range, ◌||◌, ◌&&◌, if◌then◌else◌, Some, None}
 use Rattle.std.specs.List.{range_with_len}
-use Rattle.std.proofs.lemmas.List.{get_or-drop, get_or-take, get_or-map, length-map, length-replicate, get_or-replicate, get_or-set_same, get_or-set_other, get_or_default}
+use Rattle.std.proofs.lemmas.List.{get_or-drop, get_or-take, get_or-map, length-map, length-replicate, get_or-replicate, get_or_append_left, get_or-append_right, get_or_default}
 use Rattle.std.proofs.lemmas.List.FromFn.{length-map-range_with_len, get_or-map-range_with_len, fill_by_all}
 use borrow.Author.Count.{below_more}
 use Rattle.vx_base.specs.Bits.{bool_at}
+use Rattle.vx_base.proofs.MaskCounts.{all_false_from_count}
 use Rattle.vx_base.specs.Rows.{Row, null, bytes, text}
 use Rattle.vx_base.specs.declared.scalar_value.ScalarValue.{ScalarValue}
 use Rattle.vx_base.specs.ValueRows.{named, option_row, row_under}
@@ -145,11 +146,12 @@ valid_views_made vs ws w mask e m =
           ∙ ap (λ (b : Bool). if b then slice_index_or vs i [] else replicate 16 0) bit;
     }
 
--- one view more is written
-pub view_written : (f : ℕ → List ℕ) (xs : List (List ℕ)) (n : ℕ) (y : List ℕ) → n < length xs → ((i : ℕ) → i < n → slice_index_or xs i [] ≡ f i) → y ≡ f n
-    → (i : ℕ) → i < n + 1 → slice_index_or (set xs n y) i [] ≡ f i
-view_written f xs n y inside h here =
-    below_more (λ i. get_or (set xs n y) i [] ≡ f i) n (λ i l. get_or-set_other xs n i y [] (omega arith) ∙ h i l) (get_or-set_same xs n y [] inside ∙ here)
+-- one view more is added
+pub view_pushed : (f : ℕ → List ℕ) (xs : List (List ℕ)) (n : ℕ) (y : List ℕ) → length xs ≡ n → ((i : ℕ) → i < n → slice_index_or xs i [] ≡ f i) → y ≡ f n
+    → (i : ℕ) → i < n + 1 → slice_index_or (xs ++ y ∷ []) i [] ≡ f i
+view_pushed f xs n y long h here =
+    below_more (λ i. get_or (xs ++ y ∷ []) i [] ≡ f i) n (λ i l. get_or_append_left xs (y ∷ []) [] i (omega (arith, long, l)) ∙ h i l)
+    (get_or-append_right xs (y ∷ []) n n [] long (omega arith) ∙ ap (λ k. get_or (y ∷ []) k []) {x = n - n} {y = 0} (omega arith) ∙ here)
 
 pub kept_view : (vs : List (List ℕ)) (mask : List Bool) (row : ℕ) (y : List ℕ) → row < length vs → bool_at mask row ≡ true → y ≡ slice_index_or vs row y → y ≡ valid_view vs mask row
 kept_view vs mask row y l h e = e ∙ get_or_default vs row y [] l ∙ sym (ap (λ (b : Bool). if b then slice_index_or vs row [] else replicate 16 0) h)
@@ -161,6 +163,14 @@ zero_view vs mask row y h e = e ∙ empty_is_zeroes ∙ sym (ap (λ (b : Bool). 
 pub all_kept : (vs : List (List ℕ)) (mask : List Bool) → length mask ≡ length vs → count_by (λ b. b) mask ≡ length mask → vs ≡ map (valid_view vs mask) (range_with_len 0 (length vs))
 all_kept vs mask long all =
     fill_by_all (valid_view vs mask) vs (length vs) [] refl (λ i l. sym (ap (λ (b : Bool). if b then slice_index_or vs i [] else replicate 16 0) (all_true-at mask i all (omega arith))))
+
+-- a mask that is nowhere true keeps none
+pub none_kept : (vs : List (List ℕ)) (mask : List Bool) → length mask ≡ length vs → count_by (λ b. b) mask ≡ 0 → replicate (length vs) (view_of [] 0 0) ≡ map (valid_view vs mask) (range_with_len 0 (length vs))
+none_kept vs mask long none =
+    let zeroes = replicate (length vs) (view_of [] 0 0) in
+    fill_by_all (valid_view vs mask) zeroes (length vs) [] (length-replicate (length vs) (view_of [] 0 0)) (λ i l.
+    get_or-replicate (length vs) i (view_of [] 0 0) [] l
+    ∙ zero_view vs mask i (view_of [] 0 0) (ap (λ (bits : List Bool). bool_at bits i) (all_false_from_count mask none) ∙ get_or-replicate (length mask) i false false (omega (arith, long, l))) refl)
 
 both_true : (a b c : Bool) → a ≡ (b && c) → a ≡ true → b ≡ true
 both_true a true c e h = refl

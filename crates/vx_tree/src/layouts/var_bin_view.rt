@@ -24,8 +24,8 @@ ghost use Rattle.vx_tree.specs.Joined.{IsJoined, IsValidJoined, AreValues, AreRe
 use crate::array::{ArrayRef, Layout, Validity};
 use std::alloc::Global;
 use vx_base::{
-    Buffer, ByteBuffer, DType, Mask, ScalarValue, Selection, VortexError, gather_items,
-    share_buffers,
+    BitBufferView, Buffer, ByteBuffer, DType, Mask, ScalarValue, Selection, VortexError,
+    gather_items, share_buffers,
 };
 use vx_views::BinaryView;
 
@@ -281,25 +281,35 @@ fn valid_views(
     if mask.all_true() {
         return views.try_clone(alloc);
     }
-    let mut valid = vec![in alloc; BinaryView::empty_view(); views.len()]?;
-    put_valid_views(views.as_slice(), mask, &mut valid);
+    let Some(values) = mask.values() else {
+        let nulls = vec![in alloc; BinaryView::empty_view(); views.len()]?;
+        return Buffer::from_vec(alloc, nulls);
+    };
+    let bits = values.bit_buffer(alloc)?;
+    let valid = masked_views(alloc, views.as_slice(), &bits.view())?;
     Buffer::from_vec(alloc, valid)
 }
 
-// Writes them.
+// The views where the bits are true, and 16 zero bytes elsewhere.
 #[inline(never)]
-fn put_valid_views(views: &[BinaryView], mask: &Mask, out: &mut [BinaryView])
-    requires masked { length mask.now ≡ length views.now }
-    requires room { length out.old ≡ length views.now }
-    ensures { out.new ≡ map (valid_view views.now mask.now) (range_with_len 0 (length views.now)) }
+fn masked_views(
+    alloc: Global,
+    views: &[BinaryView],
+    bits: &BitBufferView<'_>,
+) -> Result<Vec<BinaryView>, VortexError>
+    requires { length bits.now ≡ length views.now }
+    ensures { Gives result (λ made. made.items ≡ map (valid_view views.now bits.now) (range_with_len 0 (length views.now))) }
 {
-    for row in 0..out.len() {
-        out[row] = if mask.value(row) {
+    let mut made = Vec::with_capacity(alloc, views.len())?;
+    for row in 0..views.len() {
+        let view = if bits.value(row) {
             views[row]
         } else {
             BinaryView::empty_view()
         };
+        made.push_reserved(view);
     }
+    Ok(made)
 }
 
 // How many buffers the arrays have, as many as can be numbered.
