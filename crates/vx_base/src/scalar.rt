@@ -51,7 +51,8 @@ impl Scalar {
     pub fn try_new(dtype: DType, value: Option<ScalarValue>) -> Result<Scalar, VortexError>
         ensures row { IfOk result (λ s. s ≡ typed_row (dtype_meaning dtype) (row_under (dtype_meaning dtype) value)) }
         ensures fits { IfOk result (λ _. Fits (dtype_meaning dtype) (row_under (dtype_meaning dtype) value)) }
-        ensures refused { IfErr result (λ e. (e ≡ MismatchedTypes) × ¬ Fits (dtype_meaning dtype) (row_under (dtype_meaning dtype) value)) }
+        ensures refused { IfErr result (λ e. (e ≡ MismatchedTypes)
+            × ¬ Fits (dtype_meaning dtype) (row_under (dtype_meaning dtype) value)) }
     {
         if fits(&dtype, &value) {
             Ok(Scalar { dtype, value })

@@ -7,7 +7,8 @@ use Rattle.vx_base.specs.Rows.{Row, null, is_present}
 use Rattle.vx_base.specs.Defaults.{default_fault}
 use Rattle.vx_base.specs.Refusals.{Refusal, overflow, or_else}
 use Rattle.vx_base.specs.Kinds.{Kind, fixed_lists, records, Kinds, no_kinds, kind}
-use Rattle.vx_tree.specs.Tree.{Tree, bools, primitive, constant, dictionary, fixed_list, list_view, structure, view_array, Trees, no_trees, tree, Valid}
+use Rattle.vx_tree.specs.Tree.{Tree, bools, primitive, constant, dictionary, fixed_list, list_view, structure}
+use Rattle.vx_tree.specs.Tree.{view_array, Trees, no_trees, tree, Valid}
 use Rattle.vx_tree.specs.Meaning.{tree_len, kind_of, row_at, is_valid_at}
 use Rattle.vx_tree.specs.Shapes.{State, state_of, tree_state}
 use Rattle.vx_tree.specs.Formed.{ValidFits}

@@ -21,7 +21,8 @@ are_alike k (t ∷ ts) = kind_eq (kind_of t) k && are_alike k ts
 abbrev pub given_fault : List Tree → Option Refusal
 given_fault [] = Some empty_input
 given_fault (t ∷ ts) =
-    or_else (if are_alike (kind_of t) (t ∷ ts) then None else Some differing_dtypes) (or_else (count_fault (joined_len (t ∷ ts))) (columns_fault (trees_from (t ∷ ts))))
+    or_else (if are_alike (kind_of t) (t ∷ ts) then None else Some differing_dtypes)
+        (or_else (count_fault (joined_len (t ∷ ts))) (columns_fault (trees_from (t ∷ ts))))
 
 -- arrays of a kind, with so many rows together, of these extents: their lists have together more elements than can be counted, or
 -- their texts or byte lists more buffers than can be numbered
@@ -38,7 +39,8 @@ abbrev mutual
   -- of the fields from place c on
   pub fields_extents_fault : Kinds → ℕ → ℕ → List Extent → Option Refusal
   fields_extents_fault no_kinds c n xs = None
-  fields_extents_fault (kind k ks) c n xs = or_else (extents_fault k n (map (column_extent c) xs)) (fields_extents_fault ks (suc c) n xs)
+  fields_extents_fault (kind k ks) c n xs =
+      or_else (extents_fault k n (map (column_extent c) xs)) (fields_extents_fault ks (suc c) n xs)
 
 -- the same of arrays of the kind of the first
 abbrev pub plain_fault : List Tree → Option Refusal

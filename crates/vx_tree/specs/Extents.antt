@@ -3,7 +3,8 @@ use Rattle.std.specs.Prelude.{ℕ, zero, suc, List, [], ◌∷◌, length, map, 
 use Rattle.std.specs.List.{flat_map}
 use Rattle.vx_base.specs.Rows.{Row}
 use Rattle.vx_base.specs.Kinds.{Kind, texts, binaries, lists, fixed_lists, records, Kinds, no_kinds, kind}
-use Rattle.vx_tree.specs.Tree.{Tree, bools, primitive, constant, dictionary, fixed_list, list_view, structure, view_array, Trees, no_trees, tree}
+use Rattle.vx_tree.specs.Tree.{Tree, bools, primitive, constant, dictionary, fixed_list, list_view, structure}
+use Rattle.vx_tree.specs.Tree.{view_array, Trees, no_trees, tree}
 use Rattle.vx_tree.specs.Meaning.{tree_len, kind_of}
 use Rattle.vx_tree.specs.RowParts.{field_in, is_long_row, items_in, items_or_nulls}
 

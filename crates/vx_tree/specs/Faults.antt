@@ -63,4 +63,6 @@ abbrev mutual
 -- taking: indices that are no integers, the first one that is no position, too many elements
 abbrev pub take_fault : Tree → Tree → Option Refusal
 take_fault t indices =
-    if is_integers (kind_of indices) then or_else (indices_fault (tree_len t) indices) (take_overflow t (tree_len indices)) else Some mismatched_types
+    if is_integers (kind_of indices)
+        then or_else (indices_fault (tree_len t) indices) (take_overflow t (tree_len indices))
+        else Some mismatched_types

@@ -1,11 +1,14 @@
 -- What is true of the parts of every array.
-use Rattle.std.specs.Prelude.{◌≡◌, ◌≤◌, ◌<◌, ◌+◌, ◌*◌, ℕ, Bool, true, false, IsTrue, List, [], length, pos, Some, replicate, slice_index_or}
+use Rattle.std.specs.Prelude.{◌≡◌, ◌≤◌, ◌<◌, ◌+◌, ◌*◌, ℕ, Bool, true, false, IsTrue, List, [], length, pos, Some}
+use Rattle.std.specs.Prelude.{replicate, slice_index_or}
 use Rattle.std.proofs.Common.{arith}
 use Rattle.vx_base.specs.Integers.{byte_width, numbers}
 use Rattle.vx_base.specs.Rows.{Row, null, whole, count_in, position_in}
 use Rattle.vx_base.specs.Kinds.{Kind, booleans, texts, binaries, is_integers, is_plain_integers, Fits}
 use Rattle.vx_views.specs.Sound.{IsSoundView}
-use Rattle.vx_tree.specs.Tree.{Tree, bools, primitive, constant, dictionary, fixed_list, list_view, structure, view_array, Trees, no_trees, tree, Valid, non_nullable, all_valid, all_invalid, by_array}
+use Rattle.vx_tree.specs.Tree.{Tree, bools, primitive, constant, dictionary, fixed_list, list_view, structure}
+use Rattle.vx_tree.specs.Tree.{view_array, Trees, no_trees, tree, Valid, non_nullable, all_valid, all_invalid}
+use Rattle.vx_tree.specs.Tree.{by_array}
 use Rattle.vx_tree.specs.Meaning.{tree_len, kind_of, row_at, is_valid_at, nullable, is_texts}
 
 -- a validity array of n rows: plain booleans, in any layout

@@ -1,5 +1,6 @@
 -- Arrays that are joined, one after another.
-use Rattle.std.specs.Prelude.{◌≡◌, ◌<◌, ◌≤◌, ◌++◌, ◌+◌, ◌-◌, ◌*◌, ℕ, pos, zero, suc, Bool, true, false, slice_index, List, [], ◌∷◌, length, map, replicate, nat_lt, if◌then◌else◌, Option, None, slice_index_or}
+use Rattle.std.specs.Prelude.{◌≡◌, ◌<◌, ◌≤◌, ◌++◌, ◌+◌, ◌-◌, ◌*◌, ℕ, pos, zero, suc, Bool, true, false, slice_index}
+use Rattle.std.specs.Prelude.{List, [], ◌∷◌, length, map, replicate, nat_lt, if◌then◌else◌, Option, None, slice_index_or}
 use Rattle.vx_base.specs.Integers.{byte_width, numbers}
 use Rattle.vx_base.specs.Kinds.{Kind, integers, texts, binaries, lists, fixed_lists, records, Kinds, no_kinds, kind}
 use Rattle.vx_base.specs.Booleans.{count_fault}
@@ -10,7 +11,8 @@ use Rattle.vx_base.specs.declared.ptypes.PType.TheVariants.{U64}
 use Rattle.vx_base.specs.Rows.{Row, null, whole, items, record_of, is_present, count_in}
 use Rattle.vx_views.specs.Views.{view_size, view_prefix, view_block, view_offset, is_inline, view_value, ref_view, Resolves}
 use Rattle.vx_views.specs.Sound.{IsSoundView}
-use Rattle.vx_tree.specs.Tree.{Tree, bools, primitive, dictionary, fixed_list, list_view, structure, view_array, Trees, no_trees, tree, Valid, non_nullable}
+use Rattle.vx_tree.specs.Tree.{Tree, bools, primitive, dictionary, fixed_list, list_view, structure, view_array}
+use Rattle.vx_tree.specs.Tree.{Trees, no_trees, tree, Valid, non_nullable}
 use Rattle.vx_tree.specs.Meaning.{tree_len, kind_of, row_at, fields_at, rows_range, is_valid_at, nullable, value_row}
 use Rattle.vx_tree.specs.Formed.{ValidFits, IsCounts, AllLen, column_count}
 use Rattle.vx_tree.specs.Shapes.{State, never_null, none_null, every_null, told, state_of, tree_state}
@@ -93,7 +95,8 @@ ArePartsOf _ _ = ⊥
 pub record AreNumbers (p : PType) (t : Tree) : Type 0 where
   pub layout : is_primitive t ≡ true
   pub bytes : length (bytes_in t) ≡ tree_len t * byte_width p
-  pub content : (j : ℕ) → j < tree_len t → row_at t j ≡ (if is_present (row_at t j) then whole (number_of_position (numbers p (bytes_in t)) j) else null)
+  pub content : (j : ℕ) → j < tree_len t
+      → row_at t j ≡ (if is_present (row_at t j) then whole (number_of_position (numbers p (bytes_in t)) j) else null)
 
 -- the elements of an array of lists
 abbrev pub elements_in : Tree → Tree
@@ -105,7 +108,8 @@ elements_in t = t
 pub record AreFixedLists (k : ℕ) (t : Tree) : Type 0 where
   pub layout : is_fixed_list t ≡ true
   pub elements : tree_len (elements_in t) ≡ tree_len t * k
-  pub content : (j : ℕ) → j < tree_len t → row_at t j ≡ (if is_present (row_at t j) then items (rows_range (row_at (elements_in t)) (j * k) k) else null)
+  pub content : (j : ℕ) → j < tree_len t
+      → row_at t j ≡ (if is_present (row_at t j) then items (rows_range (row_at (elements_in t)) (j * k) k) else null)
 
 -- the columns of an array of records
 abbrev pub columns_in : Tree → Trees
@@ -127,7 +131,8 @@ pub record AreRecords (ns : List (List ℕ)) (t : Tree) : Type 0 where
   pub layout : is_struct t ≡ true
   pub count : column_count (columns_in t) ≡ length ns
   pub lens : AllLen (tree_len t) (columns_in t)
-  pub content : (j : ℕ) → j < tree_len t → row_at t j ≡ (if is_present (row_at t j) then record_of (fields_at (columns_in t) ns j) else null)
+  pub content : (j : ℕ) → j < tree_len t
+      → row_at t j ≡ (if is_present (row_at t j) then record_of (fields_at (columns_in t) ns j) else null)
 
 -- each column is that column of the arrays, one array after another
 pub record AreColumnsJoined (ts : List Tree) (m : ℕ) (cs : Trees) : Type 0 where
@@ -160,9 +165,12 @@ pub record AreLists (t : Tree) : Type 0 where
   pub layout : is_list_view t ≡ true
   pub offsets : IsCounts (offsets_in t) × (is_primitive (offsets_in t) ≡ true) × (tree_len (offsets_in t) ≡ tree_len t)
   pub sizes : IsCounts (sizes_in t) × (is_primitive (sizes_in t) ≡ true) × (tree_len (sizes_in t) ≡ tree_len t)
-  pub within : (j : ℕ) → j < tree_len t → count_in (row_at (offsets_in t) j) + count_in (row_at (sizes_in t) j) ≤ tree_len (elements_in t)
+  pub within : (j : ℕ) → j < tree_len t
+      → count_in (row_at (offsets_in t) j) + count_in (row_at (sizes_in t) j) ≤ tree_len (elements_in t)
   pub content : (j : ℕ) → j < tree_len t
-      → row_at t j ≡ (if is_present (row_at t j) then items (rows_range (row_at (elements_in t)) (count_in (row_at (offsets_in t) j)) (count_in (row_at (sizes_in t) j))) else null)
+      → row_at t j ≡ (if is_present (row_at t j)
+          then items (rows_range (row_at (elements_in t)) (count_in (row_at (offsets_in t) j)) (count_in (row_at (sizes_in t) j)))
+          else null)
 
 -- plain numbers that are these counts
 pub record IsCountsOf (ns : List ℕ) (t : Tree) : Type 0 where
@@ -187,7 +195,8 @@ joined_buffers ts = flat_map buffers_in ts
 
 -- the same view, its buffer numbered further by n; a view that holds its value refers to none
 abbrev pub shifted_view : ℕ → List ℕ → List ℕ
-shifted_view n view = if is_inline view then view else ref_view (view_size view) (view_prefix view) (n + view_block view) (view_offset view)
+shifted_view n view = if is_inline view then view
+    else ref_view (view_size view) (view_prefix view) (n + view_block view) (view_offset view)
 
 -- the views of arrays, their buffers numbered further by n and by the buffers of the arrays before
 abbrev pub views_from : ℕ → List Tree → List (List ℕ)
@@ -204,10 +213,13 @@ pub record AreValues (is_text : Bool) (t : Tree) : Type 0 where
   pub len : length (views_in t) ≡ tree_len t
   pub views : AreViews (views_in t) (buffers_in t)
   pub resolved : AreResolved t
-  pub sound : (j : ℕ) → j < tree_len t → is_present (row_at t j) ≡ true → IsSoundView (buffers_in t) is_text (slice_index_or (views_in t) j [])
+  pub sound : (j : ℕ) → j < tree_len t → is_present (row_at t j) ≡ true
+      → IsSoundView (buffers_in t) is_text (slice_index_or (views_in t) j [])
   pub zeroes : (j : ℕ) → j < tree_len t → is_present (row_at t j) ≡ false → slice_index_or (views_in t) j [] ≡ replicate 16 0
   pub content : (j : ℕ) → j < tree_len t
-      → row_at t j ≡ (if is_present (row_at t j) then value_row is_text (view_value (buffers_in t) (slice_index_or (views_in t) j [])) else null)
+      → row_at t j ≡ (if is_present (row_at t j)
+          then value_row is_text (view_value (buffers_in t) (slice_index_or (views_in t) j []))
+          else null)
 
 -- plain arrays of one kind
 pub record AreJoinable (k : Kind) (ts : List Tree) : Type 0 where
@@ -219,11 +231,13 @@ pub record AreJoinable (k : Kind) (ts : List Tree) : Type 0 where
 abbrev pub AreColumnsJoinable : List Tree → List Tree → Type 0
 AreColumnsJoinable ps ts = (c : ℕ) (d : Tree) → c < length ps → AreJoinable (kind_of (slice_index_or ps c d)) (map (column_of c) ts)
 
--- the elements of lists, or of the lists in the columns of records, cannot be counted, or the buffers of texts or of byte lists not numbered
+-- the elements of lists, or of the lists in the columns of records, cannot be counted, or the buffers of texts or of
+-- byte lists not numbered
 abbrev mutual
   pub parts_join_fault : Kind → List Tree → Option Refusal
   parts_join_fault (lists k n) ts = or_else (count_fault (joined_len (map elements_in ts))) (parts_join_fault k (map elements_in ts))
-  parts_join_fault (fixed_lists k size n) ts = or_else (count_fault (joined_len (map elements_in ts))) (parts_join_fault k (map elements_in ts))
+  parts_join_fault (fixed_lists k size n) ts =
+      or_else (count_fault (joined_len (map elements_in ts))) (parts_join_fault k (map elements_in ts))
   parts_join_fault (records names ks n) ts = columns_join_fault ks 0 ts
   parts_join_fault (texts n) ts = buffers_overflow (length (joined_buffers ts))
   parts_join_fault (binaries n) ts = buffers_overflow (length (joined_buffers ts))
@@ -233,7 +247,8 @@ abbrev mutual
   pub columns_join_fault : Kinds → ℕ → List Tree → Option Refusal
   columns_join_fault no_kinds c ts = None
   columns_join_fault (kind k ks) c ts =
-      or_else (or_else (count_fault (joined_len (map (column_of c) ts))) (parts_join_fault k (map (column_of c) ts))) (columns_join_fault ks (suc c) ts)
+      or_else (or_else (count_fault (joined_len (map (column_of c) ts))) (parts_join_fault k (map (column_of c) ts)))
+          (columns_join_fault ks (suc c) ts)
 
 -- plain arrays of a kind have more rows than can be counted, or their parts have
 abbrev pub join_fault : Kind → List Tree → Option Refusal

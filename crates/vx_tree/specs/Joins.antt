@@ -41,7 +41,8 @@ are_all v (part ∷ parts) = is_unchanged v (valid_of part.0) && are_all v parts
 abbrev pub joined_validity : List (Validity × ℕ) → Option Valid
 joined_validity [] = None
 joined_validity (part ∷ parts) =
-    Some (if are_all (valid_of part.0) (part ∷ parts) then valid_of part.0 else by_array (bools (joined_mask (part ∷ parts)) non_nullable))
+    Some (if are_all (valid_of part.0) (part ∷ parts) then valid_of part.0
+        else by_array (bools (joined_mask (part ∷ parts)) non_nullable))
 
 -- ---- faults
 
@@ -54,4 +55,5 @@ types_fault (part ∷ parts) = or_else (valid_type_fault (valid_of part.0)) (typ
 abbrev pub join_fault : List (Validity × ℕ) → Option Refusal
 join_fault [] = None
 join_fault (part ∷ parts) =
-    if are_all (valid_of part.0) (part ∷ parts) then None else or_else (types_fault (part ∷ parts)) (count_fault (length (joined_mask (part ∷ parts))))
+    if are_all (valid_of part.0) (part ∷ parts) then None
+        else or_else (types_fault (part ∷ parts)) (count_fault (length (joined_mask (part ∷ parts))))

@@ -1,13 +1,18 @@
 -- What a tree means: its length, its kind, its rows.
-use Rattle.std.specs.Prelude.{◌*◌, ℕ, zero, suc, Bool, true, false, List, [], ◌∷◌, length, map, if◌then◌else◌, Option, Some, None, slice_index_or}
+use Rattle.std.specs.Prelude.{◌*◌, ℕ, zero, suc, Bool, true, false, List, [], ◌∷◌, length, map, if◌then◌else◌, Option}
+use Rattle.std.specs.Prelude.{Some, None, slice_index_or}
 use Rattle.std.specs.List.{range_with_len}
 use Rattle.vx_base.specs.Integers.{numbers}
 use Rattle.vx_base.specs.Bits.{bool_at}
 use Rattle.vx_base.specs.Selections.{number_of_position}
-use Rattle.vx_base.specs.Rows.{Row, null, boolean, whole, bytes, text, items, record_of, Rows, no_rows, row, Fields, no_fields, field, truth_of, position_in, count_in}
-use Rattle.vx_base.specs.Kinds.{Kind, booleans, integers, texts, lists, fixed_lists, records, Kinds, no_kinds, kind, is_nullable_kind, or_nullable}
+use Rattle.vx_base.specs.Rows.{Row, null, boolean, whole, bytes, text, items, record_of, Rows, no_rows, row, Fields}
+use Rattle.vx_base.specs.Rows.{no_fields, field, truth_of, position_in, count_in}
+use Rattle.vx_base.specs.Kinds.{Kind, booleans, integers, texts, lists, fixed_lists, records, Kinds, no_kinds, kind}
+use Rattle.vx_base.specs.Kinds.{is_nullable_kind, or_nullable}
 use Rattle.vx_views.specs.Views.{view_value}
-use Rattle.vx_tree.specs.Tree.{Tree, bools, primitive, constant, dictionary, fixed_list, list_view, structure, view_array, Trees, no_trees, tree, Valid, non_nullable, all_valid, all_invalid, by_array}
+use Rattle.vx_tree.specs.Tree.{Tree, bools, primitive, constant, dictionary, fixed_list, list_view, structure}
+use Rattle.vx_tree.specs.Tree.{view_array, Trees, no_trees, tree, Valid, non_nullable, all_valid, all_invalid}
+use Rattle.vx_tree.specs.Tree.{by_array}
 
 -- columns, as a list of trees
 abbrev pub trees_from : List Tree → Trees
@@ -76,7 +81,8 @@ abbrev mutual
   row_at (constant k r n) i = r
   row_at (dictionary c v f) i = picked (row_at v) (position_in (row_at c i))
   row_at (fixed_list e k v n) i = if is_valid_at v i then items (rows_range (row_at e) (i * k) k) else null
-  row_at (list_view e o s v f) i = if is_valid_at v i then items (rows_range (row_at e) (count_in (row_at o i)) (count_in (row_at s i))) else null
+  row_at (list_view e o s v f) i =
+      if is_valid_at v i then items (rows_range (row_at e) (count_in (row_at o i)) (count_in (row_at s i))) else null
   row_at (structure ns ts v n) i = if is_valid_at v i then record_of (fields_at ts ns i) else null
   row_at (view_array vs bs k v) i = if is_valid_at v i then value_row (is_texts k) (view_value bs (slice_index_or vs i [])) else null
 

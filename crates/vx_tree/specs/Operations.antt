@@ -1,5 +1,6 @@
 -- What slicing, selecting and taking give, row by row.
-use Rattle.std.specs.Prelude.{◌≡◌, ◌<◌, ◌+◌, ◌&&◌, ℕ, pos, Bool, true, false, List, [], ◌∷◌, length, replicate, map, Option, Some, None, is_some, IfSome, slice_index, slice_index_or, if◌then◌else◌}
+use Rattle.std.specs.Prelude.{◌≡◌, ◌<◌, ◌+◌, ◌&&◌, ℕ, pos, Bool, true, false, List, [], ◌∷◌, length, replicate, map}
+use Rattle.std.specs.Prelude.{Option, Some, None, is_some, IfSome, slice_index, slice_index_or, if◌then◌else◌}
 use Rattle.std.specs.List.{All}
 use Rattle.vx_base.specs.declared.ptypes.PType.{PType}
 use Rattle.vx_base.specs.declared.ptypes.PType.TheVariants.{U8}

@@ -4,7 +4,8 @@ use Rattle.vx_tree.specs.declared.array.Layout.{Layout}
 use Rattle.vx_tree.specs.declared.array.Validity.{Validity}
 use Rattle.vx_tree.specs.declared.array.Validity.TheVariants as validity
 use Rattle.vx_tree.specs.declared.array.Layout.TheVariants as layout
-use Rattle.vx_tree.specs.Tree.{Tree, bools, primitive, constant, dictionary, fixed_list, list_view, Valid, non_nullable, all_valid, all_invalid, by_array, view_array, structure}
+use Rattle.vx_tree.specs.Tree.{Tree, bools, primitive, constant, dictionary, fixed_list, list_view, Valid}
+use Rattle.vx_tree.specs.Tree.{non_nullable, all_valid, all_invalid, by_array, view_array, structure}
 use Rattle.vx_tree.specs.Meaning.{trees_from}
 
 abbrev pub valid_of : Validity → Valid

@@ -1,5 +1,6 @@
 -- Booleans that are overwritten at positions.
-use Rattle.std.specs.Prelude.{◌≡◌, ◌-◌, ◌&&◌, ℕ, pos, negsuc, Bool, true, false, List, [], ◌∷◌, map, Option, Some, None, nat_lt, slice_set, if◌then◌else◌}
+use Rattle.std.specs.Prelude.{◌≡◌, ◌-◌, ◌&&◌, ℕ, pos, negsuc, Bool, true, false, List, [], ◌∷◌, map, Option, Some}
+use Rattle.std.specs.Prelude.{None, nat_lt, slice_set, if◌then◌else◌}
 use Rattle.std.specs.List.{range_with_len}
 use Rattle.vx_base.specs.Kinds.{is_plain_integers}
 use Rattle.vx_base.specs.Refusals.{Refusal, mismatched_types, nullability_mismatch, patch_out_of_range, or_else, first_fault}
@@ -22,7 +23,8 @@ patch_positions offset indices = map (λ i. count_in (row_at indices i) - offset
 
 -- row i names none of n positions, counted from an offset on
 abbrev pub patch_row_fault : ℕ → ℕ → ℕ → Row → Option Refusal
-patch_row_fault offset n i (whole (pos k)) = if nat_lt k offset then Some (patch_out_of_range i) else (if nat_lt (k - offset) n then None else Some (patch_out_of_range i))
+patch_row_fault offset n i (whole (pos k)) =
+    if nat_lt k offset then Some (patch_out_of_range i) else (if nat_lt (k - offset) n then None else Some (patch_out_of_range i))
 patch_row_fault offset n i (whole (negsuc k)) = Some (patch_out_of_range i)
 patch_row_fault offset n i _ = None
 
@@ -39,7 +41,9 @@ is_unchanged _ _ = false
 
 -- indices that are no plain integers, arrays that are none of plain booleans
 abbrev pub patch_type_fault : Valid → Tree → Valid → Option Refusal
-patch_type_fault v indices u = or_else (if is_plain_integers (kind_of indices) then None else Some mismatched_types) (or_else (valid_type_fault v) (valid_type_fault u))
+patch_type_fault v indices u =
+    or_else (if is_plain_integers (kind_of indices) then None else Some mismatched_types)
+        (or_else (valid_type_fault v) (valid_type_fault u))
 
 -- then an array that has not n rows, patches that are not as many as the indices
 abbrev pub patch_len_fault : Valid → ℕ → Tree → Valid → Option Refusal
@@ -47,11 +51,13 @@ patch_len_fault v n indices u = or_else (validity_fault v n) (validity_fault u (
 
 -- where rows are patched: types, then lengths, then the first position
 abbrev pub patch_rows_fault : Valid → ℕ → ℕ → Tree → Valid → Option Refusal
-patch_rows_fault v n offset indices u = or_else (patch_type_fault v indices u) (or_else (patch_len_fault v n indices u) (patch_positions_fault offset n indices))
+patch_rows_fault v n offset indices u =
+    or_else (patch_type_fault v indices u) (or_else (patch_len_fault v n indices u) (patch_positions_fault offset n indices))
 
 abbrev pub patch_fault : Valid → ℕ → ℕ → Tree → Valid → Option Refusal
 patch_fault v n offset indices u =
-    if is_unchanged v u then None else (if nullable v && nullable u then patch_rows_fault v n offset indices u else Some nullability_mismatch)
+    if is_unchanged v u then None
+        else (if nullable v && nullable u then patch_rows_fault v n offset indices u else Some nullability_mismatch)
 
 -- n rows of a validity, overwritten at the positions of the indices by the rows of another
 pub record IsPatched (v : Valid) (n offset : ℕ) (indices : Tree) (u : Valid) (w : Valid) : Type 0 where

@@ -1,5 +1,7 @@
 -- The plain layouts, one for each data type, in the parts too.
-use Rattle.vx_tree.specs.Tree.{Tree, bools, primitive, constant, dictionary, fixed_list, list_view, structure, view_array, Trees, no_trees, tree, Valid, non_nullable, all_valid, all_invalid, by_array}
+use Rattle.vx_tree.specs.Tree.{Tree, bools, primitive, constant, dictionary, fixed_list, list_view, structure}
+use Rattle.vx_tree.specs.Tree.{view_array, Trees, no_trees, tree, Valid, non_nullable, all_valid, all_invalid}
+use Rattle.vx_tree.specs.Tree.{by_array}
 
 -- neither a constant nor a dictionary, nor is any of its parts
 abbrev mutual

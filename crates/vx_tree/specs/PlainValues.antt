@@ -1,5 +1,6 @@
 -- Values, one a row, in plain layout.
-use Rattle.std.specs.Prelude.{◌≡◌, ◌<◌, ◌≤◌, ◌+◌, ◌*◌, ◌^◌, ℕ, suc, ℤ, pos, Bool, true, false, List, [], ◌∷◌, length, map, take, count_by, Option, Some, None, is_some, slice_index_or, nat_lt, if◌then◌else◌}
+use Rattle.std.specs.Prelude.{◌≡◌, ◌<◌, ◌≤◌, ◌+◌, ◌*◌, ◌^◌, ℕ, suc, ℤ, pos, Bool, true, false, List, [], ◌∷◌, length}
+use Rattle.std.specs.Prelude.{map, take, count_by, Option, Some, None, is_some, slice_index_or, nat_lt, if◌then◌else◌}
 use Rattle.std.specs.List.{All, flat_map, range_with_len}
 use Rattle.vx_base.specs.declared.dtypes.DType.{DType}
 use Rattle.vx_base.specs.DTypes.{dtype_meaning}
@@ -70,7 +71,8 @@ pub record ArePlainValues (k : Kind) (vs : List (Option ScalarValue)) (r : Tree)
   pub plain : IsPlain r
   pub state : tree_state r ≡ state_of (values_valid (is_nullable_kind k) vs)
   pub extent : extent_of r ≡ rows_extent k (map option_row vs)
-  pub rows : (i : ℕ) → i < length vs → Fits k (row_under k (slice_index_or vs i None)) → row_at r i ≡ row_under k (slice_index_or vs i None)
+  pub rows : (i : ℕ) → i < length vs → Fits k (row_under k (slice_index_or vs i None))
+      → row_at r i ≡ row_under k (slice_index_or vs i None)
 
 -- ---- rows
 
@@ -80,7 +82,8 @@ abbrev mutual
   rows_fault (texts m) rs = buffers_overflow (count_by is_long_row rs)
   rows_fault (binaries m) rs = buffers_overflow (count_by is_long_row rs)
   rows_fault (lists k m) rs = rows_fault k (flat_map items_in rs)
-  rows_fault (fixed_lists k size m) rs = if nat_lt (length rs * size) (2 ^ 64) then rows_fault k (flat_map (items_or_nulls size) rs) else Some overflow
+  rows_fault (fixed_lists k size m) rs =
+      if nat_lt (length rs * size) (2 ^ 64) then rows_fault k (flat_map (items_or_nulls size) rs) else Some overflow
   rows_fault (records names ks m) rs = fields_fault ks 0 rs
   rows_fault _ rs = None
 
@@ -118,7 +121,8 @@ FitsNamed k r = Fits k (named k r)
 
 -- each field of rows fits the kind of the data type at its place
 abbrev pub FieldsFitNamed : List DType → List Row → Type 0
-FieldsFitNamed ds rs = (c : ℕ) (d : DType) → c < length ds → All (λ r. FitsNamed (dtype_meaning (slice_index_or ds c d)) (field_in c r)) rs
+FieldsFitNamed ds rs = (c : ℕ) (d : DType) → c < length ds
+    → All (λ r. FitsNamed (dtype_meaning (slice_index_or ds c d)) (field_in c r)) rs
 
 -- the rows of lists, one list after another, with the place and the length of each
 pub record AreSpread (rs qs : List Row) (os ns : List ℕ) : Type 0 where

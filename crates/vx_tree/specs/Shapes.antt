@@ -2,7 +2,8 @@
 use Rattle.std.specs.Prelude.{ℕ, Bool, true, false, List, if◌then◌else◌}
 use Rattle.vx_base.specs.Rows.{Row, is_present}
 use Rattle.vx_base.specs.Kinds.{Kind, is_nullable_kind}
-use Rattle.vx_tree.specs.Tree.{Tree, bools, primitive, constant, dictionary, fixed_list, list_view, structure, view_array, Valid, non_nullable, all_valid, all_invalid, by_array}
+use Rattle.vx_tree.specs.Tree.{Tree, bools, primitive, constant, dictionary, fixed_list, list_view, structure}
+use Rattle.vx_tree.specs.Tree.{view_array, Valid, non_nullable, all_valid, all_invalid, by_array}
 
 -- the state of a validity
 pub data State : Type 0 where

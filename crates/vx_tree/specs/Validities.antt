@@ -1,5 +1,6 @@
 -- What the calls of a validity give, and which fault they answer with.
-use Rattle.std.specs.Prelude.{◌≡◌, ◌<◌, ◌==◌, ◌&&◌, ◌||◌, ℕ, Bool, true, false, List, length, map, count_by, Option, Some, None, if◌then◌else◌}
+use Rattle.std.specs.Prelude.{◌≡◌, ◌<◌, ◌==◌, ◌&&◌, ◌||◌, ℕ, Bool, true, false, List, length, map, count_by, Option}
+use Rattle.std.specs.Prelude.{Some, None, if◌then◌else◌}
 use Rattle.vx_base.specs.Bits.{both}
 use Rattle.vx_base.specs.Kinds.{booleans, is_plain_booleans}
 use Rattle.vx_base.specs.Refusals.{Refusal, mismatched_types, has_nulls, or_else}
@@ -72,7 +73,8 @@ array_of (by_array t) n = t
 -- the validity of booleans: the given one where all are true, all invalid where none is, else an array of them
 abbrev pub valid_from : List Bool → Valid → Valid
 valid_from bits full =
-    if count_by (λ b. b) bits == length bits then full else (if count_by (λ b. b) bits == 0 then all_invalid else by_array (bools bits non_nullable))
+    if count_by (λ b. b) bits == length bits then full
+        else (if count_by (λ b. b) bits == 0 then all_invalid else by_array (bools bits non_nullable))
 
 -- no null may stand, or no null stands
 abbrev pub full_valid : Bool → Valid
@@ -113,7 +115,8 @@ both_states told told = told
 pub record IsValidTaken (v : Valid) (indices : Tree) (w : Valid) : Type 0 where
   pub fits : ValidFits w (tree_len indices)
   pub state : state_of w ≡ taken_state (state_of v) (tree_state indices)
-  pub bits : (i : ℕ) → i < tree_len indices → is_valid_at w i ≡ (is_valid_at v (count_in (row_at indices i)) && is_present (row_at indices i))
+  pub bits : (i : ℕ) → i < tree_len indices
+      → is_valid_at w i ≡ (is_valid_at v (count_in (row_at indices i)) && is_present (row_at indices i))
 
 -- ---- casts that look at no row
 
@@ -190,7 +193,8 @@ BothHasUnit = (p : Bool × List Bool) → both_pairs p (pair_of non_nullable (le
 
 -- what a cast gives that looks at no row, the cast gives; where it has a fault, the cast has it
 pub record IsTrivialCast (v : Valid) (wanted : Bool) (n : ℕ) : Type 0 where
-  pub given : (w : Valid) → trivial_cast_fault v wanted n ≡ None → trivial_cast v wanted n ≡ Some w → (cast_fault v wanted n ≡ None) × (cast_of v wanted ≡ w)
+  pub given : (w : Valid) → trivial_cast_fault v wanted n ≡ None → trivial_cast v wanted n ≡ Some w
+      → (cast_fault v wanted n ≡ None) × (cast_of v wanted ≡ w)
   pub refused : (r : Refusal) → trivial_cast_fault v wanted n ≡ Some r → cast_fault v wanted n ≡ Some r
 
 abbrev pub TrivialCasts : Type 0

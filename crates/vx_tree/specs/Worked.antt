@@ -3,7 +3,8 @@ use Rattle.std.specs.Prelude.{ℕ, pos, negsuc, Bool, true, false, List, [], ◌
 use Rattle.vx_base.specs.Rows.{Row, null, boolean, whole, text, bytes, items, record_of, no_rows, row, no_fields, field}
 use Rattle.vx_base.specs.Kinds.{lists, integers, texts, binaries}
 use Rattle.vx_base.specs.declared.ptypes.PType.TheVariants.{U8, U32, I8, I16}
-use Rattle.vx_tree.specs.Tree.{Tree, bools, primitive, constant, dictionary, fixed_list, list_view, structure, view_array, no_trees, tree, Valid, non_nullable, all_invalid, by_array}
+use Rattle.vx_tree.specs.Tree.{Tree, bools, primitive, constant, dictionary, fixed_list, list_view, structure}
+use Rattle.vx_tree.specs.Tree.{view_array, no_trees, tree, Valid, non_nullable, all_invalid, by_array}
 
 -- ---- parts
 
@@ -110,7 +111,8 @@ taken_rows = pair 2 3 ∷ null ∷ pair 3 4 ∷ []
 -- a number and a boolean, under the names a and b
 abbrev pub some_records : Tree
 some_records =
-    structure (codes "a" ∷ codes "b" ∷ []) (tree (small_numbers (1 ∷ 2 ∷ [])) (tree (bools (true ∷ false ∷ []) non_nullable) no_trees)) (valid_where (false ∷ true ∷ [])) 2
+    structure (codes "a" ∷ codes "b" ∷ []) (tree (small_numbers (1 ∷ 2 ∷ []))
+        (tree (bools (true ∷ false ∷ []) non_nullable) no_trees)) (valid_where (false ∷ true ∷ [])) 2
 
 abbrev pub record_rows : List Row
 record_rows = null ∷ record_of (field (codes "a") (count 2) (field (codes "b") (boolean false) no_fields)) ∷ []
@@ -133,7 +135,8 @@ abbrev pub null_view : List ℕ
 null_view = 0 ∷ 0 ∷ 0 ∷ 0 ∷ 0 ∷ 0 ∷ 0 ∷ 0 ∷ 0 ∷ 0 ∷ 0 ∷ 0 ∷ 0 ∷ 0 ∷ 0 ∷ 0 ∷ []
 
 abbrev pub some_texts : Tree
-some_texts = view_array (view_of_abc ∷ view_of_thirteen ∷ null_view ∷ []) two_buffers (texts true) (valid_where (true ∷ true ∷ false ∷ []))
+some_texts = view_array (view_of_abc ∷ view_of_thirteen ∷ null_view ∷ []) two_buffers (texts true)
+    (valid_where (true ∷ true ∷ false ∷ []))
 
 abbrev pub text_rows : List Row
 text_rows = text (codes "abc") ∷ text (codes "a longer text") ∷ null ∷ []

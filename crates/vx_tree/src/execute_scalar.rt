@@ -62,7 +62,8 @@ impl ArrayRef {
         count: usize,
     ) -> Result<Vec<Option<ScalarValue>>, VortexError>
         requires { start + count ≤ tree_len self.now }
-        ensures { Gives result (λ vs. all_named (kind_of self.now) (rows_from (map option_row vs.items)) ≡ rows_range (row_at self.now) start count) }
+        ensures { Gives result (λ vs. all_named (kind_of self.now) (rows_from (map option_row vs.items))
+            ≡ rows_range (row_at self.now) start count) }
     {
         self.known_len();
         let mut values = Vec::with_capacity(alloc, count)?;

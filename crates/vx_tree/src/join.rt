@@ -13,7 +13,9 @@ ghost use Rattle.vx_tree.specs.Meaning.{kinds_of, trees_from};
 ghost use Rattle.vx_tree.specs.Formed.{column_count};
 ghost use Rattle.vx_tree.specs.Layouts.{is_fixed_list, is_list_view, is_struct};
 ghost use Rattle.vx_tree.specs.Plain.{IsPlain, ArePlain};
-ghost use Rattle.vx_tree.specs.Joined.{joined_len, IsValidJoined, ArePartsOf, IsJoined, AreJoinable, AreColumnsJoinable, AreColumnsJoined, columns_in, parts_join_fault, columns_join_fault, join_fault};
+ghost use Rattle.vx_tree.specs.Joined.{joined_len, IsValidJoined, ArePartsOf, IsJoined, AreJoinable};
+ghost use Rattle.vx_tree.specs.Joined.{AreColumnsJoinable, AreColumnsJoined, columns_in, parts_join_fault};
+ghost use Rattle.vx_tree.specs.Joined.{columns_join_fault, join_fault};
 
 use crate::array::{ArrayRef, Layout, Validity};
 use crate::layouts::fixed_size_list::elements_of;

@@ -8,7 +8,12 @@ ghost use Rattle.vx_tree.specs.Faults.{slice_fault, take_fault, take_overflow};
 ghost use Rattle.vx_tree.specs.Meaning.{tree_len, kind_of, row_at, rows};
 ghost use Rattle.vx_tree.specs.Operations.{picks};
 ghost use Rattle.vx_tree.specs.Composed.{SlicesCompose, SelectionsCompose};
-ghost use Rattle.vx_tree.specs.Worked.{signed_numbers, signed_rows, some_booleans, some_boolean_rows, all_null, all_null_rows, same_pair, same_pair_rows, dictionary_with_nulls, dictionary_rows, empty_lists, empty_list_rows, pairs, pair_rows, overlapping_lists, overlapping_rows, last_none_first, taken_rows, some_records, record_rows, some_texts, text_rows, some_bytes, bytes_rows, faulty_indices, negative_indices, null_indices};
+ghost use Rattle.vx_tree.specs.Worked.{signed_numbers, signed_rows, some_booleans, some_boolean_rows, all_null};
+ghost use Rattle.vx_tree.specs.Worked.{all_null_rows, same_pair, same_pair_rows, dictionary_with_nulls};
+ghost use Rattle.vx_tree.specs.Worked.{dictionary_rows, empty_lists, empty_list_rows, pairs, pair_rows};
+ghost use Rattle.vx_tree.specs.Worked.{overlapping_lists, overlapping_rows, last_none_first, taken_rows};
+ghost use Rattle.vx_tree.specs.Worked.{some_records, record_rows, some_texts, text_rows, some_bytes, bytes_rows};
+ghost use Rattle.vx_tree.specs.Worked.{faulty_indices, negative_indices, null_indices};
 
 use crate::array::ArrayRef;
 

@@ -9,7 +9,8 @@ ghost use Rattle.vx_base.specs.Refusals.{Gives, Refuses};
 ghost use Rattle.vx_base.specs.Rows.{null};
 ghost use Rattle.vx_base.specs.ValueRows.{option_row};
 ghost use Rattle.vx_tree.specs.RowParts.{field_in, items_in, items_or_nulls};
-ghost use Rattle.vx_tree.specs.PlainValues.{ArePlainFields, ArePlainValues, AreSpread, FieldsFitNamed, FitsIfThere, fields_fault, rows_fault};
+ghost use Rattle.vx_tree.specs.PlainValues.{ArePlainFields, ArePlainValues, AreSpread, FieldsFitNamed, FitsIfThere};
+ghost use Rattle.vx_tree.specs.PlainValues.{fields_fault, rows_fault};
 
 use crate::array::ArrayRef;
 use crate::layouts::list_view::counts_array;
@@ -76,7 +77,8 @@ fn plain_fixed_lists(
     requires even { is_even (dtype_meaning items.now) ≡ true }
     requires fit { All (FitsIfThere (fixed_lists (dtype_meaning items.now) size (is_nullable nullability))) values.now }
     ensures made { IfOk result (ArePlainValues (fixed_lists (dtype_meaning items.now) size (is_nullable nullability)) values.now) }
-    ensures refuses { Refuses result (rows_fault (fixed_lists (dtype_meaning items.now) size (is_nullable nullability)) (map option_row values.now)) }
+    ensures refuses { Refuses result (rows_fault
+        (fixed_lists (dtype_meaning items.now) size (is_nullable nullability)) (map option_row values.now)) }
 {
     let Some(count) = values.len().checked_mul(size as usize) else {
         return Err(VortexError::Overflow);
@@ -98,7 +100,8 @@ fn plain_records(
 ) -> Result<ArrayRef, VortexError>
     requires even { is_even (records (field_names fields.now) (field_kinds fields.now) (is_nullable nullability)) ≡ true }
     requires fit { All (FitsIfThere (records (field_names fields.now) (field_kinds fields.now) (is_nullable nullability))) values.now }
-    ensures made { IfOk result (ArePlainValues (records (field_names fields.now) (field_kinds fields.now) (is_nullable nullability)) values.now) }
+    ensures made { IfOk result (ArePlainValues
+        (records (field_names fields.now) (field_kinds fields.now) (is_nullable nullability)) values.now) }
     ensures refuses { Refuses result (fields_fault (field_kinds fields.now) 0 (map option_row values.now)) }
 {
     let columns = plain_fields(alloc, fields.fields(), values)?;
@@ -188,7 +191,8 @@ fn add_items_or_nulls(
     size: usize,
     out: &mut Vec<Option<ScalarValue>>,
 ) -> Result<(), VortexError>
-    ensures { Gives result (λ _. map option_row out.new.items ≡ map option_row out.old.items ++ items_or_nulls size (option_row value.now)) }
+    ensures { Gives result (λ _. map option_row out.new.items
+        ≡ map option_row out.old.items ++ items_or_nulls size (option_row value.now)) }
 {
     match value {
         Some(ScalarValue::List(rows)) => add_rows(alloc, rows.as_slice(), out),

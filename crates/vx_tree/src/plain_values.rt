@@ -11,7 +11,8 @@ ghost use Rattle.vx_tree.specs.Meaning.{is_texts};
 ghost use Rattle.vx_tree.specs.Formed.{value_kind};
 ghost use Rattle.vx_tree.specs.Parts.{valid_of};
 ghost use Rattle.vx_tree.specs.RowParts.{is_long};
-ghost use Rattle.vx_tree.specs.PlainValues.{AreTexts, ArePlainValues, FitsIfThere, buffers_overflow, long_values, number_or_zero, truth_in, value_bytes, values_valid};
+ghost use Rattle.vx_tree.specs.PlainValues.{AreTexts, ArePlainValues, FitsIfThere, buffers_overflow, long_values};
+ghost use Rattle.vx_tree.specs.PlainValues.{number_or_zero, truth_in, value_bytes, values_valid};
 
 use crate::array::{ArrayRef, Validity};
 use std::alloc::Global;
@@ -59,7 +60,8 @@ pub(crate) fn plain_texts(
     dtype: &DType,
     values: &[Option<ScalarValue>],
 ) -> Result<ArrayRef, VortexError>
-    requires kind { dtype_meaning dtype.now ≡ value_kind (is_texts (dtype_meaning dtype.now)) (is_nullable_kind (dtype_meaning dtype.now)) }
+    requires kind { dtype_meaning dtype.now
+        ≡ value_kind (is_texts (dtype_meaning dtype.now)) (is_nullable_kind (dtype_meaning dtype.now)) }
     requires fit { All (FitsIfThere (dtype_meaning dtype.now)) values.now }
     ensures made { IfOk result (ArePlainValues (dtype_meaning dtype.now) values.now) }
     ensures refuses { Refuses result (buffers_overflow (length (long_values values.now))) }

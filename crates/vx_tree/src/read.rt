@@ -1,6 +1,7 @@
 // Rows that are read one at a time, or as bits.
 
-ghost use Rattle.std.specs.Prelude.{◌≡◌, ◌<◌, ◌≤ℤ◌, ◌^◌, ◌-◌, pos, true, false, map, replicate, None, length, IfOk, IfSome, IsSome, is_some};
+ghost use Rattle.std.specs.Prelude.{◌≡◌, ◌<◌, ◌≤ℤ◌, ◌^◌, ◌-◌, pos, true, false, map, replicate, None, length, IfOk};
+ghost use Rattle.std.specs.Prelude.{IfSome, IsSome, is_some};
 ghost use Rattle.std.specs.List.{range_with_len};
 ghost use Rattle.vx_base.specs.Refusals.{Gives, Refuses};
 ghost use Rattle.vx_base.specs.Integers.{Holds};

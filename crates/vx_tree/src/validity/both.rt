@@ -55,7 +55,8 @@ fn array_and(alloc: Global, array: ArrayRef, rhs: Validity) -> Result<Validity, 
 fn arrays_and(alloc: Global, array: &ArrayRef, other: &ArrayRef) -> Result<Validity, VortexError>
     ensures pair { IfOk result (λ w. (n : ℕ) → IsLenOf (by_array array.now) n → IsLenOf (by_array other.now) n
         → pair_of (valid_of w) n ≡ both_pairs (pair_of (by_array array.now) n) (pair_of (by_array other.now) n)) }
-    ensures state { IfOk result (λ w. state_of (valid_of w) ≡ both_states (state_of (by_array array.now)) (state_of (by_array other.now))) }
+    ensures state { IfOk result (λ w. state_of (valid_of w)
+        ≡ both_states (state_of (by_array array.now)) (state_of (by_array other.now))) }
     ensures refuses { Refuses result (and_fault (by_array array.now) (by_array other.now)) }
 {
     if !array.dtype().is_plain_bool() {

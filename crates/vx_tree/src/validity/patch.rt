@@ -9,7 +9,9 @@ ghost use Rattle.vx_tree.specs.Meaning.{tree_len, kind_of, row_at};
 ghost use Rattle.vx_tree.specs.Formed.{ValidFits};
 ghost use Rattle.vx_tree.specs.Parts.{valid_of};
 ghost use Rattle.vx_tree.specs.Faults.{valid_type_fault};
-ghost use Rattle.vx_tree.specs.Patches.{is_unchanged, overwritten, patch_positions, patch_row_fault, patch_positions_fault, patch_type_fault, patch_len_fault, patch_rows_fault, patch_fault, IsPatched};
+ghost use Rattle.vx_tree.specs.Patches.{is_unchanged, overwritten, patch_positions, patch_row_fault};
+ghost use Rattle.vx_tree.specs.Patches.{patch_positions_fault, patch_type_fault, patch_len_fault, patch_rows_fault};
+ghost use Rattle.vx_tree.specs.Patches.{patch_fault, IsPatched};
 
 use crate::array::{ArrayRef, Validity};
 use crate::indices::to_position;
@@ -35,7 +37,8 @@ impl Validity {
         patches: &Validity,
     ) -> Result<Validity, VortexError>
         ensures same { is_unchanged (valid_of self) (valid_of patches.now) ≡ true → IfOk result (λ w. valid_of w ≡ valid_of self) }
-        ensures patched { is_unchanged (valid_of self) (valid_of patches.now) ≡ false → IfOk result (λ w. IsPatched (valid_of self) len offset indices.now (valid_of patches.now) (valid_of w)) }
+        ensures patched { is_unchanged (valid_of self) (valid_of patches.now) ≡ false
+            → IfOk result (λ w. IsPatched (valid_of self) len offset indices.now (valid_of patches.now) (valid_of w)) }
         ensures refuses { Refuses result (patch_fault (valid_of self) len offset indices.now (valid_of patches.now)) }
     {
         if self.is_unchanged(patches) {

@@ -6,7 +6,8 @@ ghost use Rattle.vx_base.specs.DTypes.{is_nullable};
 ghost use Rattle.vx_base.specs.Refusals.{Tests};
 ghost use Rattle.vx_tree.specs.Shapes.{state_of};
 ghost use Rattle.vx_tree.specs.Parts.{valid_of};
-ghost use Rattle.vx_tree.specs.Validities.{array_in, is_full_state, is_null_state, made_nullable, full_valid, trivial_cast, trivial_cast_fault};
+ghost use Rattle.vx_tree.specs.Validities.{array_in, is_full_state, is_null_state, made_nullable, full_valid};
+ghost use Rattle.vx_tree.specs.Validities.{trivial_cast, trivial_cast_fault};
 
 use crate::array::{ArrayRef, Validity};
 use vx_base::{DType, Nullability, VortexError};
