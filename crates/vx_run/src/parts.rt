@@ -25,13 +25,7 @@ pub(crate) fn show_parts(
             codes,
             values,
             flag,
-        } => {
-            text.push_str("dict codes ")?;
-            show_array(alloc, codes, text)?;
-            let count = values.len();
-            let flag = *flag;
-            write!(text, " values {count} flag {flag}")?;
-        }
+        } => show_dictionary(alloc, codes, values.len(), *flag, text)?,
         Layout::FixedSizeList { elements, size, .. } => {
             let size = *size;
             let count = elements.len();
@@ -44,13 +38,8 @@ pub(crate) fn show_parts(
             flag,
             ..
         } => {
-            text.push_str("listview offsets ")?;
-            show_counts(alloc, offsets, text)?;
-            text.push_str(" sizes ")?;
-            show_counts(alloc, sizes, text)?;
-            let count = elements.len();
-            let flag = *flag;
-            write!(text, " elements {count} flag {flag}")?;
+            show_lists(alloc, offsets, sizes, text)?;
+            show_elements(elements.len(), *flag, text)?;
         }
         Layout::VarBinView { buffers, .. } => {
             let count = buffers.len();
@@ -61,6 +50,42 @@ pub(crate) fn show_parts(
             show_names(names, text)?;
         }
     }
+    Ok(())
+}
+
+// Adds the codes of a dictionary, how many values it has, and its flag.
+fn show_dictionary(
+    alloc: Global,
+    codes: &ArrayRef,
+    values: usize,
+    flag: bool,
+    text: &mut String,
+) -> Result<(), VortexError> {
+    text.push_str("dict codes ")?;
+    show_array(alloc, codes, text)?;
+    write!(text, " values {values} flag {flag}")?;
+    Ok(())
+}
+
+// Adds where lists start and how many elements each has.
+fn show_lists(
+    alloc: Global,
+    offsets: &ArrayRef,
+    sizes: &ArrayRef,
+    text: &mut String,
+) -> Result<(), VortexError>
+    requires offsets { IsCounts offsets.now }
+    requires sizes { IsCounts sizes.now }
+{
+    text.push_str("listview offsets ")?;
+    show_counts(alloc, offsets, text)?;
+    text.push_str(" sizes ")?;
+    show_counts(alloc, sizes, text)
+}
+
+// Adds how many elements lists have, and their flag.
+fn show_elements(count: usize, flag: bool, text: &mut String) -> Result<(), VortexError> {
+    write!(text, " elements {count} flag {flag}")?;
     Ok(())
 }
 

@@ -6,7 +6,7 @@ ghost use Rattle.vx_base.specs.Kinds.{is_integers};
 ghost use Rattle.vx_base.specs.Rows.{count_in};
 ghost use Rattle.vx_tree.specs.Columns.{AllReach};
 ghost use Rattle.vx_tree.specs.Formed.{IsCounts, ValidCovers, column_count};
-ghost use Rattle.vx_tree.specs.Layouts.{is_view_array};
+ghost use Rattle.vx_tree.specs.Layouts.{is_list_view, is_view_array};
 ghost use Rattle.vx_tree.specs.Meaning.{tree_len, kind_of, row_at, trees_from};
 ghost use Rattle.vx_tree.specs.Parts.{valid_of};
 ghost use Rattle.vx_run.specs.Shown.{AreCountsFrom};
@@ -71,18 +71,7 @@ fn show_rows(
             let mask = mask_of(alloc, validity, start, end)?;
             show_fixed_lists(alloc, elements, *size as usize, start, end, &mask, text)?;
         }
-        Layout::ListView {
-            elements,
-            offsets,
-            sizes,
-            validity,
-            ..
-        } => {
-            let mask = mask_of(alloc, validity, start, end)?;
-            let offsets = counts_of(alloc, offsets, start, end)?;
-            let sizes = counts_of(alloc, sizes, start, end)?;
-            show_lists(alloc, elements, &offsets, &sizes, &mask, text)?;
-        }
+        Layout::ListView { .. } => show_list_view(alloc, array, start, end, text)?,
         Layout::Struct {
             names,
             columns,
@@ -95,6 +84,35 @@ fn show_rows(
         Layout::VarBinView { .. } => show_values(array, start, end, text)?,
     }
     Ok(())
+}
+
+// Adds the lists of a list view from `start` up to `end`.
+#[cycle(show)]
+fn show_list_view(
+    alloc: Global,
+    array: &ArrayRef,
+    start: usize,
+    end: usize,
+    text: &mut String,
+) -> Result<(), VortexError>
+    requires layout { is_list_view array.now ≡ true }
+    requires ordered { start ≤ end }
+    requires in_bounds { end ≤ tree_len array.now }
+{
+    let Layout::ListView {
+        elements,
+        offsets,
+        sizes,
+        validity,
+        ..
+    } = array.layout()
+    else {
+        unreachable!();
+    };
+    let mask = mask_of(alloc, validity, start, end)?;
+    let offsets = counts_of(alloc, offsets, start, end)?;
+    let sizes = counts_of(alloc, sizes, start, end)?;
+    show_lists(alloc, elements, &offsets, &sizes, &mask, text)
 }
 
 // Adds the texts or byte lists from `start` up to `end`.

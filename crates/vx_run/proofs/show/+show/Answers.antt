@@ -11,16 +11,16 @@ show_rows-show_records-requires t c =
     let same = sym c.layout.ensures.parts ∙ ap tree_of c.in-Struct.is in
     let ts = trees_from c.in-Struct.columns.items in
     let below = ap depth same in
-    let lent = ap (λ xs. trees_depth (trees_from xs)) c.deref-in-Struct.ensures.value in
+    let lent = ap (λ xs. trees_depth (trees_from xs)) c.deref.ensures.value in
     let formed : WellFormed (structure c.in-Struct.names ts (valid_of c.in-Struct.validity) c.in-Struct.len) = rw c.in-Struct.is at c.layout.ensures.formed in (
       omega (arith, below, lent, c.decreases),
       (
-        rw c.deref-in-Struct.ensures.value formed.1.named,
+        rw c.deref.ensures.value formed.1.named,
         (
           c.requires.ordered,
           (
             c.in_ok-mask-in-Struct.ensures,
-            rw c.deref-in-Struct.ensures.value (AllReach-from_len c.in-Struct.len c.args.end ts formed.1.lens (rw same at c.requires.in_bounds)),
+            rw c.deref.ensures.value (AllReach-from_len c.in-Struct.len c.args.end ts formed.1.lens (rw same at c.requires.in_bounds)),
           ),
         ),
       ),

@@ -6,6 +6,9 @@ use Rattle.vx_run.proofs.show.+show.Given as goal
 abbrev pub decreases-show_rows : goal.decreases-show_rows
 decreases-show_rows l = 4 * depth l.array.now + 2
 
+abbrev pub decreases-show_list_view : goal.decreases-show_list_view
+decreases-show_list_view l = 4 * depth l.array.now + 1
+
 abbrev pub decreases-show_lists : goal.decreases-show_lists
 decreases-show_lists l = 4 * depth l.elements.now + 3
 
