@@ -1,13 +1,16 @@
 -- Lists that lie anywhere among their elements, joined.
 use Rattle.std.proofs.Common.{ℕ, suc, ◌+◌, ◌-◌, ◌<◌, ◌≤◌, ◌≡◌, Bool, true, false, List, [], ◌∷◌, ◌++◌, length, map, get_or, take, drop, append_assoc, refl, sym, ◌∙◌, ap, subst, inl, inr, zero-add, arith}
-use Rattle.std.specs.Prelude.{ℤ, pos, ◌^◌, ◌≤ℤ◌, if◌then◌else◌}
+use Rattle.std.specs.Prelude.{ℤ, pos, unsigned_abs, ◌^◌, ◌≤ℤ◌, if◌then◌else◌}
 use Rattle.std.proofs.lemmas.Grind.{flat_map-append}
-use Rattle.std.specs.List.{All}
+use Rattle.std.specs.List.{All, range_with_len}
+use Rattle.std.proofs.lemmas.Simd.{map-map}
 use Rattle.std.proofs.lemmas.Bool.{cases_lt}
 use Rattle.std.proofs.lemmas.Int.{ints}
-use Rattle.std.proofs.lemmas.List.{length-append, length-map, get_or_append_left, get_or-append_right, get_or-map, get_or_default, take_more, append-nil, at_drop_more}
+use Rattle.std.proofs.lemmas.Slice.{take-put_mid}
+use borrow.Rule.Slice.PartMut.{put_mid}
+use Rattle.std.proofs.lemmas.List.{length-append, length-map, length-take, take_all, take_at, take-append-le, map-append, get_or_append_left, get_or-append_right, get_or-map, get_or_default, take_more, append-nil, at_drop_more}
 use Rattle.std.proofs.lemmas.List.FromFn.{fill_by_all, length-map-range_with_len, get_or-map-range_with_len}
-use Rattle.vx_base.specs.Integers.{numbers}
+use Rattle.vx_base.specs.Integers.{numbers, Holds}
 use Rattle.vx_base.specs.Selections.{number_of_position}
 use Rattle.vx_base.specs.Rows.{Row, null, whole, items, count_in}
 use Rattle.vx_base.specs.declared.ptypes.PType.{PType}
@@ -21,6 +24,9 @@ use Rattle.vx_tree.proofs.FixedLists.{rows_range-same}
 use Rattle.vx_tree.proofs.JoinedRows.{joined-here, joined-later, rows_of_content}
 
 -- ---- counts in their bytes
+
+pub wide_holds : (n : ℕ) → n < 2 ^ 64 → Holds U64 (pos n)
+wide_holds n h = (omega (arith, ints), omega (arith, ints))
 
 number_in_row : (b : Bool) (z : ℤ) (k : ℕ) → (if b then whole z else null) ≡ whole (pos k) → z ≡ pos k
 number_in_row true z k e = cc
@@ -37,15 +43,30 @@ counts_not_negative t p bs v e h = λ i d l.
     let none : P (pos (count_in (row_at t i))) = omega (arith, ints) in
     subst P (sym (get_or_default (numbers p bs) i d (pos 0) l ∙ number-count t p bs v e h i l)) none
 
-pub counts_read : (t : Tree) (p : PType) (bs : List ℕ) (v : Valid) (ns : List ℕ) → t ≡ primitive p bs v → IsCounts t → map pos ns ≡ numbers p bs → ns ≡ counts_in t
-counts_read t p bs v ns e h same =
-    let long : length ns ≡ length (numbers p bs) = sym (length-map ns pos) ∙ ap length same in
+pub counts_are : (t : Tree) (p : PType) (bs : List ℕ) (v : Valid) → t ≡ primitive p bs v → IsCounts t → numbers p bs ≡ map pos (counts_in t)
+counts_are t p bs v e h =
     let len : tree_len t ≡ length (numbers p bs) = ap tree_len e in
-    fill_by_all (λ i. count_in (row_at t i)) ns (tree_len t) 0 (long ∙ sym len) (λ i l.
-    let inside : i < length ns = omega (arith, long, len) in
-    let one : pos (get_or ns i 0) ≡ pos (count_in (row_at t i)) =
-    sym (get_or-map pos ns i 0 (pos 0) inside) ∙ ap (λ zs. get_or zs i (pos 0)) same ∙ number-count t p bs v e h i (omega (arith, len, l)) in
-    cc)
+    fill_by_all (λ i. pos (count_in (row_at t i))) (numbers p bs) (tree_len t) (pos 0) (sym len) (λ i l. number-count t p bs v e h i (omega (arith, len, l)))
+    ∙ sym (map-map pos (λ i. count_in (row_at t i)) (range_with_len 0 (tree_len t)))
+
+pub sums_fit : (base : ℕ) (zs : List ℤ) (ns : List ℕ) → zs ≡ map pos ns → All (λ n. base + n < 2 ^ 64) ns → All (λ z. base + unsigned_abs z < 2 ^ 64) zs
+sums_fit base zs ns e h =
+    let fits : All (λ z. base + unsigned_abs z < 2 ^ 64) (map pos ns) = λ i d l.
+    let inside : i < length ns = omega (arith, l, length-map ns pos) in
+    subst (λ z. base + unsigned_abs z < 2 ^ 64) (sym (get_or-map pos ns i 0 d inside)) (h i 0 inside) in
+    subst (λ ys. All (λ z. base + unsigned_abs z < 2 ^ 64) ys) (sym e) fits
+
+pub sums_are : (base : ℕ) (zs : List ℤ) (ns : List ℕ) → zs ≡ map pos ns → map (λ z. pos (base + unsigned_abs z)) zs ≡ map (λ n. pos (base + n)) ns
+sums_are base zs ns e = ap (map (λ z. pos (base + unsigned_abs z))) e ∙ map-map (λ z. pos (base + unsigned_abs z)) pos ns
+
+-- bytes that are added at the end, and then written
+pub bytes_added : (old made part now rest zeroes : List ℕ) (start n k len : ℕ) → made ≡ take n old ++ zeroes → length old ≡ start → start ≤ n → now ≡ made → len ≡ n → length now ≡ len → start + length part ≡ n
+    → take len (put_mid start k now part ++ rest) ≡ old ++ part
+bytes_added old made part now rest zeroes start n k len e long le same end all more =
+    let kept : take start now ≡ old = ap (take start) (same ∙ e) ∙ ap (λ (ys : List ℕ). take start (ys ++ zeroes)) (take_all n old (omega (arith, long, le))) ∙ take_at old zeroes start long in
+    let put : take len (put_mid start k now part) ≡ old ++ part = take-put_mid start k now part len (omega (arith, more, end)) (omega (arith, all, end, le)) ∙ ap (λ (ys : List ℕ). ys ++ part) kept in
+    let size = ap length put ∙ length-append old part in
+    take-append-le len (put_mid start k now part) rest (omega (arith, size, length-take len (put_mid start k now part), long, more, end)) ∙ put
 
 -- ---- lists at their places
 
@@ -112,17 +133,18 @@ list-joined g base (t ∷ ts) h same i l =
 
 -- ---- one array after another
 
-map_zero : (ns : List ℕ) → map (λ n. 0 + n) ns ≡ ns
-map_zero [] = refl
-map_zero (n ∷ ns) = λ i. zero-add n i ∷ map_zero ns i
+added_zero : (ns : List ℕ) → map (λ n. pos (0 + n)) ns ≡ map pos ns
+added_zero [] = refl
+added_zero (n ∷ ns) = λ i. pos (zero-add n i) ∷ added_zero ns i
 
-pub sizes-more : (ts : List Tree) (i : ℕ) (t : Tree) (olds news : List ℕ) → i < length ts → t ≡ get_or ts i t → olds ≡ joined_sizes (take i ts) → news ≡ olds ++ map (λ n. 0 + n) (counts_in (sizes_in t))
-    → news ≡ joined_sizes (take (i + 1) ts)
+pub sizes-more : (ts : List Tree) (i : ℕ) (t : Tree) (olds news : List ℤ) → i < length ts → t ≡ get_or ts i t → olds ≡ map pos (joined_sizes (take i ts)) → news ≡ olds ++ map (λ n. pos (0 + n)) (counts_in (sizes_in t))
+    → news ≡ map pos (joined_sizes (take (i + 1) ts))
 sizes-more ts i t olds news inside same before e =
+    let here = counts_in (sizes_in t) in
     let more : take (i + 1) ts ≡ take i ts ++ t ∷ [] = take_more ts i t inside ∙ ap (λ u. take i ts ++ u ∷ []) (sym same) in
-    e ∙ ap (λ ns. olds ++ ns) (map_zero (counts_in (sizes_in t))) ∙ ap (λ ns. ns ++ counts_in (sizes_in t)) before
-    ∙ ap (λ ns. joined_sizes (take i ts) ++ ns) (sym (append-nil (counts_in (sizes_in t))))
-    ∙ sym (flat_map-append (λ u. counts_in (sizes_in u)) (take i ts) (t ∷ [])) ∙ ap joined_sizes (sym more)
+    let sizes : joined_sizes (take (i + 1) ts) ≡ joined_sizes (take i ts) ++ here =
+    ap joined_sizes more ∙ flat_map-append (λ u. counts_in (sizes_in u)) (take i ts) (t ∷ []) ∙ ap (λ ns. joined_sizes (take i ts) ++ ns) (append-nil here) in
+    e ∙ (λ j. before j ++ added_zero here j) ∙ sym (map-append pos (joined_sizes (take i ts)) here) ∙ ap (map pos) (sym sizes)
 
 pub sums_short : (t : Tree) (base end : ℕ) → AreLists t → base + tree_len (elements_in t) ≤ end → end < 2 ^ 64 → All (λ n. base + n < 2 ^ 64) (counts_in (offsets_in t))
 sums_short t base end h within short = λ i d l.
@@ -147,17 +169,21 @@ pub elements-step : (ts : List Tree) (i : ℕ) (t : Tree) → i < length ts → 
 elements-step ts i t inside same =
     at_drop_more (λ us. joined_len (map elements_in us)) ts i t inside ∙ ap (λ u. joined_len (map elements_in (u ∷ drop (i + 1) ts))) (sym same)
 
-pub offsets-more : (ts : List Tree) (i : ℕ) (t o : Tree) (base n : ℕ) (joined news : List ℕ) → i < length ts → t ≡ get_or ts i t → o ≡ offsets_in t → n ≡ tree_len (elements_in t)
-    → joined ++ offsets_from base (drop i ts) ≡ offsets_from 0 ts → base + joined_len (map elements_in (drop i ts)) ≡ joined_len (map elements_in ts)
-    → news ≡ joined ++ map (λ k. base + k) (counts_in o)
-    → (news ++ offsets_from (base + n) (drop (i + 1) ts) ≡ offsets_from 0 ts) × (base + n + joined_len (map elements_in (drop (i + 1) ts)) ≡ joined_len (map elements_in ts))
+pub offsets-more : (ts : List Tree) (i : ℕ) (t o : Tree) (base n : ℕ) (joined news : List ℤ) → i < length ts → t ≡ get_or ts i t → o ≡ offsets_in t → n ≡ tree_len (elements_in t)
+    → joined ++ map pos (offsets_from base (drop i ts)) ≡ map pos (offsets_from 0 ts) → base + joined_len (map elements_in (drop i ts)) ≡ joined_len (map elements_in ts)
+    → news ≡ joined ++ map (λ k. pos (base + k)) (counts_in o)
+    → (news ++ map pos (offsets_from (base + n) (drop (i + 1) ts)) ≡ map pos (offsets_from 0 ts)) × (base + n + joined_len (map elements_in (drop (i + 1) ts)) ≡ joined_len (map elements_in ts))
 offsets-more ts i t o base n joined news inside same o-is n-is before all e =
     let rest = offsets_from (base + n) (drop (i + 1) ts) in
+    let sums = map (λ k. base + k) (counts_in o) in
     let step : offsets_from base (drop i ts) ≡ map (λ k. base + k) (counts_in (offsets_in t)) ++ offsets_from (base + tree_len (elements_in t)) (drop (i + 1) ts) =
     at_drop_more (offsets_from base) ts i t inside ∙ ap (λ u. offsets_from base (u ∷ drop (i + 1) ts)) (sym same) in
-    let here : map (λ k. base + k) (counts_in o) ++ rest ≡ offsets_from base (drop i ts) =
+    let here : sums ++ rest ≡ offsets_from base (drop i ts) =
     ap (λ u. map (λ k. base + k) (counts_in u) ++ rest) o-is ∙ ap (λ k. map (λ k. base + k) (counts_in (offsets_in t)) ++ offsets_from (base + k) (drop (i + 1) ts)) n-is ∙ sym step in
-    (ap (λ ns. ns ++ rest) e ∙ append_assoc joined (map (λ k. base + k) (counts_in o)) rest ∙ ap (λ ns. joined ++ ns) here ∙ before, omega (arith, elements-step ts i t inside same, n-is, all))
+    let added : map (λ k. pos (base + k)) (counts_in o) ≡ map pos sums = sym (map-map pos (λ k. base + k) (counts_in o)) in (
+      ap (λ zs. zs ++ map pos rest) (e ∙ ap (λ zs. joined ++ zs) added) ∙ append_assoc joined (map pos sums) (map pos rest) ∙ ap (λ zs. joined ++ zs) (sym (map-append pos sums rest) ∙ ap (map pos) here) ∙ before,
+      omega (arith, elements-step ts i t inside same, n-is, all),
+    )
 
 -- ---- the array of all of them
 

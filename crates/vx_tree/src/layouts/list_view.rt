@@ -1,8 +1,10 @@
 // Lists that lie anywhere among shared elements.
 
-ghost use Rattle.std.specs.Prelude.{◌≡◌, ◌<◌, ◌≤◌, ◌-◌, ℕ, true, false, IfOk, ◌+◌, ◌^◌, ◌++◌, map};
+ghost use Rattle.std.specs.Prelude.{◌≡◌, ◌<◌, ◌≤◌, ◌≤ℤ◌, ◌*◌, ◌%◌, ◌-◌, ℕ, List, true, false, IfOk, ◌+◌, ◌^◌, ◌++◌, pos, unsigned_abs, length, map};
 ghost use Rattle.vx_base.specs.Refusals.{Gives, Refuses};
 ghost use Rattle.std.specs.List.{All};
+ghost use Rattle.vx_base.specs.Integers.{numbers};
+ghost use Rattle.vx_base.specs.declared.ptypes.PType.TheVariants.{U64};
 ghost use Rattle.vx_base.specs.Rows.{count_in};
 ghost use Rattle.vx_base.specs.ValueRows.{row_under};
 ghost use Rattle.vx_tree.specs.Tree.{list_view};
@@ -19,7 +21,8 @@ use crate::array::{ArrayRef, Layout, Validity};
 use crate::indices::to_position;
 use std::alloc::Global;
 use vx_base::{
-    PType, ScalarValue, ScalarValues, Selection, VortexError, read_counts, write_counts,
+    ByteBuffer, NativePType, PType, ScalarValue, ScalarValues, Selection, VortexError, call_native,
+    int_at, number_count, put_int, write_counts,
 };
 
 impl ArrayRef {
@@ -66,9 +69,9 @@ impl ArrayRef {
     {
         elements.known_len();
         let places = joined_offsets(alloc, arrays, len)?;
-        let offsets = counts_array(alloc, &places)?;
+        let offsets = wide_array(alloc, places)?;
         let counts = joined_sizes(alloc, arrays, len)?;
-        let sizes = counts_array(alloc, &counts)?;
+        let sizes = wide_array(alloc, counts)?;
         ArrayRef::list_view(alloc, elements, offsets, sizes, validity, false)
     }
 
@@ -267,47 +270,77 @@ impl ArrayRef {
 }
 
 // The counts that the rows of an array of plain numbers are, each further by `base`, are added to
-// these. Asks that the sums can be counted.
-pub(crate) fn add_counts(
-    alloc: Global,
-    counts: &ArrayRef,
-    base: usize,
-    out: &mut Vec<usize>,
-) -> Result<(), VortexError>
+// these bytes, as numbers of type U64. Asks that the sums can be counted.
+fn add_counts(counts: &ArrayRef, base: usize, out: &mut Vec<u8>) -> Result<(), VortexError>
     requires layout { is_primitive counts.now ≡ true }
     requires counts { IsCounts counts.now }
     requires short { All (λ n. base + n < 2 ^ 64) (counts_in counts.now) }
-    ensures { Gives result (λ _. out.new.items ≡ out.old.items ++ map (λ n. base + n) (counts_in counts.now)) }
-{
-    let numbers = plain_counts(alloc, counts)?;
-    for number in &numbers {
-        out.push(base + *number)?;
-    }
-    Ok(())
-}
-
-// The counts that the rows of an array of plain numbers are.
-fn plain_counts(alloc: Global, counts: &ArrayRef) -> Result<Vec<usize>, VortexError>
-    requires layout { is_primitive counts.now ≡ true }
-    requires counts { IsCounts counts.now }
-    ensures { Gives result (λ ns. ns.items ≡ counts_in counts.now) }
+    requires whole { length out.old.items % 8 ≡ 0 }
+    ensures whole { length out.new.items % 8 ≡ 0 }
+    ensures numbers { Gives result (λ _. numbers U64 out.new.items ≡ numbers U64 out.old.items ++ map (λ n. pos (base + n)) (counts_in counts.now)) }
 {
     let Layout::Primitive { ptype, bytes, .. } = counts.layout() else {
         unreachable!();
     };
-    read_counts(alloc, *ptype, bytes.as_slice())
+    add_numbers(*ptype, bytes.as_slice(), base, out)
 }
 
-// The sizes of arrays of lists, one array after another, of which there are `len`.
-pub(crate) fn joined_sizes(
-    alloc: Global,
-    arrays: &[ArrayRef],
-    len: usize,
-) -> Result<Vec<usize>, VortexError>
-    requires { All AreLists arrays.now }
-    ensures { Gives result (λ ns. ns.items ≡ joined_sizes arrays.now) }
+// Each number further by `base` is added to these bytes, as a number of type U64. Asks that none is
+// negative, and that the sums can be counted.
+fn add_numbers(
+    ptype: PType,
+    bytes: &[u8],
+    base: usize,
+    out: &mut Vec<u8>,
+) -> Result<(), VortexError>
+    requires positions { All (λ z. pos 0 ≤ℤ z) (numbers ptype bytes.now) }
+    requires short { All (λ z. base + unsigned_abs z < 2 ^ 64) (numbers ptype bytes.now) }
+    requires whole { length out.old.items % 8 ≡ 0 }
+    ensures whole { length out.new.items % 8 ≡ 0 }
+    ensures numbers { Gives result (λ _. numbers U64 out.new.items ≡ numbers U64 out.old.items ++ map (λ z. pos (base + unsigned_abs z)) (numbers ptype bytes.now)) }
 {
-    let mut joined = Vec::with_capacity(alloc, len)?;
+    call_native!(ptype, add_sums(bytes, base, out))
+}
+
+// The same for numbers of one type.
+fn add_sums<T: NativePType>(bytes: &[u8], base: usize, out: &mut Vec<u8>) -> Result<(), VortexError>
+    requires positions { All (λ z. pos 0 ≤ℤ z) (numbers T.PTYPE bytes.now) }
+    requires short { All (λ z. base + unsigned_abs z < 2 ^ 64) (numbers T.PTYPE bytes.now) }
+    requires whole { length out.old.items % 8 ≡ 0 }
+    ensures whole { length out.new.items % 8 ≡ 0 }
+    ensures numbers { Gives result (λ _. numbers U64 out.new.items ≡ numbers U64 out.old.items ++ map (λ z. pos (base + unsigned_abs z)) (numbers T.PTYPE bytes.now)) }
+{
+    let start = out.len();
+    let more = number_count(bytes, T::PTYPE).saturating_mul(8);
+    out.resize(start.saturating_add(more), 0)?;
+    put_sums::<T>(bytes, base, &mut out[start..]);
+    Ok(())
+}
+
+// Writes each number further by `base`, as a number of type U64.
+#[inline(never)]
+fn put_sums<T: NativePType>(bytes: &[u8], base: usize, out: &mut [u8])
+    requires positions { All (λ z. pos 0 ≤ℤ z) (numbers T.PTYPE bytes.now) }
+    requires short { All (λ z. base + unsigned_abs z < 2 ^ 64) (numbers T.PTYPE bytes.now) }
+    requires room { length out.old ≡ length (numbers T.PTYPE bytes.now) * 8 }
+    ensures len { length out.new ≡ length out.old }
+    ensures numbers { numbers U64 out.new ≡ map (λ z. pos (base + unsigned_abs z)) (numbers T.PTYPE bytes.now) }
+{
+    for i in 0..number_count(bytes, T::PTYPE) {
+        let number = int_at(bytes, T::PTYPE, i) as usize;
+        let sum = base + number;
+        put_int(sum as i128, PType::U64, &mut out[i * 8..i * 8 + 8]);
+    }
+}
+
+// The sizes of arrays of lists, one array after another, of which there are `len`, as numbers of
+// type U64.
+fn joined_sizes(alloc: Global, arrays: &[ArrayRef], len: usize) -> Result<Vec<u8>, VortexError>
+    requires { All AreLists arrays.now }
+    ensures whole { IfOk result (λ bytes. length bytes.items % 8 ≡ 0) }
+    ensures numbers { Gives result (λ bytes. numbers U64 bytes.items ≡ map pos (joined_sizes arrays.now)) }
+{
+    let mut joined = Vec::with_capacity(alloc, len.saturating_mul(8))?;
     for array in arrays {
         let Layout::ListView {
             elements,
@@ -318,23 +351,21 @@ pub(crate) fn joined_sizes(
             unreachable!();
         };
         elements.known_len();
-        add_counts(alloc, sizes, 0, &mut joined)?;
+        add_counts(sizes, 0, &mut joined)?;
     }
     Ok(joined)
 }
 
 // The offsets of arrays of lists, one array after another, of which there are `len`, each further
-// by the elements of the arrays before. Asks that the elements can be counted.
-pub(crate) fn joined_offsets(
-    alloc: Global,
-    arrays: &[ArrayRef],
-    len: usize,
-) -> Result<Vec<usize>, VortexError>
+// by the elements of the arrays before, as numbers of type U64. Asks that the elements can be
+// counted.
+fn joined_offsets(alloc: Global, arrays: &[ArrayRef], len: usize) -> Result<Vec<u8>, VortexError>
     requires lists { All AreLists arrays.now }
     requires short { joined_len (map elements_in arrays.now) < 2 ^ 64 }
-    ensures { Gives result (λ ns. ns.items ≡ offsets_from 0 arrays.now) }
+    ensures whole { IfOk result (λ bytes. length bytes.items % 8 ≡ 0) }
+    ensures numbers { Gives result (λ bytes. numbers U64 bytes.items ≡ map pos (offsets_from 0 arrays.now)) }
 {
-    let mut joined = Vec::with_capacity(alloc, len)?;
+    let mut joined = Vec::with_capacity(alloc, len.saturating_mul(8))?;
     let mut base = 0usize;
     for array in arrays {
         let Layout::ListView {
@@ -345,10 +376,19 @@ pub(crate) fn joined_offsets(
         else {
             unreachable!();
         };
-        add_counts(alloc, offsets, base, &mut joined)?;
+        add_counts(offsets, base, &mut joined)?;
         base += elements.len();
     }
     Ok(joined)
+}
+
+// Plain numbers of type U64 that these bytes hold, which are counts.
+fn wide_array(alloc: Global, bytes: Vec<u8>) -> Result<ArrayRef, VortexError>
+    requires { length bytes.items % 8 ≡ 0 }
+    ensures { (counts : List ℕ) → numbers U64 bytes.items ≡ map pos counts → Gives result (IsCountsOf counts) }
+{
+    let bytes = ByteBuffer::from_vec(alloc, bytes)?;
+    ArrayRef::primitive(alloc, PType::U64, bytes, Validity::NonNullable)
 }
 
 // Plain numbers that are these counts.

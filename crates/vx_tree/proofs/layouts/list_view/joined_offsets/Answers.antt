@@ -1,9 +1,20 @@
-use Rattle.std.proofs.Common.{◌≤◌, ◌+◌, ap, sym, ◌∙◌, subst, map, arith}
+use Rattle.std.proofs.Common.{ℕ, List, ◌++◌, ◌%◌, length, ◌≤◌, ◌+◌, ap, sym, ◌∙◌, subst, map, arith}
+use Rattle.std.specs.Prelude.{pos}
+use Rattle.vx_base.specs.Integers.{numbers}
+use Rattle.vx_base.proofs.NumberLists.{numbers_none}
+use Rattle.vx_base.specs.declared.ptypes.PType.TheVariants.{U64}
 use Rattle.vx_tree.specs.Meaning.{tree_len}
 use Rattle.vx_tree.specs.Parts.{tree_of}
-use Rattle.vx_tree.specs.Joined.{joined_len, elements_in, offsets_in, AreLists}
+use Rattle.vx_tree.specs.Joined.{joined_len, elements_in, offsets_in, offsets_from, AreLists}
 use Rattle.vx_tree.proofs.JoinedListViews.{sums_short, elements-step, offsets-more}
 use Rattle.vx_tree.proofs.layouts.list_view.joined_offsets.Goals as goal
+
+pub loop-array-init : goal.loop-array-init
+loop-array-init c = (
+  ap (λ (bs : List ℕ). numbers U64 bs ++ map pos (offsets_from 0 c.args.arrays.now)) c.in_ok-joined.ensures.items ∙ ap (λ zs. zs ++ map pos (offsets_from 0 c.args.arrays.now)) (numbers_none U64),
+  omega arith,
+  ap (λ (bs : List ℕ). length bs % 8) c.in_ok-joined.ensures.items,
+)
 
 pub add_counts-requires-clause-short : goal.add_counts-requires-clause-short
 add_counts-requires-clause-short c =
@@ -19,6 +30,7 @@ add_counts-requires-clause-short c =
 pub loop-array-preserved : goal.loop-array-preserved
 loop-array-preserved c =
     let same = sym c.layout.ensures.parts ∙ ap tree_of c.in-ListView.is in
-    offsets-more c.args.arrays.now c.loop-array.array-index c.array-item.result c.in-ListView.offsets c.loop-array.base c.len-base.result c.loop-array.joined.items c.add_counts.new.out.items
+    let more = offsets-more c.args.arrays.now c.loop-array.array-index c.array-item.result c.in-ListView.offsets c.loop-array.base c.len-base.result (numbers U64 c.loop-array.joined.items) (numbers U64 c.add_counts.new.out.items)
     c.loop-array-test.true c.array-item.is (sym (ap offsets_in same)) (c.len-base.ensures ∙ sym (ap (λ u. tree_len (elements_in u)) same))
-    c.loop-array.invariant.0 c.loop-array.invariant.1 c.in_ok-add_counts.ensures
+    c.loop-array.invariant.0 c.loop-array.invariant.1 c.in_ok-add_counts.ensures.numbers in
+    (more.0, more.1, c.add_counts.ensures.whole)
