@@ -1,12 +1,12 @@
 -- The numbers that bytes hold, one after another.
-use Rattle.std.proofs.Common.{ℕ, ◌+◌, ◌-◌, ◌*◌, ◌/◌, ◌<◌, ◌≤◌, ◌≡◌, List, [], ◌∷◌, ◌++◌, length, get_or, set, take, drop, map, refl, sym, ◌∙◌, ap, zero-add, arith}
+use Rattle.std.proofs.Common.{ℕ, ◌+◌, ◌-◌, ◌*◌, ◌/◌, ◌<◌, ◌≤◌, ◌≡◌, List, [], ◌∷◌, ◌++◌, length, get_or, take, drop, map, refl, sym, ◌∙◌, ap, zero-add, arith}
 use Rattle.std.specs.Prelude.{ℤ, pos, slice_range}
 use Rattle.std.specs.List.{range_with_len}
 use Rattle.std.proofs.Math.Nat.{mul-le-mul_right, div-mul-le_self, add-mul}
 use Rattle.std.proofs.lemmas.Nat.{div-mul-add, le-div}
 use Rattle.std.proofs.lemmas.Slice.{take-put_mid}
 use borrow.Rule.Slice.PartMut.{put_mid}
-use Rattle.std.proofs.lemmas.List.{length-take-le, take_more_set, map_push, take_more, take_all, drop_at, drop-append-le, take-append-le, length-append, length-drop, drop-drop, drop-take, take-take}
+use Rattle.std.proofs.lemmas.List.{length-take-le, take_all, drop_at, drop-append-le, take-append-le, length-append, length-drop, drop-drop, drop-take, take-take}
 use Rattle.std.proofs.lemmas.List.FromFn.{length-map-range_with_len, get_or-map-range_with_len, map-range_with_len_more}
 use Rattle.vx_base.proofs.ListParts.{map_range_same, part_of_map_range, length_part}
 use Rattle.vx_base.proofs.NumberBytes.{number_of-bytes_of}
@@ -54,15 +54,6 @@ unfolding numbers
 numbers_none t =
     let none : 0 / byte_width t ≡ 0 = ap (λ (m : ℕ). m / byte_width t) (omega arith) ∙ whole t 0 in
     rw none
-
--- one number more is read
-pub numbers_more : (t : PType) (bs : List ℕ) (i : ℕ) (z : ℤ) → i < length bs / byte_width t → z ≡ number_of t (slice_range bs (i * byte_width t) (i * byte_width t + byte_width t))
-    → take (i + 1) (numbers t bs) ≡ take i (numbers t bs) ++ z ∷ []
-numbers_more t bs i z h e =
-    let within : i < length (numbers t bs) = omega (arith, length_numbers t bs) in
-    let size : i * byte_width t + byte_width t - i * byte_width t ≡ byte_width t = omega arith in
-    let number : get_or (numbers t bs) i (pos 0) ≡ z = get_numbers t bs i (pos 0) h ∙ sym (rw size at e) in
-    take_more (numbers t bs) i (pos 0) within ∙ ap (λ (y : ℤ). take i (numbers t bs) ++ y ∷ []) number
 
 -- a number before the end does not see what is added
 number_at-append : (t : PType) (bs cs : List ℕ) (n i : ℕ) → length bs ≡ n * byte_width t → i < n → number_at t (bs ++ cs) i ≡ number_at t bs i
@@ -187,17 +178,3 @@ numbers_written t xs ys width n i k z zs wide bytes h long within e =
     let room : (i + 1) * byte_width t ≤ n * byte_width t = mul-le-mul_right (byte_width t) some in
     let here = numbers_put t xs i k z (omega arith) h in
     rw (wide, bytes) (here ∙ ap (λ (ys : List ℤ). ys ++ z ∷ []) e)
-
--- one number more is read into a list that has room for all of them
-pub numbers_read : {X : Type 0} (value : X → ℤ) (t : PType) (bs : List ℕ) (xs : List X) (width i : ℕ) (x : X) → width ≡ byte_width t → length xs ≡ length bs / byte_width t → i < length xs
-    → value x ≡ number_of t (slice_range bs (i * width) (i * width + width)) → map value (take i xs) ≡ take i (numbers t bs) → map value (take (i + 1) (set xs i x)) ≡ take (i + 1) (numbers t bs)
-numbers_read value t bs xs width i x wide long within e before =
-    let number : value x ≡ number_of t (slice_range bs (i * byte_width t) (i * byte_width t + byte_width t)) = rw wide at e in
-    let more = numbers_more t bs i (value x) (omega arith) number in
-    ap (map value) (take_more_set xs i x within) ∙ map_push value (take i xs) x ∙ ap (λ (ys : List ℤ). ys ++ value x ∷ []) before ∙ sym more
-
--- all of them are
-pub numbers_read_all : {X : Type 0} (value : X → ℤ) (t : PType) (bs : List ℕ) (xs : List X) (i : ℕ) → length xs ≡ length bs / byte_width t → length xs ≤ i → map value (take i xs) ≡ take i (numbers t bs)
-    → map value xs ≡ numbers t bs
-numbers_read_all value t bs xs i long end e =
-    ap (map value) (sym (take_all i xs end)) ∙ e ∙ take_all i (numbers t bs) (omega (arith, length_numbers t bs))

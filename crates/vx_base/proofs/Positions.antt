@@ -5,7 +5,7 @@ use Rattle.std.specs.Int.{w128}
 use Rattle.std.specs.List.{All}
 use Rattle.std.proofs.lemmas.Int.{ints, to_z_pos}
 use Rattle.vx_base.proofs.NumberLists.{length_numbers, get_numbers}
-use Rattle.vx_base.specs.Integers.{byte_width, is_unsigned, number_of, number_at, numbers, Holds}
+use Rattle.vx_base.specs.Integers.{byte_width, is_unsigned, number_of, numbers, Holds}
 use Rattle.vx_base.specs.declared.ptypes.PType.{PType}
 use Rattle.vx_base.specs.declared.ptypes.PType.TheVariants.{U8, U16, U32, U64, I8, I16, I32, I64}
 

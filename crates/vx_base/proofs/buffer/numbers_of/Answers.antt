@@ -1,9 +1,9 @@
-use Rattle.std.proofs.Common.{rules, ◌≡◌, ◌∙◌, ap}
+use Rattle.std.proofs.Common.{rules, ◌∙◌, ap}
 use Rattle.std.proofs.lemmas.Iterator.{YieldsList-from_map_by}
 use Rattle.std.proofs.lemmas.Iterator.Consumers.{YieldsList-at, map_from_collect}
 use Rattle.std.proofs.lemmas.Result.{IfOk-at_ok}
 use Rattle.std.proofs.lemmas.List.{map-id}
-use Rattle.vx_base.specs.Integers.{byte_width, number_of}
+use Rattle.vx_base.specs.Integers.{byte_width}
 use Rattle.vx_base.proofs.NumberChunks.{numbers_from_chunks}
 use Rattle.vx_base.proofs.buffer.numbers_of.Goals as goal
 
