@@ -358,48 +358,6 @@ fn picked_numbers(rt: HostRuntime) -> Result<(), VortexError> {
     Ok(())
 }
 
-// Numbers that are picked at numbers of two types, and one again and again.
-#[test]
-fn picked_at_numbers(rt: HostRuntime) -> Result<(), VortexError> {
-    let numbers = [1, 0, 0, 2, 5, 5];
-    let small = Selection::at_numbers(PType::U8, &[1, 0, 1]);
-    let picked = gather_numbers(rt.alloc(), PType::U16, &numbers, &small)?;
-    assert!(rt; picked.as_slice() == [0, 2, 1, 0, 0, 2].as_slice());
-    let wide = Selection::at_numbers(PType::I32, &[2, 0, 0, 0, 0, 0, 0, 0]);
-    let picked = gather_numbers(rt.alloc(), PType::U16, &numbers, &wide)?;
-    assert!(rt; picked.as_slice() == [5, 5, 1, 0].as_slice());
-    let picked = gather_numbers(rt.alloc(), PType::U16, &numbers, &Selection::repeated(1, 3))?;
-    assert!(rt; picked.as_slice() == [0, 2, 0, 2, 0, 2].as_slice());
-    let picked = gather_numbers(rt.alloc(), PType::I64, &[], &Selection::repeated(9, 0))?;
-    assert!(rt; picked.is_empty());
-    Ok(())
-}
-
-#[test]
-fn picked_items_at_numbers(rt: HostRuntime) -> Result<(), VortexError> {
-    let items = [(1u8, true), (2, false), (3, true)];
-    let small = Selection::at_numbers(PType::U8, &[2, 0]);
-    let picked = gather_items(rt.alloc(), &items, &small)?;
-    assert!(rt; picked.len() == 2 && picked.value(0).0 == 3 && picked.value(1).0 == 1);
-    let wide = Selection::at_numbers(PType::I32, &[1, 0, 0, 0]);
-    let picked = gather_items(rt.alloc(), &items, &wide)?;
-    assert!(rt; picked.len() == 1 && picked.value(0).0 == 2 && !picked.value(0).1);
-    let picked = gather_items(rt.alloc(), &items, &Selection::repeated(2, 2))?;
-    assert!(rt; picked.len() == 2 && picked.value(0).0 == 3 && picked.value(1).0 == 3);
-    assert!(rt; gather_items(rt.alloc(), &items, &Selection::repeated(3, 0))?.is_empty());
-    Ok(())
-}
-
-// The runs of lists at numbers, and of one again and again.
-#[test]
-fn runs_of_lists_at_numbers(rt: HostRuntime) -> Result<(), VortexError> {
-    let lists = Selection::at_numbers(PType::U16, &[2, 0, 0, 0]);
-    assert!(rt; lists.list_runs(rt.alloc(), 3)?.as_slice() == [(6, 9), (0, 3)].as_slice());
-    let lists = Selection::repeated(2, 2);
-    assert!(rt; lists.list_runs(rt.alloc(), 3)?.as_slice() == [(6, 9), (6, 9)].as_slice());
-    Ok(())
-}
-
 #[test]
 fn picked_items(rt: HostRuntime) -> Result<(), VortexError> {
     let items = [(1u8, true), (2, false), (3, true)];
@@ -585,24 +543,6 @@ fn picked(alloc: Global) -> Result<BitBuffer, VortexError> {
 #[test]
 fn picked_bits(rt: HostRuntime) -> Result<(), VortexError> {
     assert!(rt; are_bits(rt.alloc(), &picked(rt.alloc())?, &[true, false, true])?);
-    Ok(())
-}
-
-#[test]
-fn picked_bits_at_numbers(rt: HostRuntime) -> Result<(), VortexError> {
-    let bits = BitBuffer::from_bools(rt.alloc(), &[false, true, true])?;
-    let small = Selection::at_numbers(PType::U8, &[1, 0, 2, 1, 0, 0, 1, 1, 2, 0]);
-    let want = [
-        true, false, true, true, false, false, true, true, true, false,
-    ];
-    let picked = gather_bits(rt.alloc(), &bits, &small)?;
-    assert!(rt; are_bits(rt.alloc(), &picked, &want)?);
-    let wide = Selection::at_numbers(PType::I32, &[2, 0, 0, 0, 0, 0, 0, 0]);
-    let picked = gather_bits(rt.alloc(), &bits, &wide)?;
-    assert!(rt; are_bits(rt.alloc(), &picked, &[true, false])?);
-    let picked = gather_bits(rt.alloc(), &bits, &Selection::repeated(1, 3))?;
-    assert!(rt; are_bits(rt.alloc(), &picked, &[true, true, true])?);
-    assert!(rt; gather_bits(rt.alloc(), &bits, &Selection::repeated(3, 0))?.is_empty());
     Ok(())
 }
 
