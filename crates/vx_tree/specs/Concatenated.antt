@@ -22,7 +22,7 @@ abbrev pub given_fault : List Tree → Option Refusal
 given_fault [] = Some empty_input
 given_fault (t ∷ ts) =
     or_else (if are_alike (kind_of t) (t ∷ ts) then None else Some differing_dtypes)
-        (or_else (count_fault (joined_len (t ∷ ts))) (columns_fault (trees_from (t ∷ ts))))
+    (or_else (count_fault (joined_len (t ∷ ts))) (columns_fault (trees_from (t ∷ ts))))
 
 -- arrays of a kind, with so many rows together, of these extents: their lists have together more elements than can be counted, or
 -- their texts or byte lists more buffers than can be numbered

@@ -64,5 +64,5 @@ abbrev mutual
 abbrev pub take_fault : Tree → Tree → Option Refusal
 take_fault t indices =
     if is_integers (kind_of indices)
-        then or_else (indices_fault (tree_len t) indices) (take_overflow t (tree_len indices))
-        else Some mismatched_types
+    then or_else (indices_fault (tree_len t) indices) (take_overflow t (tree_len indices))
+    else Some mismatched_types

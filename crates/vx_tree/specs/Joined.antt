@@ -169,8 +169,8 @@ pub record AreLists (t : Tree) : Type 0 where
       → count_in (row_at (offsets_in t) j) + count_in (row_at (sizes_in t) j) ≤ tree_len (elements_in t)
   pub content : (j : ℕ) → j < tree_len t
       → row_at t j ≡ (if is_present (row_at t j)
-          then items (rows_range (row_at (elements_in t)) (count_in (row_at (offsets_in t) j)) (count_in (row_at (sizes_in t) j)))
-          else null)
+      then items (rows_range (row_at (elements_in t)) (count_in (row_at (offsets_in t) j)) (count_in (row_at (sizes_in t) j)))
+      else null)
 
 -- plain numbers that are these counts
 pub record IsCountsOf (ns : List ℕ) (t : Tree) : Type 0 where
@@ -218,8 +218,8 @@ pub record AreValues (is_text : Bool) (t : Tree) : Type 0 where
   pub zeroes : (j : ℕ) → j < tree_len t → is_present (row_at t j) ≡ false → slice_index_or (views_in t) j [] ≡ replicate 16 0
   pub content : (j : ℕ) → j < tree_len t
       → row_at t j ≡ (if is_present (row_at t j)
-          then value_row is_text (view_value (buffers_in t) (slice_index_or (views_in t) j []))
-          else null)
+      then value_row is_text (view_value (buffers_in t) (slice_index_or (views_in t) j []))
+      else null)
 
 -- plain arrays of one kind
 pub record AreJoinable (k : Kind) (ts : List Tree) : Type 0 where
@@ -248,7 +248,7 @@ abbrev mutual
   columns_join_fault no_kinds c ts = None
   columns_join_fault (kind k ks) c ts =
       or_else (or_else (count_fault (joined_len (map (column_of c) ts))) (parts_join_fault k (map (column_of c) ts)))
-          (columns_join_fault ks (suc c) ts)
+      (columns_join_fault ks (suc c) ts)
 
 -- plain arrays of a kind have more rows than can be counted, or their parts have
 abbrev pub join_fault : Kind → List Tree → Option Refusal

@@ -42,7 +42,7 @@ abbrev pub joined_validity : List (Validity × ℕ) → Option Valid
 joined_validity [] = None
 joined_validity (part ∷ parts) =
     Some (if are_all (valid_of part.0) (part ∷ parts) then valid_of part.0
-        else by_array (bools (joined_mask (part ∷ parts)) non_nullable))
+    else by_array (bools (joined_mask (part ∷ parts)) non_nullable))
 
 -- ---- faults
 
@@ -56,4 +56,4 @@ abbrev pub join_fault : List (Validity × ℕ) → Option Refusal
 join_fault [] = None
 join_fault (part ∷ parts) =
     if are_all (valid_of part.0) (part ∷ parts) then None
-        else or_else (types_fault (part ∷ parts)) (count_fault (length (joined_mask (part ∷ parts))))
+    else or_else (types_fault (part ∷ parts)) (count_fault (length (joined_mask (part ∷ parts))))

@@ -43,7 +43,7 @@ is_unchanged _ _ = false
 abbrev pub patch_type_fault : Valid → Tree → Valid → Option Refusal
 patch_type_fault v indices u =
     or_else (if is_plain_integers (kind_of indices) then None else Some mismatched_types)
-        (or_else (valid_type_fault v) (valid_type_fault u))
+    (or_else (valid_type_fault v) (valid_type_fault u))
 
 -- then an array that has not n rows, patches that are not as many as the indices
 abbrev pub patch_len_fault : Valid → ℕ → Tree → Valid → Option Refusal
@@ -57,7 +57,7 @@ patch_rows_fault v n offset indices u =
 abbrev pub patch_fault : Valid → ℕ → ℕ → Tree → Valid → Option Refusal
 patch_fault v n offset indices u =
     if is_unchanged v u then None
-        else (if nullable v && nullable u then patch_rows_fault v n offset indices u else Some nullability_mismatch)
+    else (if nullable v && nullable u then patch_rows_fault v n offset indices u else Some nullability_mismatch)
 
 -- n rows of a validity, overwritten at the positions of the indices by the rows of another
 pub record IsPatched (v : Valid) (n offset : ℕ) (indices : Tree) (u : Valid) (w : Valid) : Type 0 where

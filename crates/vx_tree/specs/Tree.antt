@@ -53,7 +53,7 @@ abbrev mutual
       gcons (gnum 6) (gcons ((coded_list (coded_list coded_ℕ)).code ns) (gcons (code_trees ts) (gcons (code_valid v) (gnum n))))
   code_tree (view_array vs bs k v) =
       gcons (gnum 7) (gcons ((coded_list (coded_list coded_ℕ)).code vs)
-          (gcons ((coded_list (coded_list coded_ℕ)).code bs) (gcons (code_kind k) (code_valid v))))
+      (gcons ((coded_list (coded_list coded_ℕ)).code bs) (gcons (code_kind k) (code_valid v))))
 
   pub code_trees : Trees → Gv
   code_trees no_trees = gnil
@@ -69,48 +69,48 @@ mutual
   pub code_tree-inj : (x y : Tree) → code_tree x ≡ code_tree y → x ≡ y
   code_tree-inj (bools bits v) (bools bits2 v2) p =
       λ i. bools
-          ((coded_list coded_bool).inj bits bits2 (ap (λ g. first (rest g)) p) i)
-          (code_valid-inj v v2 (ap (λ g. rest (rest g)) p) i)
+      ((coded_list coded_bool).inj bits bits2 (ap (λ g. first (rest g)) p) i)
+      (code_valid-inj v v2 (ap (λ g. rest (rest g)) p) i)
   code_tree-inj (primitive t bs v) (primitive t2 bs2 v2) p =
       λ i. primitive
-          (code_type-inj t t2 (ap (λ g. first (rest g)) p) i)
-          ((coded_list coded_ℕ).inj bs bs2 (ap (λ g. first (rest (rest g))) p) i)
-          (code_valid-inj v v2 (ap (λ g. rest (rest (rest g))) p) i)
+      (code_type-inj t t2 (ap (λ g. first (rest g)) p) i)
+      ((coded_list coded_ℕ).inj bs bs2 (ap (λ g. first (rest (rest g))) p) i)
+      (code_valid-inj v v2 (ap (λ g. rest (rest (rest g))) p) i)
   code_tree-inj (constant k r n) (constant k2 r2 n2) p =
       λ i. constant
-          (code_kind-inj k k2 (ap (λ g. first (rest g)) p) i)
-          (code_row-inj r r2 (ap (λ g. first (rest (rest g))) p) i)
-          (ap (λ g. number (rest (rest (rest g)))) p i)
+      (code_kind-inj k k2 (ap (λ g. first (rest g)) p) i)
+      (code_row-inj r r2 (ap (λ g. first (rest (rest g))) p) i)
+      (ap (λ g. number (rest (rest (rest g)))) p i)
   code_tree-inj (dictionary c v f) (dictionary c2 v2 f2) p =
       λ i. dictionary
-          (code_tree-inj c c2 (ap (λ g. first (rest g)) p) i)
-          (code_tree-inj v v2 (ap (λ g. first (rest (rest g))) p) i)
-          (coded_bool.inj f f2 (ap (λ g. rest (rest (rest g))) p) i)
+      (code_tree-inj c c2 (ap (λ g. first (rest g)) p) i)
+      (code_tree-inj v v2 (ap (λ g. first (rest (rest g))) p) i)
+      (coded_bool.inj f f2 (ap (λ g. rest (rest (rest g))) p) i)
   code_tree-inj (fixed_list e k v n) (fixed_list e2 k2 v2 n2) p =
       λ i. fixed_list
-          (code_tree-inj e e2 (ap (λ g. first (rest g)) p) i)
-          (ap (λ g. number (first (rest (rest g)))) p i)
-          (code_valid-inj v v2 (ap (λ g. first (rest (rest (rest g)))) p) i)
-          (ap (λ g. number (rest (rest (rest (rest g))))) p i)
+      (code_tree-inj e e2 (ap (λ g. first (rest g)) p) i)
+      (ap (λ g. number (first (rest (rest g)))) p i)
+      (code_valid-inj v v2 (ap (λ g. first (rest (rest (rest g)))) p) i)
+      (ap (λ g. number (rest (rest (rest (rest g))))) p i)
   code_tree-inj (list_view e o s v f) (list_view e2 o2 s2 v2 f2) p =
       λ i. list_view
-          (code_tree-inj e e2 (ap (λ g. first (rest g)) p) i)
-          (code_tree-inj o o2 (ap (λ g. first (rest (rest g))) p) i)
-          (code_tree-inj s s2 (ap (λ g. first (rest (rest (rest g)))) p) i)
-          (code_valid-inj v v2 (ap (λ g. first (rest (rest (rest (rest g))))) p) i)
-          (coded_bool.inj f f2 (ap (λ g. rest (rest (rest (rest (rest g))))) p) i)
+      (code_tree-inj e e2 (ap (λ g. first (rest g)) p) i)
+      (code_tree-inj o o2 (ap (λ g. first (rest (rest g))) p) i)
+      (code_tree-inj s s2 (ap (λ g. first (rest (rest (rest g)))) p) i)
+      (code_valid-inj v v2 (ap (λ g. first (rest (rest (rest (rest g))))) p) i)
+      (coded_bool.inj f f2 (ap (λ g. rest (rest (rest (rest (rest g))))) p) i)
   code_tree-inj (structure ns ts v n) (structure ns2 ts2 v2 n2) p =
       λ i. structure
-          ((coded_list (coded_list coded_ℕ)).inj ns ns2 (ap (λ g. first (rest g)) p) i)
-          (code_trees-inj ts ts2 (ap (λ g. first (rest (rest g))) p) i)
-          (code_valid-inj v v2 (ap (λ g. first (rest (rest (rest g)))) p) i)
-          (ap (λ g. number (rest (rest (rest (rest g))))) p i)
+      ((coded_list (coded_list coded_ℕ)).inj ns ns2 (ap (λ g. first (rest g)) p) i)
+      (code_trees-inj ts ts2 (ap (λ g. first (rest (rest g))) p) i)
+      (code_valid-inj v v2 (ap (λ g. first (rest (rest (rest g)))) p) i)
+      (ap (λ g. number (rest (rest (rest (rest g))))) p i)
   code_tree-inj (view_array vs bs k v) (view_array vs2 bs2 k2 v2) p =
       λ i. view_array
-          ((coded_list (coded_list coded_ℕ)).inj vs vs2 (ap (λ g. first (rest g)) p) i)
-          ((coded_list (coded_list coded_ℕ)).inj bs bs2 (ap (λ g. first (rest (rest g))) p) i)
-          (code_kind-inj k k2 (ap (λ g. first (rest (rest (rest g)))) p) i)
-          (code_valid-inj v v2 (ap (λ g. rest (rest (rest (rest g)))) p) i)
+      ((coded_list (coded_list coded_ℕ)).inj vs vs2 (ap (λ g. first (rest g)) p) i)
+      ((coded_list (coded_list coded_ℕ)).inj bs bs2 (ap (λ g. first (rest (rest g))) p) i)
+      (code_kind-inj k k2 (ap (λ g. first (rest (rest (rest g)))) p) i)
+      (code_valid-inj v v2 (ap (λ g. rest (rest (rest (rest g)))) p) i)
   code_tree-inj _ _ p = let e = ap tag p in absurd (omega (arith, e))
 
   pub code_trees-inj : (x y : Trees) → code_trees x ≡ code_trees y → x ≡ y

@@ -74,7 +74,7 @@ array_of (by_array t) n = t
 abbrev pub valid_from : List Bool → Valid → Valid
 valid_from bits full =
     if count_by (λ b. b) bits == length bits then full
-        else (if count_by (λ b. b) bits == 0 then all_invalid else by_array (bools bits non_nullable))
+    else (if count_by (λ b. b) bits == 0 then all_invalid else by_array (bools bits non_nullable))
 
 -- no null may stand, or no null stands
 abbrev pub full_valid : Bool → Valid

@@ -112,7 +112,7 @@ taken_rows = pair 2 3 ∷ null ∷ pair 3 4 ∷ []
 abbrev pub some_records : Tree
 some_records =
     structure (codes "a" ∷ codes "b" ∷ []) (tree (small_numbers (1 ∷ 2 ∷ []))
-        (tree (bools (true ∷ false ∷ []) non_nullable) no_trees)) (valid_where (false ∷ true ∷ [])) 2
+    (tree (bools (true ∷ false ∷ []) non_nullable) no_trees)) (valid_where (false ∷ true ∷ [])) 2
 
 abbrev pub record_rows : List Row
 record_rows = null ∷ record_of (field (codes "a") (count 2) (field (codes "b") (boolean false) no_fields)) ∷ []
