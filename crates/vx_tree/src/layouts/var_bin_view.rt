@@ -396,8 +396,9 @@ fn add_views(
     requires { All (λ view. MAX_INLINED_SIZE < view_size view → base + view_block view < 2 ^ 32) views.now }
     ensures { Gives result (λ _. out.new.items ≡ out.old.items ++ map (shifted_view base) views.now) }
 {
+    out.reserve(views.len())?;
     for view in views {
-        out.push(shifted(view, base))?;
+        out.push_reserved(shifted(view, base));
     }
     Ok(())
 }
