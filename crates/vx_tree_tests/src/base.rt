@@ -6,6 +6,7 @@ ghost use Rattle.vx_base.specs.Fields.{kind_count};
 
 mod masks;
 pub(crate) mod scalars;
+mod selections;
 
 use std::alloc::Global;
 use std::rc::Rc;
