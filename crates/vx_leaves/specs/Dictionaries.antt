@@ -1,7 +1,9 @@
 -- Dictionaries: their parts, the fault of these, and which values are referenced.
-use Rattle.std.specs.Prelude.{◌≡◌, ◌<◌, ◌↔◌, ℕ, Bool, true, false, List, codes, Option, Some, length, slice_index, if◌then◌else◌}
+use Rattle.std.specs.Prelude.{◌≡◌, ◌<◌, ◌↔◌, ℕ, Bool, true, false, List, codes, Option, Some, length, map, unsigned_abs, slice_index, if◌then◌else◌}
 use Rattle.vx_base.specs.Bits.{bool_at}
+use Rattle.vx_base.specs.Integers.{numbers}
 use Rattle.vx_base.specs.Kinds.{is_integers}
+use Rattle.vx_base.specs.declared.ptypes.PType.{PType}
 use Rattle.vx_base.specs.Refusals.{Refusal, mismatched_types}
 use Rattle.vx_base.specs.Rows.{position_in}
 use Rattle.vx_tree.specs.Tree.{Tree, dictionary}
@@ -49,6 +51,10 @@ IsNamed ps counts n j = (i : ℕ) × (i < n) × (counts i ≡ true) × (slice_in
 pub record AreNamed (ps : List ℕ) (counts : ℕ → Bool) (n count : ℕ) (r : Bool) (bits : List Bool) : Type 0 where
   pub len : length bits ≡ count
   pub each : (j : ℕ) → j < count → (bool_at bits j ≡ r) ↔ IsNamed ps counts n j
+
+-- the places that the numbers of bytes name, where they are not negative
+abbrev pub number_places : PType → List ℕ → List ℕ
+number_places t bytes = map unsigned_abs (numbers t bytes)
 
 -- ---- printing
 

@@ -1,17 +1,18 @@
 // What a dictionary tells of its values and parts.
 
-ghost use Rattle.std.specs.Prelude.{◌≡◌, ◌≢◌, ◌<◌, ℕ, true, length, IsTrue, if◌then◌else◌, slice_index, slice_set};
+ghost use Rattle.std.specs.Prelude.{◌≡◌, ◌≢◌, ◌<◌, ◌≤◌, ℕ, true, length, IsTrue, if◌then◌else◌, slice_index, slice_set};
 ghost use Rattle.vx_base.specs.Bits.{bool_at};
 ghost use Rattle.vx_base.specs.DTypes.{dtype_meaning};
+ghost use Rattle.vx_base.specs.Integers.{numbers};
 ghost use Rattle.vx_base.specs.Refusals.{Gives};
 ghost use Rattle.vx_tree.specs.Formed.{ReferencesAll};
-ghost use Rattle.vx_tree.specs.Meaning.{kind_of};
-ghost use Rattle.vx_leaves.specs.Dictionaries.{codes_in, values_in, referenced_flag, MarksReferenced, AreNamed};
+ghost use Rattle.vx_tree.specs.Meaning.{kind_of, tree_len};
+ghost use Rattle.vx_leaves.specs.Dictionaries.{codes_in, values_in, referenced_flag, MarksReferenced, AreNamed, number_places};
 
 use crate::dict_array::DictArray;
 use std::alloc::Global;
-use vx_base::{BitBuffer, DType, Mask, VortexError};
-use vx_tree::{ArrayRef, TypedArray};
+use vx_base::{BitBuffer, DType, Mask, NativePType, PType, VortexError, call_native, int_at};
+use vx_tree::{ArrayRef, Layout, TypedArray};
 
 /// The parts of a dictionary.
 #[derive(Drop)]
@@ -71,11 +72,10 @@ impl DictArrayExt for DictArray {
         alloc: Global,
         referenced: bool,
     ) -> Result<BitBuffer, VortexError> {
-        let parts = self.parts();
-        let positions = parts.codes.positions(alloc, parts.values.len())?;
-        let validity = parts.codes.validity(alloc)?;
-        let mask = validity.execute_mask(alloc, parts.codes.len())?;
-        marked_codes(alloc, &positions, &mask, referenced, parts.values.len())
+        let count = self.parts().values.len();
+        let mut marks = vec![in alloc; !referenced; count]?;
+        mark_references(alloc, self, referenced, &mut marks)?;
+        BitBuffer::from_bools(alloc, &marks)
     }
 }
 
@@ -90,23 +90,99 @@ impl DictOwnedExt for DictArray {
     }
 }
 
-// Which of `count` places the codes name, save those at which the mask is false.
-fn marked_codes(
+// Marks the values of a dictionary that some valid code names: codes that are plain numbers are
+// read where they lie.
+fn mark_references(
     alloc: Global,
-    codes: &[usize],
-    mask: &Mask,
+    dictionary: &DictArray,
     referenced: bool,
-    count: usize,
-) -> Result<BitBuffer, VortexError>
-    requires same_len { length mask.now ≡ length codes.now }
-    requires within { (i : ℕ) → i < length codes.now → bool_at mask.now i ≡ true
-        → slice_index codes.now i < count }
-    ensures { Gives result (λ b.
-        AreNamed codes.now (bool_at mask.now) (length codes.now) count referenced b.bits) }
+    out: &mut [bool],
+) -> Result<(), VortexError>
+    requires room { length out.old ≡ tree_len (values_in dictionary.now) }
+    requires none { (j : ℕ) → j < length out.old → bool_at out.old j ≢ referenced }
+    ensures { Gives result (λ _. MarksReferenced dictionary.now referenced out.new) }
 {
-    let mut marks = vec![in alloc; !referenced; count]?;
-    mark_codes(codes, mask, referenced, &mut marks);
-    BitBuffer::from_bools(alloc, &marks)
+    let codes = dictionary.parts().codes;
+    let validity = codes.validity(alloc)?;
+    let mask = validity.execute_mask(alloc, codes.len())?;
+    match codes.layout() {
+        Layout::Primitive { ptype, bytes, .. } => {
+            mark_numbers(*ptype, bytes.as_slice(), &mask, referenced, out);
+        }
+        _ => {
+            let positions = codes.positions(alloc, out.len())?;
+            mark_codes(&positions, &mask, referenced, out);
+        }
+    }
+    Ok(())
+}
+
+// Marks the places that the numbers of these bytes name, save those at which the mask is false.
+fn mark_numbers(ptype: PType, bytes: &[u8], mask: &Mask, referenced: bool, out: &mut [bool])
+    requires same_len { length mask.now ≡ length (numbers ptype bytes.now) }
+    requires within { (i : ℕ) → i < length mask.now → bool_at mask.now i ≡ true
+        → slice_index (number_places ptype bytes.now) i < length out.old }
+    requires none { (j : ℕ) → j < length out.old → bool_at out.old j ≢ referenced }
+    ensures { AreNamed (number_places ptype bytes.now) (bool_at mask.now) (length mask.now)
+        (length out.old) referenced out.new }
+{
+    call_native!(ptype, mark_native(bytes, mask, referenced, out))
+}
+
+// The same for numbers of one type.
+fn mark_native<T: NativePType>(bytes: &[u8], mask: &Mask, referenced: bool, out: &mut [bool])
+    requires same_len { length mask.now ≡ length (numbers T.PTYPE bytes.now) }
+    requires within { (i : ℕ) → i < length mask.now → bool_at mask.now i ≡ true
+        → slice_index (number_places T.PTYPE bytes.now) i < length out.old }
+    requires none { (j : ℕ) → j < length out.old → bool_at out.old j ≢ referenced }
+    ensures { AreNamed (number_places T.PTYPE bytes.now) (bool_at mask.now) (length mask.now)
+        (length out.old) referenced out.new }
+{
+    if mask.all_true() {
+        mark_all::<T>(bytes, mask.len(), referenced, out);
+        return;
+    }
+    mark_valid::<T>(bytes, mask, referenced, out);
+}
+
+// Marks the places that the first `len` numbers name.
+#[inline(never)]
+fn mark_all<T: NativePType>(bytes: &[u8], len: usize, referenced: bool, out: &mut [bool])
+    requires here { len ≤ length (numbers T.PTYPE bytes.now) }
+    requires within { (i : ℕ) → i < len
+        → slice_index (number_places T.PTYPE bytes.now) i < length out.old }
+    requires none { (j : ℕ) → j < length out.old → bool_at out.old j ≢ referenced }
+    ensures { AreNamed (number_places T.PTYPE bytes.now) (λ i. true) len (length out.old)
+        referenced out.new }
+{
+    for row in 0..len {
+        out[place_at(bytes, T::PTYPE, row)] = referenced;
+    }
+}
+
+// The same, the mask read for each.
+#[inline(never)]
+fn mark_valid<T: NativePType>(bytes: &[u8], mask: &Mask, referenced: bool, out: &mut [bool])
+    requires same_len { length mask.now ≡ length (numbers T.PTYPE bytes.now) }
+    requires within { (i : ℕ) → i < length mask.now → bool_at mask.now i ≡ true
+        → slice_index (number_places T.PTYPE bytes.now) i < length out.old }
+    requires none { (j : ℕ) → j < length out.old → bool_at out.old j ≢ referenced }
+    ensures { AreNamed (number_places T.PTYPE bytes.now) (bool_at mask.now) (length mask.now)
+        (length out.old) referenced out.new }
+{
+    for row in 0..mask.len() {
+        let place = place_at(bytes, T::PTYPE, row);
+        mark_where(mask.value(row), place, referenced, out);
+    }
+}
+
+// The place that the number of a row names: its size, which is the number where it names one.
+#[inline]
+fn place_at(bytes: &[u8], ptype: PType, row: usize) -> usize
+    requires { row < length (numbers ptype bytes.now) }
+    ensures { result ≡ slice_index (number_places ptype bytes.now) row }
+{
+    int_at(bytes, ptype, row).unsigned_abs() as usize
 }
 
 // Marks the places that the codes name, save those at which the mask is false.
