@@ -1,11 +1,13 @@
 -- Booleans that are packed eight to a byte.
-use Rattle.std.proofs.Common.{ℕ, zero, suc, ◌+◌, ◌*◌, ◌/◌, ◌%◌, ◌^◌, ◌<◌, ◌≤◌, ◌≡◌, ◌≢◌, ◌⊎◌, ◌-◌, Bool, true, false, cond, eqb, List, [], ◌∷◌, length, get_or, set, take, drop, refl, sym, ◌∙◌, ap, zero-add, inl, inr, arith}
+use Rattle.std.proofs.Common.{ℕ, zero, suc, ◌+◌, ◌*◌, ◌/◌, ◌%◌, ◌^◌, ◌<◌, ◌≤◌, ◌≡◌, ◌≢◌, ◌⊎◌, ◌-◌, Bool, true, false, cond, eqb, List, [], ◌∷◌, ◌++◌, length, map, get_or, set, take, drop, refl, sym, ◌∙◌, ap, zero-add, inl, inr, arith}
 use Rattle.std.specs.Int.{bit_at, w64, from_le_bytes}
 use Rattle.std.specs.Prelude.{bit_and, bit_or, ◌&&◌, count_by, count_ones}
 use lib.Count.{ones_cat}
 use Rattle.std.proofs.lemmas.Bool.{cases_lt}
 use Rattle.std.proofs.lemmas.Simd.{bit_mask_l}
-use Rattle.std.proofs.lemmas.List.{get_or-take, take_all, length-take-le, get_or_default, get_or-set_same, get_or-set_other, same_lists}
+use Rattle.std.proofs.lemmas.List.{get_or-take, get_or-drop, get_or-map, get_or_append_left, get_or-append_right, take_all, length-take-le, length-drop, length-append, length-map, get_or_default, get_or-set_same, get_or-set_other, same_lists}
+use Rattle.std.proofs.lemmas.Slice.Zip.{length-zip, get_or-zip}
+use Rattle.std.specs.List.{zip}
 use lib.Lanes.{mask_l}
 use mir.Val.{bool_byte}
 use Rattle.vx_base.specs.Bits.{bit_of, byte_from, unpacked, bool_at}
@@ -66,19 +68,57 @@ byte_put out f j byte within each before k h = elim (cases_lt k (8 * j)) [
       rw (place, get_or-set_same) (each (k % 8) low ∙ ap f same)
 ]
 
--- a bit of a byte
-pub bit_of_byte : (bs : List ℕ) (j i : ℕ) → i < 8 → bit_of bs (8 * j + i) ≡ eqb (bit_at (get_or bs j 0) i) 1
-bit_of_byte bs j i h =
-    let place : (8 * j + i) / 8 ≡ j = omega arith in
-    let bit : (8 * j + i) % 8 ≡ i = omega arith in
-    rw (place, bit)
+-- the bytes of `&` of two runs that begin a byte: how many there are, and each of them
+abbrev ands : List ℕ → List ℕ → List ℕ
+ands ls rs = map (λ (p : ℕ × ℕ). bit_and p.0 p.1) (zip ls rs)
 
--- one byte more of `&` of two runs that begin a byte, and of any two
-pub and_put : (ls rs out : List ℕ) (j : ℕ) → j < length out → ((k : ℕ) → k < 8 * j → bit_of out k ≡ (bit_of ls (0 + k) && bit_of rs (0 + k)))
-    → (k : ℕ) → k < 8 * (j + 1) → bit_of (set out j (bit_and (get_or ls j 0) (get_or rs j 0))) k ≡ (bit_of ls (0 + k) && bit_of rs (0 + k))
-and_put ls rs out j within before = byte_put out (λ k. bit_of ls (0 + k) && bit_of rs (0 + k)) j (bit_and (get_or ls j 0) (get_or rs j 0)) within
-    (λ i h. bit_of-and (get_or ls j 0) (get_or rs j 0) i ∙ rw (zero-add, bit_of_byte ls j i h, bit_of_byte rs j i h) refl) before
+length-ands : (ls rs : List ℕ) (n : ℕ) → length ls ≡ n → length rs ≡ n → length (ands ls rs) ≡ n
+length-ands ls rs n h g = omega (arith, length-map (zip ls rs) (λ (p : ℕ × ℕ). bit_and p.0 p.1), length-zip ls rs, h, g)
 
+get-ands : (ls rs : List ℕ) (i n : ℕ) → i < n → length ls ≡ n → length rs ≡ n → get_or (ands ls rs) i 0 ≡ bit_and (get_or ls i 0) (get_or rs i 0)
+get-ands ls rs i n l h g = get_or-map (λ (p : ℕ × ℕ). bit_and p.0 p.1) (zip ls rs) i (0, 0) 0 (omega (arith, length-zip ls rs, h, g, l))
+    ∙ ap (λ (p : ℕ × ℕ). bit_and p.0 p.1) (get_or-zip ls rs i (0, 0) (omega (arith, h, l)) (omega (arith, g, l)))
+
+-- the same where the first bytes are made before the others
+module _ (ls rs : List ℕ) (a n : ℕ) (ordered : a ≤ n) (left : n ≤ length ls) (right : n ≤ length rs) where
+  long-start : (xs : List ℕ) → n ≤ length xs → length (take a xs) ≡ a
+  long-start xs h = length-take-le a xs (omega (arith, h, ordered))
+
+  long-rest : (xs : List ℕ) → n ≤ length xs → length (take (n - a) (drop a xs)) ≡ n - a
+  long-rest xs h = length-take-le (n - a) (drop a xs) (omega (arith, h, ordered, length-drop a xs))
+
+  abbrev start : List ℕ
+  start = ands (take a ls) (take a rs)
+
+  abbrev rest : List ℕ
+  rest = ands (take (n - a) (drop a ls)) (take (n - a) (drop a rs))
+
+  length-start : length start ≡ a
+  length-start = length-ands (take a ls) (take a rs) a (long-start ls left) (long-start rs right)
+
+  pub and_parts-len : length (start ++ rest) ≡ n
+  and_parts-len = omega (arith, ordered, length-append start rest, length-start, length-ands (take (n - a) (drop a ls)) (take (n - a) (drop a rs)) (n - a) (long-rest ls left) (long-rest rs right))
+
+  and_byte : (j : ℕ) → j < n → get_or (start ++ rest) j 0 ≡ bit_and (get_or ls j 0) (get_or rs j 0)
+  and_byte j l = elim (cases_lt j a) [
+    | inl low ↦
+        get_or_append_left start rest 0 j (omega (arith, length-start, low)) ∙ get-ands (take a ls) (take a rs) j a low (long-start ls left) (long-start rs right)
+        ∙ rw (get_or-take a ls j 0 low, get_or-take a rs j 0 low) refl
+    | inr high ↦
+        let within : j - a < n - a = omega (arith, high, l) in
+        let place : a + (j - a) ≡ j = omega (arith, high) in
+        get_or-append_right start rest a j 0 length-start high
+        ∙ get-ands (take (n - a) (drop a ls)) (take (n - a) (drop a rs)) (j - a) (n - a) within (long-rest ls left) (long-rest rs right)
+        ∙ rw (get_or-take (n - a) (drop a ls) (j - a) 0 within, get_or-take (n - a) (drop a rs) (j - a) 0 within, get_or-drop a ls (j - a) 0, get_or-drop a rs (j - a) 0, place) refl
+  ]
+
+  pub and_parts : (k : ℕ) → k < 8 * n → bit_of (start ++ rest) k ≡ (bit_of ls (0 + k) && bit_of rs (0 + k))
+  and_parts k l =
+      let byte : k / 8 < n = omega (arith, l) in
+      ap (λ (b : ℕ). eqb (bit_at b (k % 8)) 1) (and_byte (k / 8) byte) ∙ bit_of-and (get_or ls (k / 8) 0) (get_or rs (k / 8) 0) (k % 8)
+      ∙ rw zero-add refl
+
+-- one byte more of `&` of any two
 pub and_put_joined : (ls rs out : List ℕ) (from at j : ℕ) → j < length out → ((k : ℕ) → k < 8 * j → bit_of out k ≡ (bit_of ls (from + k) && bit_of rs (at + k)))
     → (k : ℕ) → k < 8 * (j + 1) → bit_of (set out j (bit_and (byte_from ls (from + 8 * j)) (byte_from rs (at + 8 * j)))) k ≡ (bit_of ls (from + k) && bit_of rs (at + k))
 and_put_joined ls rs out from at j within before = byte_put out (λ k. bit_of ls (from + k) && bit_of rs (at + k)) j (bit_and (byte_from ls (from + 8 * j)) (byte_from rs (at + 8 * j))) within

@@ -2,10 +2,11 @@
 #![tactic(auto, using(crate::proofs::PackedBits::length_unpacked, crate::proofs::PackedBits::unpacked_none, crate::proofs::PackedBits::get_unpacked))]
 
 ghost use Rattle.std.specs.Prelude.{ℕ, ◌&&◌, ◌≡◌, ◌≤◌, ◌<◌, ◌+◌, ◌*◌, ◌/◌, ◌^◌, ◌↔◌, Bool, [], length, take, slice_range, count_by};
-ghost use Rattle.std.specs.Prelude.{slice_index, IsTrue, ◌%◌, true, false, replicate, ◌-◌, ◌==◌, IfOk};
+ghost use Rattle.std.specs.Prelude.{slice_index, IsTrue, ◌%◌, true, false, replicate, ◌-◌, ◌==◌, IfOk, ◌++◌, map, bit_and};
 ghost use Rattle.std.specs.Int.{bit_at};
 ghost use Rattle.vx_base.specs.Refusals.{Gives};
 ghost use Rattle.std.specs.Bool.{beq};
+ghost use Rattle.std.specs.List.{zip};
 ghost use Rattle.std.specs.Cmp.{bool_eq_equiv, on_equiv, partial_equiv_from_equiv};
 ghost use Rattle.std.specs.Cmp.Lexicographic.{pointwise, lists_equiv};
 ghost use Rattle.std.specs.Ordering.{on};
@@ -219,35 +220,57 @@ fn same_whole(left: &[u8], right: &[u8], count: usize) -> bool
     left[..count] == right[..count]
 }
 
-// Writes the bits that are set in both, of two runs that begin a byte.
-fn and_whole(left: &[u8], right: &[u8], out: &mut [u8])
-    requires left { length out.old ≤ length left.now }
-    requires right { length out.old ≤ length right.now }
-    ensures len { length out.new ≡ length out.old }
-    ensures bits { (k : ℕ) → k < 8 * length out.old → bit_of out.new k ≡ (bit_of left.now (0 + k) && bit_of right.now (0 + k)) }
+// Adds the bytes of the bits that are set in both, of two runs that begin a byte.
+fn extend_both(bytes: &mut Vec<u8>, left: &[u8], right: &[u8]) -> Result<(), VortexError>
+    ensures { Gives result (λ u. bytes.new.items
+        ≡ bytes.old.items ++ map (λ p. bit_and p.0 p.1) (zip left.now right.now)) }
 {
-    for (j, byte) in out.iter_mut().enumerate() {
-        *byte = left[j] & right[j];
-    }
+    let pairs = left.iter().zip(right.iter());
+    Ok(bytes.extend(pairs.map(|(l, r)| *l & *r))?)
 }
 
-// Writes the bits that are set in both, of the runs from these places on.
-fn and_bytes(left: &[u8], from: usize, right: &[u8], at: usize, out: &mut [u8])
-    requires left { from ≡ 0 → length out.old ≤ length left.now }
-    requires right { at ≡ 0 → length out.old ≤ length right.now }
-    requires from { from + 8 * length out.old < 2 ^ 64 + 8 }
-    requires at { at + 8 * length out.old < 2 ^ 64 + 8 }
-    ensures len { length out.new ≡ length out.old }
-    ensures bits { (k : ℕ) → k < 8 * length out.old → bit_of out.new k ≡ (bit_of left.now (from + k) && bit_of right.now (at + k)) }
+// The bits that are set in both, of two runs that begin a byte. Each byte is written once, and the
+// first few by themselves, so that those that are written many at a time lie where that is fast.
+fn and_whole(alloc: Global, left: &[u8], right: &[u8], count: usize) -> Result<Vec<u8>, VortexError>
+    requires left { count ≤ length left.now }
+    requires right { count ≤ length right.now }
+    ensures len { IfOk result (λ v. length v.items ≡ count) }
+    ensures bits { Gives result (λ v. (k : ℕ) → k < 8 * count
+        → bit_of v.items k ≡ (bit_of left.now (0 + k) && bit_of right.now (0 + k))) }
+{
+    let first = count.min(16);
+    let mut bytes = Vec::with_capacity(alloc, count)?;
+    extend_both(&mut bytes, &left[..first], &right[..first])?;
+    extend_both(&mut bytes, &left[first..count], &right[first..count])?;
+    Ok(bytes)
+}
+
+// The bits that are set in both, of the runs from these places on, in `count` bytes.
+fn and_bytes(
+    alloc: Global,
+    left: &[u8],
+    from: usize,
+    right: &[u8],
+    at: usize,
+    count: usize,
+) -> Result<Vec<u8>, VortexError>
+    requires left { from ≡ 0 → count ≤ length left.now }
+    requires right { at ≡ 0 → count ≤ length right.now }
+    requires from { from + 8 * count < 2 ^ 64 + 8 }
+    requires at { at + 8 * count < 2 ^ 64 + 8 }
+    ensures len { IfOk result (λ v. length v.items ≡ count) }
+    ensures bits { Gives result (λ v. (k : ℕ) → k < 8 * count
+        → bit_of v.items k ≡ (bit_of left.now (from + k) && bit_of right.now (at + k))) }
 {
     if from == 0 && at == 0 {
-        and_whole(left, right, out);
-        return;
+        return and_whole(alloc, left, right, count);
     }
-    and_joined(left, from, right, at, out);
+    let mut bytes = vec![in alloc; 0u8; count]?;
+    and_joined(left, from, right, at, &mut bytes);
+    Ok(bytes)
 }
 
-// The same a byte at a time, each joined from two.
+// Writes them a byte at a time, each joined from two.
 fn and_joined(left: &[u8], from: usize, right: &[u8], at: usize, out: &mut [u8])
     requires from { from + 8 * length out.old < 2 ^ 64 + 8 }
     requires at { at + 8 * length out.old < 2 ^ 64 + 8 }
@@ -412,8 +435,8 @@ impl BitBuffer {
     {
         let mine = self.bytes.as_slice();
         let theirs = other.bytes.as_slice();
-        let mut bytes = vec![in alloc; 0u8; self.len.div_ceil(8)]?;
-        and_bytes(mine, self.offset, theirs, other.offset, &mut bytes);
+        let count = self.len.div_ceil(8);
+        let bytes = and_bytes(alloc, mine, self.offset, theirs, other.offset, count)?;
         Ok(BitBuffer::from_parts(ByteBuffer::from_vec(alloc, bytes)?, 0, self.len))
     }
 

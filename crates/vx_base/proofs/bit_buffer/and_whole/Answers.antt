@@ -1,6 +1,13 @@
 use Rattle.std.proofs.Common.{arith}
-use Rattle.vx_base.proofs.Packing.{and_put}
+use Rattle.vx_base.proofs.Packing.{and_parts, and_parts-len}
 use Rattle.vx_base.proofs.bit_buffer.and_whole.Goals as goal
 
-pub loop-j-preserved : goal.loop-j-preserved
-loop-j-preserved c = and_put c.args.left.now c.args.right.now c.loop-j.out c.loop-j.j (omega arith) c.loop-j.invariant
+pub returns-clause-len : goal.returns-clause-len
+returns-clause-len c =
+    rw (c.in_ok-extend_both-2.ensures, c.in_ok-extend_both.ensures, c.in_ok-bytes.ensures.items)
+    (and_parts-len c.args.left.now c.args.right.now c.min-first.result c.args.count (omega (arith, c.min-first.ensures)) c.requires.left c.requires.right)
+
+pub returns-clause-bits : goal.returns-clause-bits
+returns-clause-bits c =
+    rw (c.in_ok-extend_both-2.ensures, c.in_ok-extend_both.ensures, c.in_ok-bytes.ensures.items)
+    (and_parts c.args.left.now c.args.right.now c.min-first.result c.args.count (omega (arith, c.min-first.ensures)) c.requires.left c.requires.right)

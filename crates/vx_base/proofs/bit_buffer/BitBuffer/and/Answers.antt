@@ -1,6 +1,4 @@
 use Rattle.std.proofs.Common.{◌≡◌, length, ap, arith}
-use Rattle.std.specs.Vec.{with_items}
-use Rattle.std.proofs.lemmas.List.{with_items_is}
 use Rattle.vx_base.specs.Bits.{bits_of}
 use Rattle.vx_base.proofs.PackedBits.{length_unpacked}
 use Rattle.vx_base.proofs.PackedBytes.{and_all}
@@ -10,8 +8,6 @@ pub returns-clause-bits : goal.returns-clause-bits
 returns-clause-bits c =
     let s = c.self.inside in
     let o = c.other.inside in
-    let out = c.and_bytes.new.out in
     let same : s.len ≡ o.len = omega (arith, ap length (ap bits_of c.self.view_is), ap length (ap bits_of c.other.view_is), length_unpacked s.bytes s.offset s.len, length_unpacked o.bytes o.offset o.len) in
-    let items : (with_items c.in_ok-bytes.bytes out).items ≡ out = with_items_is c.in_ok-bytes.bytes out (omega (arith, c.deref_mut.ensures.len)) in
-    let all = and_all c.as_slice-mine.result.now c.as_slice-theirs.result.now out s.offset o.offset s.len (λ k h. c.and_bytes.ensures.bits k (omega (arith, c.in_ok-bytes.ensures.len, c.deref_mut.ensures.len))) in
-    rw (ap bits_of c.from_parts.ensures, c.in_ok-from_vec.ensures, items, ← (ap bits_of c.self.view_is), ← (ap bits_of c.other.view_is), ← c.as_slice-mine.ensures.value, ← c.as_slice-theirs.ensures.value, ← same) all
+    let all = and_all c.as_slice-mine.result.now c.as_slice-theirs.result.now c.in_ok-bytes.bytes.items s.offset o.offset s.len (λ k h. c.in_ok-bytes.ensures.bits k (omega arith)) in
+    rw (ap bits_of c.from_parts.ensures, c.in_ok-from_vec.ensures, ← (ap bits_of c.self.view_is), ← (ap bits_of c.other.view_is), ← c.as_slice-mine.ensures.value, ← c.as_slice-theirs.ensures.value, ← same) all
