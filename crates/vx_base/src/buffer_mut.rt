@@ -1,7 +1,7 @@
 // A list of numbers of one type that grows.
 
-ghost use Rattle.std.specs.Prelude.{◌≡◌, ◌≤◌, ◌<◌, ◌*◌, ◌++◌, ◌∷◌, [], length, map, OnErr};
-ghost use Rattle.vx_base.specs.Integers.{numbers};
+ghost use Rattle.std.specs.Prelude.{◌≡◌, ◌≤◌, ◌<◌, ◌*◌, ◌++◌, ◌∷◌, [], length, map, IfOk, OnErr};
+ghost use Rattle.vx_base.specs.Integers.{byte_width, numbers};
 ghost use Rattle.vx_base.specs.Refusals.{Gives};
 ghost use Rattle.std.specs.Borrow.{sem};
 
@@ -88,5 +88,14 @@ impl<T: NativePType> BufferMut<T> {
     {
         let items = numbers_of(alloc, bytes.as_slice())?;
         Ok(BufferMut { items })
+    }
+
+    /// The bytes of the numbers, one number after another, the least significant byte of each
+    /// first. Fails only for want of memory.
+    pub fn into_byte_buffer(self, alloc: Global) -> Result<ByteBuffer, VortexError>
+        ensures ok { Gives result (λ b. numbers T.PTYPE b ≡ map T.value self) }
+        ensures len { IfOk result (λ b. length b ≡ length self * byte_width T.PTYPE) }
+    {
+        self.freeze()?.into_byte_buffer(alloc)
     }
 }

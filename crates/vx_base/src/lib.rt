@@ -35,7 +35,7 @@ pub use crate::buffer::Buffer;
 pub use crate::buffer_mut::BufferMut;
 pub use crate::byte_buffer::{ByteBuffer, share_buffers, slice_numbers};
 pub use crate::counts::{read_counts, write_counts};
-pub use crate::dtypes::DType;
+pub use crate::dtypes::{DType, equal_where_same_kind};
 pub use crate::errors::VortexError;
 pub use crate::field_names::{FieldName, FieldNames};
 pub use crate::gather::{gather_bits, gather_items, gather_numbers};

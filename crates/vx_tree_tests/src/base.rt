@@ -316,6 +316,16 @@ fn bytes_from_a_buffer(rt: HostRuntime) -> Result<(), VortexError> {
 }
 
 #[test]
+fn bytes_from_pushed_items(rt: HostRuntime) -> Result<(), VortexError> {
+    let mut items = BufferMut::with_capacity(rt.alloc(), 1)?;
+    items.push(-2i16)?;
+    items.push(258)?;
+    let bytes = items.into_byte_buffer(rt.alloc())?;
+    assert!(rt; bytes.as_slice() == [254, 255, 2, 1].as_slice());
+    Ok(())
+}
+
+#[test]
 fn pushed_items(rt: HostRuntime) -> Result<(), VortexError> {
     let mut items = BufferMut::with_capacity(rt.alloc(), 1)?;
     items.push(4u8)?;
