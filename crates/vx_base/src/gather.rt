@@ -14,10 +14,13 @@ use crate::byte_buffer::ByteBuffer;
 use crate::call_native;
 use crate::errors::VortexError;
 use crate::native::NativePType;
-use crate::places::{Listed, Numbered, Places, Same};
+use crate::places::{Listed, Numbered, Places};
 use crate::ptypes::PType;
 use crate::selection::{Picks, Selection};
 use std::alloc::Global;
+
+// How many numbers a block has.
+const BLOCK: usize = 128;
 
 /// The bytes of the numbers that are picked, in their order. Asks that each position has a number.
 /// Fails only for want of memory.
@@ -107,7 +110,7 @@ fn put_numbers_at<const WIDTH: usize, P: Places>(bytes: &[u8], places: P, out: &
     }
 }
 
-// One number, `len` times.
+// One number, `len` times: a block of them is made once, and written as often as it goes in.
 fn bytes_repeated<const WIDTH: usize>(
     alloc: Global,
     bytes: &[u8],
@@ -121,23 +124,15 @@ fn bytes_repeated<const WIDTH: usize>(
     if len == 0 {
         return Ok(Vec::new(alloc));
     }
-    let mut picked = vec![in alloc; 0u8; len.saturating_mul(WIDTH)]?;
-    fill_numbers::<WIDTH>(bytes, position, len, &mut picked);
-    Ok(picked)
-}
-
-// Writes the number at a position `len` times.
-#[inline(never)]
-fn fill_numbers<const WIDTH: usize>(bytes: &[u8], position: usize, len: usize, out: &mut [u8])
-    requires within { position * WIDTH + WIDTH ≤ length bytes.now }
-    requires room { length out.old ≡ len * WIDTH }
-    ensures { out.new ≡ flat_map (bytes_of_position WIDTH bytes.now) (replicate len position) }
-{
     let mut number = [0u8; WIDTH];
     number.copy_from_slice(&bytes[position * WIDTH..position * WIDTH + WIDTH]);
-    for i in 0..len {
-        out[i * WIDTH..i * WIDTH + WIDTH].copy_from_slice(&number);
+    let block = [number; BLOCK];
+    let mut picked = Vec::with_capacity(alloc, len.saturating_mul(WIDTH))?;
+    for _ in 0..len / BLOCK {
+        picked.extend_from_slice(block.as_flattened())?;
     }
+    picked.extend_from_slice(block[..len % BLOCK].as_flattened())?;
+    Ok(picked)
 }
 
 // One run at a time.
@@ -329,10 +324,7 @@ pub fn gather_items<T: Copy>(
         Picks::Numbers(ptype, numbers) => {
             call_native!(*ptype, items_at_numbers::<T>(alloc, items, numbers))?
         }
-        Picks::Repeated(position, len) => {
-            let (position, len) = (*position, *len);
-            items_at::<T, Same>(alloc, items, Same { position, len })?
-        }
+        Picks::Repeated(position, len) => items_repeated(alloc, items, *position, *len)?,
         Picks::Runs(runs) => items_of_runs(alloc, items, runs, selection.len())?,
     };
     Buffer::from_vec(alloc, picked)
@@ -379,6 +371,24 @@ fn put_items_at<T: Copy, P: Places>(items: &[T], places: P, out: &mut [T])
     for i in 0..places.count() {
         out[i] = items[places.at(i)];
     }
+}
+
+// One item, `len` times.
+fn items_repeated<T: Copy>(
+    alloc: Global,
+    items: &[T],
+    position: usize,
+    len: usize,
+) -> Result<Vec<T>, VortexError>
+    requires { All (λ k. k < length items.now) (replicate len position) }
+    ensures { Gives result (λ picked. (d : T) → picked.items ≡ map (item_of_position d items.now) (replicate len position)) }
+{
+    if len == 0 {
+        return Ok(Vec::new(alloc));
+    }
+    let mut picked = Vec::with_capacity(alloc, len)?;
+    picked.resize(len, items[position])?;
+    Ok(picked)
 }
 
 // One run at a time.
