@@ -16,6 +16,7 @@ pub mod Refused
 pub mod Repeated
 pub mod FirstFaults
 pub mod Runs
+pub mod SizedLists
 pub mod TrueRuns
 pub mod StructKinds
 pub mod ValueFits

@@ -5,7 +5,7 @@ ghost use Rattle.vx_base.specs.Refusals.{Gives};
 ghost use Rattle.std.specs.List.{All, flat_map};
 ghost use Rattle.vx_base.specs.Bits.{unpacked};
 ghost use Rattle.vx_base.specs.Integers.{byte_width, numbers};
-ghost use Rattle.vx_base.specs.Selections.{run_positions, number_of_position, bit_of_position, item_of_position, bytes_of_position};
+ghost use Rattle.vx_base.specs.Selections.{run_positions, list_positions, number_of_position, bit_of_position, item_of_position, bytes_of_position};
 
 use crate::bit_buffer::{BitBuffer, byte_of};
 use crate::bit_buffer_mut::{BitBufferMut, put_bit};
@@ -53,15 +53,23 @@ fn gather_width<const WIDTH: usize>(
     requires within { All (λ k. k * WIDTH + WIDTH ≤ length bytes.now) selection.now }
     ensures { Gives result (λ picked. picked.items ≡ flat_map (bytes_of_position WIDTH bytes.now) selection.now) }
 {
+    let capacity = selection.len().saturating_mul(WIDTH);
     match selection.picks() {
         Picks::Positions(positions) => bytes_at::<WIDTH, Listed>(alloc, bytes, Listed(positions)),
         Picks::Numbers(ptype, numbers) => {
             call_native!(*ptype, bytes_at_numbers::<WIDTH>(alloc, bytes, numbers))
         }
         Picks::Repeated(position, len) => bytes_repeated::<WIDTH>(alloc, bytes, *position, *len),
-        Picks::Runs(runs) => {
-            let capacity = selection.len().saturating_mul(WIDTH);
-            bytes_of_runs::<WIDTH>(alloc, bytes, runs, capacity)
+        Picks::Runs(runs) => bytes_of_runs::<WIDTH>(alloc, bytes, runs, capacity),
+        Picks::OwnRuns(runs) => bytes_of_runs::<WIDTH>(alloc, bytes, runs, capacity),
+        Picks::ListsAt(lists, size) => {
+            bytes_of_lists::<WIDTH, Listed>(alloc, bytes, Listed(lists), *size)
+        }
+        Picks::ListsAtNumbers(ptype, lists, size) => {
+            call_native!(
+                *ptype,
+                bytes_of_lists_at_numbers::<WIDTH>(alloc, bytes, lists, *size)
+            )
         }
     }
 }
@@ -86,7 +94,7 @@ fn bytes_at<const WIDTH: usize, P: Places>(
     bytes: &[u8],
     places: P,
 ) -> Result<Vec<u8>, VortexError>
-    requires width { WIDTH ≤ 8 }
+    requires width { WIDTH ≤ 32 }
     requires within { All (λ k. k * WIDTH + WIDTH ≤ length bytes.now) (P.positions places) }
     ensures { Gives result (λ picked. picked.items ≡ flat_map (bytes_of_position WIDTH bytes.now) (P.positions places)) }
 {
@@ -171,6 +179,77 @@ fn extend_run<const WIDTH: usize>(
     Ok(())
 }
 
+// The same of lists of `size` numbers each, where the lists are numbers in bytes.
+fn bytes_of_lists_at_numbers<const WIDTH: usize, T: NativePType>(
+    alloc: Global,
+    bytes: &[u8],
+    places: &[u8],
+    size: usize,
+) -> Result<Vec<u8>, VortexError>
+    requires { All (λ k. k * WIDTH + WIDTH ≤ length bytes.now) (flat_map (list_positions size) (map unsigned_abs (numbers T.PTYPE places.now))) }
+    ensures { Gives result (λ picked. picked.items
+        ≡ flat_map (bytes_of_position WIDTH bytes.now) (flat_map (list_positions size) (map unsigned_abs (numbers T.PTYPE places.now)))) }
+{
+    bytes_of_lists::<WIDTH, Numbered<T>>(alloc, bytes, Numbered::new(places), size)
+}
+
+// One list at a time: the numbers of a list are one number of as many bytes.
+fn bytes_of_lists<const WIDTH: usize, P: Places>(
+    alloc: Global,
+    bytes: &[u8],
+    lists: P,
+    size: usize,
+) -> Result<Vec<u8>, VortexError>
+    requires { All (λ k. k * WIDTH + WIDTH ≤ length bytes.now) (flat_map (list_positions size) (P.positions lists)) }
+    ensures { Gives result (λ picked. picked.items
+        ≡ flat_map (bytes_of_position WIDTH bytes.now) (flat_map (list_positions size) (P.positions lists))) }
+{
+    if lists.count() == 0 {
+        return Ok(Vec::new(alloc));
+    }
+    wide_numbers_at::<P>(alloc, bytes, lists, size * WIDTH)
+}
+
+// One number at a time, where a number takes `width` bytes. Of few bytes it is held whole.
+fn wide_numbers_at<P: Places>(
+    alloc: Global,
+    bytes: &[u8],
+    places: P,
+    width: usize,
+) -> Result<Vec<u8>, VortexError>
+    requires { All (λ k. k * width + width ≤ length bytes.now) (P.positions places) }
+    ensures { Gives result (λ picked. picked.items ≡ flat_map (bytes_of_position width bytes.now) (P.positions places)) }
+{
+    match width {
+        1 => bytes_at::<1, P>(alloc, bytes, places),
+        2 => bytes_at::<2, P>(alloc, bytes, places),
+        4 => bytes_at::<4, P>(alloc, bytes, places),
+        8 => bytes_at::<8, P>(alloc, bytes, places),
+        16 => bytes_at::<16, P>(alloc, bytes, places),
+        32 => bytes_at::<32, P>(alloc, bytes, places),
+        _ => extend_numbers_at::<P>(alloc, bytes, places, width),
+    }
+}
+
+// The same at any width.
+fn extend_numbers_at<P: Places>(
+    alloc: Global,
+    bytes: &[u8],
+    places: P,
+    width: usize,
+) -> Result<Vec<u8>, VortexError>
+    requires { All (λ k. k * width + width ≤ length bytes.now) (P.positions places) }
+    ensures { Gives result (λ picked. picked.items ≡ flat_map (bytes_of_position width bytes.now) (P.positions places)) }
+{
+    let count = places.count();
+    let mut picked = Vec::with_capacity(alloc, count.saturating_mul(width))?;
+    for i in 0..count {
+        let start = places.at(i) * width;
+        picked.extend_from_slice(&bytes[start..start + width])?;
+    }
+    Ok(picked)
+}
+
 /// The booleans that are picked, in their order. Asks that each position has a boolean. Fails only
 /// for want of memory.
 pub fn gather_bits(
@@ -182,13 +261,24 @@ pub fn gather_bits(
     ensures bits { Gives result (λ b. b.bits ≡ map (bit_of_position bits.now.bits) selection.now) }
     ensures offset { IfOk result (λ b. b.offset ≡ 0) }
 {
+    let len = selection.len();
     match selection.picks() {
         Picks::Positions(positions) => bits_at::<Listed>(alloc, bits, Listed(positions)),
         Picks::Numbers(ptype, numbers) => {
             call_native!(*ptype, bits_at_numbers(alloc, bits, numbers))
         }
         Picks::Repeated(position, len) => bits_repeated(alloc, bits, *position, *len),
-        Picks::Runs(runs) => bits_of_runs(alloc, bits, runs, selection.len()),
+        Picks::Runs(runs) => bits_of_runs(alloc, bits, runs, len),
+        Picks::OwnRuns(runs) => bits_of_runs(alloc, bits, runs, len),
+        Picks::ListsAt(lists, size) => {
+            bits_of_lists::<Listed>(alloc, bits, Listed(lists), *size, len)
+        }
+        Picks::ListsAtNumbers(ptype, lists, size) => {
+            call_native!(
+                *ptype,
+                bits_of_lists_at_numbers(alloc, bits, lists, *size, len)
+            )
+        }
     }
 }
 
@@ -293,6 +383,43 @@ fn bits_of_runs(
     picked.freeze()
 }
 
+// The same of lists of `size` booleans each, where the lists are numbers in bytes.
+fn bits_of_lists_at_numbers<T: NativePType>(
+    alloc: Global,
+    bits: &BitBuffer,
+    places: &[u8],
+    size: usize,
+    capacity: usize,
+) -> Result<BitBuffer, VortexError>
+    requires { All (λ k. k < length bits.now.bits) (flat_map (list_positions size) (map unsigned_abs (numbers T.PTYPE places.now))) }
+    ensures bits { Gives result (λ b. b.bits ≡ map (bit_of_position bits.now.bits)
+        (flat_map (list_positions size) (map unsigned_abs (numbers T.PTYPE places.now)))) }
+    ensures offset { IfOk result (λ b. b.offset ≡ 0) }
+{
+    bits_of_lists::<Numbered<T>>(alloc, bits, Numbered::new(places), size, capacity)
+}
+
+// One list at a time.
+fn bits_of_lists<P: Places>(
+    alloc: Global,
+    bits: &BitBuffer,
+    lists: P,
+    size: usize,
+    capacity: usize,
+) -> Result<BitBuffer, VortexError>
+    requires { All (λ k. k < length bits.now.bits) (flat_map (list_positions size) (P.positions lists)) }
+    ensures bits { Gives result (λ b. b.bits ≡ map (bit_of_position bits.now.bits) (flat_map (list_positions size) (P.positions lists))) }
+    ensures offset { IfOk result (λ b. b.offset ≡ 0) }
+{
+    let _ = bits.len();
+    let mut picked = BitBufferMut::with_capacity(alloc, capacity)?;
+    for i in 0..lists.count() {
+        let start = lists.at(i) * size;
+        append_run(&mut picked, bits, start, start + size)?;
+    }
+    picked.freeze()
+}
+
 // Appends the booleans from `start` up to `end`, none where there is none between.
 fn append_run(
     picked: &mut BitBufferMut,
@@ -319,15 +446,38 @@ pub fn gather_items<T: Copy>(
     requires { All (λ k. k < length items.now) selection.now }
     ensures { Gives result (λ b. (d : T) → b ≡ map (item_of_position d items.now) selection.now) }
 {
-    let picked = match selection.picks() {
-        Picks::Positions(positions) => items_at::<T, Listed>(alloc, items, Listed(positions))?,
-        Picks::Numbers(ptype, numbers) => {
-            call_native!(*ptype, items_at_numbers::<T>(alloc, items, numbers))?
-        }
-        Picks::Repeated(position, len) => items_repeated(alloc, items, *position, *len)?,
-        Picks::Runs(runs) => items_of_runs(alloc, items, runs, selection.len())?,
-    };
+    let picked = picked_items(alloc, items, selection)?;
     Buffer::from_vec(alloc, picked)
+}
+
+// The same, in a list.
+fn picked_items<T: Copy>(
+    alloc: Global,
+    items: &[T],
+    selection: &Selection,
+) -> Result<Vec<T>, VortexError>
+    requires { All (λ k. k < length items.now) selection.now }
+    ensures { Gives result (λ picked. (d : T) → picked.items ≡ map (item_of_position d items.now) selection.now) }
+{
+    let len = selection.len();
+    match selection.picks() {
+        Picks::Positions(positions) => items_at::<T, Listed>(alloc, items, Listed(positions)),
+        Picks::Numbers(ptype, numbers) => {
+            call_native!(*ptype, items_at_numbers::<T>(alloc, items, numbers))
+        }
+        Picks::Repeated(position, len) => items_repeated(alloc, items, *position, *len),
+        Picks::Runs(runs) => items_of_runs(alloc, items, runs, len),
+        Picks::OwnRuns(runs) => items_of_runs(alloc, items, runs, len),
+        Picks::ListsAt(lists, size) => {
+            items_of_lists::<T, Listed>(alloc, items, Listed(lists), *size, len)
+        }
+        Picks::ListsAtNumbers(ptype, lists, size) => {
+            call_native!(
+                *ptype,
+                items_of_lists_at_numbers::<T>(alloc, items, lists, *size, len)
+            )
+        }
+    }
 }
 
 // The same, where the positions are numbers in bytes.
@@ -405,6 +555,41 @@ fn items_of_runs<T: Copy>(
     for run in runs {
         let (start, end) = *run;
         append_items(&mut picked, items, start, end)?;
+    }
+    Ok(picked)
+}
+
+// The same of lists of `size` items each, where the lists are numbers in bytes.
+fn items_of_lists_at_numbers<T: Copy, N: NativePType>(
+    alloc: Global,
+    items: &[T],
+    places: &[u8],
+    size: usize,
+    capacity: usize,
+) -> Result<Vec<T>, VortexError>
+    requires { All (λ k. k < length items.now) (flat_map (list_positions size) (map unsigned_abs (numbers N.PTYPE places.now))) }
+    ensures { Gives result (λ picked. (d : T) → picked.items ≡ map (item_of_position d items.now)
+        (flat_map (list_positions size) (map unsigned_abs (numbers N.PTYPE places.now)))) }
+{
+    items_of_lists::<T, Numbered<N>>(alloc, items, Numbered::new(places), size, capacity)
+}
+
+// One list at a time.
+fn items_of_lists<T: Copy, P: Places>(
+    alloc: Global,
+    items: &[T],
+    lists: P,
+    size: usize,
+    capacity: usize,
+) -> Result<Vec<T>, VortexError>
+    requires { All (λ k. k < length items.now) (flat_map (list_positions size) (P.positions lists)) }
+    ensures { Gives result (λ picked. (d : T) → picked.items
+        ≡ map (item_of_position d items.now) (flat_map (list_positions size) (P.positions lists))) }
+{
+    let mut picked = Vec::with_capacity(alloc, capacity)?;
+    for i in 0..lists.count() {
+        let start = lists.at(i) * size;
+        append_items(&mut picked, items, start, start + size)?;
     }
     Ok(picked)
 }

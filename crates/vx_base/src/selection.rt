@@ -1,23 +1,22 @@
-// Rows that are picked, by their positions or by runs of them.
+// Rows that are picked, by their positions, by runs of them, or as the elements of lists.
 
 ghost use Rattle.std.specs.Prelude.{◌≡◌, ◌==◌, ◌<◌, ◌+◌, ◌*◌, ◌^◌, length, map, replicate, unsigned_abs};
 ghost use Rattle.vx_base.specs.Refusals.{Gives};
 ghost use Rattle.std.specs.List.{All, flat_map};
 ghost use Rattle.vx_base.specs.Integers.{numbers};
+ghost use Rattle.vx_base.specs.Picked.{positions_of};
 ghost use Rattle.vx_base.specs.Selections.{run_positions, list_positions};
 
-use crate::call_native;
 use crate::errors::VortexError;
-use crate::native::NativePType;
 use crate::numbers::number_count;
-use crate::places::{Listed, Numbered, Places, Same};
+use crate::places::{Places, Same};
 use crate::ptypes::PType;
 use std::alloc::Global;
 use std::marker::Model;
 
 /// Which rows are picked, in their order: at positions, which may lie in bytes as numbers of a
-/// type, one row again and again, or in runs, each from its start up to its end. What is picked is
-/// the list of all their positions, in each form.
+/// type, one row again and again, in runs, each from its start up to its end, or as the elements of
+/// lists of one size. What is picked is the list of all their positions, in each form.
 #[derive(Drop)]
 pub struct Selection<'a> {
     picks: Picks<'a>,
@@ -31,6 +30,9 @@ pub(crate) enum Picks<'a> {
     Numbers(PType, &'a [u8]),
     Repeated(usize, usize),
     Runs(&'a [(usize, usize)]),
+    OwnRuns(Vec<(usize, usize)>),
+    ListsAt(&'a [usize], usize),
+    ListsAtNumbers(PType, &'a [u8], usize),
 }
 
 impl<'a> Model for Selection<'a> {
@@ -104,24 +106,19 @@ impl<'a> Selection<'a> {
         self.len == 0
     }
 
-    /// The runs of the elements of these lists, where each list has `size` elements. Asks that the
-    /// end of each list is below 2^64. Fails only for want of memory.
-    pub fn list_runs(&self, alloc: Global, size: usize) -> Result<Vec<(usize, usize)>, VortexError>
-        requires { All (λ k. k * size + size < 2 ^ 64) self.now }
-        ensures { Gives result (λ runs.
-            flat_map run_positions runs.items ≡ flat_map (list_positions size) self.now) }
+    /// The elements of these lists, where each list has `size` elements. Asks that the end of each
+    /// list is below 2^64, and so is the number of the elements. Fails only for want of memory.
+    pub fn lists(&self, alloc: Global, size: usize) -> Result<Selection<'a>, VortexError>
+        requires within { All (λ k. k * size + size < 2 ^ 64) self.now }
+        requires countable { length self.now * size < 2 ^ 64 }
+        ensures { Gives result (λ s. s ≡ flat_map (list_positions size) self.now) }
     {
-        match &self.picks {
-            Picks::Positions(positions) => runs_at::<Listed>(alloc, Listed(positions), size),
-            Picks::Numbers(ptype, bytes) => {
-                call_native!(*ptype, runs_at_numbers(alloc, bytes, size))
-            }
-            Picks::Repeated(position, len) => {
-                let (position, len) = (*position, *len);
-                runs_at::<Same>(alloc, Same { position, len }, size)
-            }
-            Picks::Runs(runs) => runs_of_runs(alloc, runs, size),
+        let len = self.len * size;
+        if len == 0 {
+            return Ok(Selection::at_positions(&[]));
         }
+        let picks = lists_of(alloc, &self.picks, size)?;
+        Ok(Selection { picks, len })
     }
 
     // The form.
@@ -132,17 +129,28 @@ impl<'a> Selection<'a> {
     }
 }
 
-// The run of each list, where the lists are numbers in bytes.
-fn runs_at_numbers<T: NativePType>(
-    alloc: Global,
-    places: &[u8],
-    size: usize,
-) -> Result<Vec<(usize, usize)>, VortexError>
-    requires { All (λ k. k * size + size < 2 ^ 64) (map unsigned_abs (numbers T.PTYPE places.now)) }
-    ensures { Gives result (λ runs. flat_map run_positions runs.items
-        ≡ flat_map (list_positions size) (map unsigned_abs (numbers T.PTYPE places.now))) }
+// The elements of these lists, of which there is one at least. Elements of elements are those of
+// longer lists.
+#[tactic(auto, using(crate::proofs::SizedLists::lists_of_lists))]
+fn lists_of<'a>(alloc: Global, picks: &Picks<'a>, size: usize) -> Result<Picks<'a>, VortexError>
+    requires some { 0 < length (positions_of picks.now) }
+    requires within { All (λ k. k * size + size < 2 ^ 64) (positions_of picks.now) }
+    ensures { Gives result (λ p. positions_of p ≡ flat_map (list_positions size) (positions_of picks.now)) }
 {
-    runs_at::<Numbered<T>>(alloc, Numbered::new(places), size)
+    Ok(match picks {
+        Picks::Positions(positions) => Picks::ListsAt(*positions, size),
+        Picks::Numbers(ptype, bytes) => Picks::ListsAtNumbers(*ptype, *bytes, size),
+        Picks::Repeated(position, len) => {
+            let (position, len) = (*position, *len);
+            Picks::OwnRuns(runs_at::<Same>(alloc, Same { position, len }, size)?)
+        }
+        Picks::Runs(runs) => Picks::OwnRuns(runs_of_runs(alloc, *runs, size)?),
+        Picks::OwnRuns(runs) => Picks::OwnRuns(runs_of_runs(alloc, runs, size)?),
+        Picks::ListsAt(positions, whole) => Picks::ListsAt(*positions, *whole * size),
+        Picks::ListsAtNumbers(ptype, bytes, whole) => {
+            Picks::ListsAtNumbers(*ptype, *bytes, *whole * size)
+        }
+    })
 }
 
 // The run of each list.

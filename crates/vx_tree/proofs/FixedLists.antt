@@ -11,6 +11,7 @@ use Rattle.vx_base.specs.Rows.{Row, row}
 use Rattle.vx_base.specs.Kinds.{fixed_lists}
 use Rattle.vx_base.specs.Refusals.{overflow}
 use Rattle.vx_base.specs.Selections.{list_positions}
+use Rattle.vx_base.proofs.SizedLists.{lists_long}
 use Rattle.vx_tree.specs.Tree.{Tree, fixed_list, Valid}
 use Rattle.vx_tree.specs.Meaning.{row_at, rows_range, tree_len, is_valid_at}
 use Rattle.vx_tree.specs.Shapes.{fixed_list_shape}
@@ -70,10 +71,6 @@ fixed_lists_sliced t u e r k m start end v w l a b s h =
         s.rows (i * k + j) inside ∙ ap (row_at e) place
 
 -- ---- selecting
-
-pub lists_long : (k : ℕ) (ps : List ℕ) → length (flat_map (list_positions k) ps) ≡ length ps * k
-lists_long k [] = omega arith
-lists_long k (p ∷ ps) = omega (arith, length-append (range_with_len (p * k) k) (flat_map (list_positions k) ps), length-range_with_len (p * k) k, lists_long k ps)
 
 pub lists_at : (k : ℕ) (ps : List ℕ) (i j : ℕ) → i < length ps → j < k → slice_index (flat_map (list_positions k) ps) (i * k + j) ≡ slice_index ps i * k + j
 lists_at k [] i j l m = absurd (omega arith)

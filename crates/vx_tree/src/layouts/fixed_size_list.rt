@@ -79,7 +79,7 @@ impl ArrayRef {
         self.with_parts(alloc, layout)
     }
 
-    // The elements are selected by runs, one for each run of lists.
+    // The elements of the lists are selected.
     #[cycle(select)]
     pub(crate) fn select_fixed_lists(
         &self,
@@ -103,8 +103,8 @@ impl ArrayRef {
         elements.known_len();
         let width = *size as usize;
         let len = selection.len();
-        let runs = selection.list_runs(alloc, width)?;
-        let elements = elements.select_within(alloc, &Selection::of_runs(&runs, len * width))?;
+        let picked = selection.lists(alloc, width)?;
+        let elements = elements.select_within(alloc, &picked)?;
         let validity = validity.select_within(alloc, selection)?;
         let layout = Layout::FixedSizeList {
             elements,

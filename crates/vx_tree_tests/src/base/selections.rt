@@ -57,17 +57,90 @@ fn one_bit_picked_again(rt: HostRuntime) -> Result<(), VortexError> {
 }
 
 #[test]
-#[tactic(auto, unfolding(vx_base::specs::Integers::numbers))]
-fn runs_of_lists_at_numbers(rt: HostRuntime) -> Result<(), VortexError> {
-    let lists = Selection::at_numbers(PType::U16, &[2, 0, 0, 0]);
-    assert!(rt; lists.list_runs(rt.alloc(), 3)?.as_slice() == [(6, 9), (0, 3)].as_slice());
+fn elements_of_lists_at_positions(rt: HostRuntime) -> Result<(), VortexError> {
+    let lists = Selection::at_positions(&[1, 0]);
+    let elements = lists.lists(rt.alloc(), 4)?;
+    assert!(rt; elements.len() == 8);
+    let bytes = [10, 11, 12, 13, 14, 15, 16, 17];
+    let picked = gather_numbers(rt.alloc(), PType::U8, &bytes, &elements)?;
+    assert!(rt; picked.as_slice() == [14, 15, 16, 17, 10, 11, 12, 13].as_slice());
     Ok(())
 }
 
 #[test]
-fn runs_of_one_list(rt: HostRuntime) -> Result<(), VortexError> {
-    let lists = Selection::repeated(2, 2);
+fn elements_of_lists_of_three(rt: HostRuntime) -> Result<(), VortexError> {
+    let lists = Selection::at_positions(&[1, 1]);
+    let bytes = [1, 0, 2, 0, 3, 0, 4, 0, 5, 0, 6, 9];
+    let picked = gather_numbers(rt.alloc(), PType::U16, &bytes, &lists.lists(rt.alloc(), 3)?)?;
+    assert!(rt; picked.as_slice() == [4, 0, 5, 0, 6, 9, 4, 0, 5, 0, 6, 9].as_slice());
+    Ok(())
+}
+
+#[test]
+#[tactic(auto, unfolding(vx_base::specs::Integers::numbers))]
+fn elements_of_lists_at_numbers(rt: HostRuntime) -> Result<(), VortexError> {
+    let lists = Selection::at_numbers(PType::U16, &[2, 0, 0, 0]);
+    let elements = lists.lists(rt.alloc(), 2)?;
+    let picked = gather_numbers(rt.alloc(), PType::U8, &[1, 2, 3, 4, 5, 6], &elements)?;
+    assert!(rt; picked.as_slice() == [5, 6, 1, 2].as_slice());
+    Ok(())
+}
+
+#[test]
+#[tactic(auto, unfolding(vx_base::specs::Integers::numbers))]
+fn items_of_lists_at_numbers(rt: HostRuntime) -> Result<(), VortexError> {
+    let lists = Selection::at_numbers(PType::U8, &[1, 0]);
+    let picked = gather_items(rt.alloc(), &[5u128, 6, 7, 8], &lists.lists(rt.alloc(), 2)?)?;
+    assert!(rt; picked.as_slice() == [7, 8, 5, 6].as_slice());
+    Ok(())
+}
+
+#[test]
+fn bits_of_lists_at_positions(rt: HostRuntime) -> Result<(), VortexError> {
+    let bits = BitBuffer::from_bools(rt.alloc(), &[false, false, true, false])?;
+    let lists = Selection::at_positions(&[1, 0]);
+    let picked = gather_bits(rt.alloc(), &bits, &lists.lists(rt.alloc(), 2)?)?;
+    assert!(rt; picked == BitBuffer::from_bools(rt.alloc(), &[true, false, false, false])?);
+    Ok(())
+}
+
+#[test]
+fn lists_of_no_elements_and_of_one(rt: HostRuntime) -> Result<(), VortexError> {
+    let lists = Selection::at_positions(&[2, 0]);
+    assert!(rt; lists.lists(rt.alloc(), 0)?.is_empty());
+    let one = lists.lists(rt.alloc(), 1)?;
+    let picked = gather_numbers(rt.alloc(), PType::U8, &[7, 8, 9], &one)?;
+    assert!(rt; picked.as_slice() == [9, 7].as_slice());
+    Ok(())
+}
+
+#[test]
+fn elements_of_lists_of_lists(rt: HostRuntime) -> Result<(), VortexError> {
+    let lists = Selection::at_positions(&[1]);
+    let inner = lists.lists(rt.alloc(), 2)?;
+    let elements = inner.lists(rt.alloc(), 3)?;
+    assert!(rt; elements.len() == 6);
+    let bytes = [0, 1, 2, 3, 4, 5, 6, 7, 8, 9, 10, 11];
+    let picked = gather_numbers(rt.alloc(), PType::U8, &bytes, &elements)?;
+    assert!(rt; picked.as_slice() == [6, 7, 8, 9, 10, 11].as_slice());
+    Ok(())
+}
+
+#[test]
+fn elements_of_one_list_again(rt: HostRuntime) -> Result<(), VortexError> {
+    let lists = Selection::repeated(1, 2);
     assert!(rt; lists.len() == 2 && !lists.is_empty());
-    assert!(rt; lists.list_runs(rt.alloc(), 3)?.as_slice() == [(6, 9), (6, 9)].as_slice());
+    let picked = gather_items(rt.alloc(), &[5u128, 6, 7, 8], &lists.lists(rt.alloc(), 2)?)?;
+    assert!(rt; picked.as_slice() == [7, 8, 7, 8].as_slice());
+    Ok(())
+}
+
+#[test]
+fn elements_of_runs_of_lists(rt: HostRuntime) -> Result<(), VortexError> {
+    let lists = Selection::of_runs(&[(1, 3)], 2);
+    let inner = lists.lists(rt.alloc(), 2)?;
+    let elements = inner.lists(rt.alloc(), 1)?;
+    let picked = gather_numbers(rt.alloc(), PType::U8, &[1, 2, 3, 4, 5, 6], &elements)?;
+    assert!(rt; picked.as_slice() == [3, 4, 5, 6].as_slice());
     Ok(())
 }

@@ -1,6 +1,4 @@
 use Rattle.std.proofs.Common.{ℕ, List, length, ◌*◌, rules, ap, subst, sym, ◌∙◌, ◌≡◌, [], None, arith}
-use Rattle.std.specs.List.{flat_map}
-use Rattle.vx_base.specs.Selections.{run_positions}
 use denote.Param.Weighed.{at_most}
 use Rattle.vx_tree.specs.declared.array.ArrayRef.TheDeep.{size-ArrayRef}
 use Rattle.vx_tree.specs.Parts.{tree_of, valid_of}
@@ -11,7 +9,8 @@ use Rattle.vx_tree.specs.Tree.{fixed_list, list_view, view_array, Tree, structur
 use Rattle.vx_tree.specs.Operations.{IsSelected, AreBelow}
 use Rattle.vx_tree.proofs.Selected.{lists_selected, ValidHasAll-from_fits}
 use Rattle.vx_tree.proofs.Dictionaries.{dictionary_selected}
-use Rattle.vx_tree.proofs.FixedLists.{lists_long, elements_selected, fixed_lists_selected}
+use Rattle.vx_base.proofs.SizedLists.{lists_long}
+use Rattle.vx_tree.proofs.FixedLists.{lists_countable, elements_selected, fixed_lists_selected}
 use Rattle.vx_base.specs.DTypes.{dtype_meaning}
 use Rattle.vx_tree.proofs.ViewArrays.{selected_rows, rows_formed, views_selected}
 use Rattle.vx_tree.specs.Faults.{take_overflow, columns_overflow}
@@ -39,37 +38,33 @@ ArrayRef::select_list_view-select_within-requires-3 t c =
     let formed : WellFormed (list_view c.in-ListView.elements c.in-ListView.offsets c.in-ListView.sizes (valid_of c.in-ListView.validity) c.in-ListView.flag) = rw c.in-ListView.is at c.layout.ensures.formed in
     (search rules, ValidHasAll-from_fits (valid_of c.in-ListView.validity) (tree_len c.in-ListView.offsets) c.args.selection.now formed.0 (rw same at c.requires.within))
 
-pub ArrayRef::select_fixed_lists-of_runs-requires :
-    goal.ArrayRef::select_fixed_lists-of_runs-requires
-ArrayRef::select_fixed_lists-of_runs-requires t c =
-    ap (λ n. n * c.in-FixedSizeList.size) c.len-len.ensures ∙ sym (lists_long c.in-FixedSizeList.size c.args.selection.now) ∙ sym (ap length c.in_ok-runs.ensures)
-    ∙ sym (ap (λ runs. length (flat_map run_positions runs)) c.deref.ensures.value)
+pub ArrayRef::select_fixed_lists-lists-requires-clause-countable : goal.ArrayRef::select_fixed_lists-lists-requires-clause-countable
+ArrayRef::select_fixed_lists-lists-requires-clause-countable t c =
+    let same = sym c.layout.ensures.parts ∙ ap tree_of c.in-FixedSizeList.is in
+    (lists_countable c.args.self.now c.in-FixedSizeList.elements c.in-FixedSizeList.size c.in-FixedSizeList.len (length c.args.selection.now) (valid_of c.in-FixedSizeList.validity) same c.requires.countable).0
 
 pub ArrayRef::select_fixed_lists-select_within-requires :
     goal.ArrayRef::select_fixed_lists-select_within-requires
 ArrayRef::select_fixed_lists-select_within-requires t c =
     let same = sym c.layout.ensures.parts ∙ ap tree_of c.in-FixedSizeList.is in
-    let formed : WellFormed (fixed_list c.in-FixedSizeList.elements c.in-FixedSizeList.size (valid_of c.in-FixedSizeList.validity) c.in-FixedSizeList.len) = rw c.in-FixedSizeList.is at c.layout.ensures.formed in
-    let picked = c.of_runs.ensures ∙ ap (flat_map run_positions) c.deref.ensures.value ∙ c.in_ok-runs.ensures in (
+    let formed : WellFormed (fixed_list c.in-FixedSizeList.elements c.in-FixedSizeList.size (valid_of c.in-FixedSizeList.validity) c.in-FixedSizeList.len) = rw c.in-FixedSizeList.is at c.layout.ensures.formed in (
       search rules,
-      elements_selected c.args.self.now c.in-FixedSizeList.elements c.in-FixedSizeList.size c.in-FixedSizeList.len (valid_of c.in-FixedSizeList.validity) c.args.selection.now c.of_runs.result
-          same formed.1 picked c.requires.within c.requires.countable,
+      elements_selected c.args.self.now c.in-FixedSizeList.elements c.in-FixedSizeList.size c.in-FixedSizeList.len (valid_of c.in-FixedSizeList.validity) c.args.selection.now c.in_ok-picked.picked
+          same formed.1 c.in_ok-picked.ensures c.requires.within c.requires.countable,
     )
 
 pub ArrayRef::select_fixed_lists-with_parts-requires-clause-formed :
     goal.ArrayRef::select_fixed_lists-with_parts-requires-clause-formed
 ArrayRef::select_fixed_lists-with_parts-requires-clause-formed t c =
-    let picked = c.of_runs.ensures ∙ ap (flat_map run_positions) c.deref.ensures.value ∙ c.in_ok-runs.ensures in
-    rw c.len-len.ensures (c.in_ok-validity.ensures.fits, c.in_ok-elements.ensures.len ∙ ap length picked ∙ lists_long c.in-FixedSizeList.size c.args.selection.now)
+    rw c.len-len.ensures (c.in_ok-validity.ensures.fits, c.in_ok-elements.ensures.len ∙ ap length c.in_ok-picked.ensures ∙ lists_long c.in-FixedSizeList.size c.args.selection.now)
 
 pub ArrayRef::select_fixed_lists-returns : goal.ArrayRef::select_fixed_lists-returns
 ArrayRef::select_fixed_lists-returns t c =
     let same = sym c.layout.ensures.parts ∙ ap tree_of c.in-FixedSizeList.is in
-    let picked = c.of_runs.ensures ∙ ap (flat_map run_positions) c.deref.ensures.value ∙ c.in_ok-runs.ensures in
     let S : List ℕ → Type 0 = λ qs. IsSelected c.in-FixedSizeList.elements qs c.in_ok-elements.elements in
     Gives-weaker c.with_parts.result _ _
     (λ a e. fixed_lists_selected c.args.self.now a c.in-FixedSizeList.elements c.in_ok-elements.elements c.in-FixedSizeList.size c.in-FixedSizeList.len (valid_of c.in-FixedSizeList.validity) (valid_of c.in_ok-validity.validity)
-    c.args.selection.now same (rw c.len-len.ensures at e) (subst S picked c.in_ok-elements.ensures) c.in_ok-validity.ensures)
+    c.args.selection.now same (rw c.len-len.ensures at e) (subst S c.in_ok-picked.ensures c.in_ok-elements.ensures) c.in_ok-validity.ensures)
     c.with_parts.ensures
 
 pub ArrayRef::select_views-var_bin_view-requires : goal.ArrayRef::select_views-var_bin_view-requires

@@ -1,0 +1,7 @@
+use Rattle.std.proofs.Common.{◌≡◌, take, map}
+use Rattle.std.specs.List.{flat_map}
+use Rattle.vx_base.specs.Selections.{list_positions, bit_of_position}
+use Rattle.vx_base.proofs.gather.bits_of_lists.Given as goal
+
+abbrev pub invariant-loop-i : goal.invariant-loop-i
+invariant-loop-i g l = l.picked ≡ map (bit_of_position l.bits.bits) (flat_map (list_positions l.size) (take l.i (g.P.Places.positions l.lists)))
