@@ -1,5 +1,6 @@
 -- Dictionaries: their parts, the fault of these, and which values are referenced.
-use Rattle.std.specs.Prelude.{◌≡◌, ◌<◌, ◌↔◌, ℕ, Bool, true, false, List, codes, Option, Some, length, map, unsigned_abs, slice_index, if◌then◌else◌}
+use Rattle.std.specs.Prelude.{◌≡◌, ◌<◌, ◌↔◌, ℕ, Bool, true, false, List, codes, Option, Some, length, map, unsigned_abs}
+use Rattle.std.specs.Prelude.{slice_index, if◌then◌else◌}
 use Rattle.vx_base.specs.Bits.{bool_at}
 use Rattle.vx_base.specs.Integers.{numbers}
 use Rattle.vx_base.specs.Kinds.{is_integers}
