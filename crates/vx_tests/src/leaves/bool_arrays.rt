@@ -2,7 +2,7 @@
 
 use std::test::Fail;
 use vx_base::{BitBuffer, ByteBuffer, Mask, Nullability, VortexError};
-use vx_leaves::{BoolArray, BoolArrayExt};
+use vx_leaves::{BoolArray, BoolArrayExt, ConstantArray};
 use vx_tree::{TypedArray, Validity};
 
 // Three truth values from an iterator whose hint promises more than memory has.
@@ -25,6 +25,33 @@ impl Iterator for Boasting {
         }
         self.left -= 1;
         Some(self.left == 1)
+    }
+
+    fn size_hint(&self) -> (usize, Option<usize>) {
+        (usize::MAX, None)
+    }
+}
+
+// The same truth values as items that may be none.
+#[derive(Drop)]
+struct BoastingOptions {
+    left: u8,
+}
+
+impl Iterator for BoastingOptions {
+    type Item = Option<bool>;
+
+    ghost use Rattle.std.specs.Prelude.{◌+◌, ◌^◌};
+    ghost use Rattle.std.specs.Iterator.{at_most};
+
+    ghost remaining = { λ s. at_most (2 ^ 64 + s.left) };
+
+    fn next(&mut self) -> Option<Option<bool>> {
+        if self.left == 0 {
+            return None;
+        }
+        self.left -= 1;
+        Some(Some(self.left == 1))
     }
 
     fn size_hint(&self) -> (usize, Option<usize>) {
@@ -115,6 +142,14 @@ fn hint_of_no_truth(rt: HostRuntime) -> Result<(), Fail> {
 }
 
 #[test]
+fn hint_of_no_truth_that_may_be_none(rt: HostRuntime) -> Result<(), Fail> {
+    let array = BoolArray::from_option_iter(rt.alloc(), BoastingOptions { left: 3 })?;
+    assert!(rt; array.len() == 3 && holds(&rt, &array, &[false, true, false])?);
+    assert!(rt; matches!(array.validity(rt.alloc())?, Validity::AllValid));
+    Ok(())
+}
+
+#[test]
 fn truths_that_may_be_none(rt: HostRuntime) -> Result<(), Fail> {
     let items = [Some(true), None, Some(false)];
     let array = BoolArray::from_option_iter(rt.alloc(), items.iter().copied())?;
@@ -200,6 +235,28 @@ fn all_null_rows_become_false(rt: HostRuntime) -> Result<(), Fail> {
     let mask = array.to_mask_fill_null_false(rt.alloc())?;
     assert!(rt; mask == Mask::new_false(2));
     assert!(rt; array.slots(rt.alloc())?.validity.is_some());
+    Ok(())
+}
+
+#[test]
+fn slot_of_a_validity_array(rt: HostRuntime) -> Result<(), Fail> {
+    let array = truths(&rt, &[true, true], told(&rt, &[true, false])?)?;
+    let Some(slot) = array.slots(rt.alloc())?.validity else {
+        return Err(VortexError::MismatchedTypes.into());
+    };
+    assert!(rt; slot.len() == 2 && slot.execute_scalar(rt.alloc(), 0)?.as_bool());
+    assert!(rt; !slot.execute_scalar(rt.alloc(), 1)?.as_bool());
+    Ok(())
+}
+
+#[test]
+fn slot_of_nulls(rt: HostRuntime) -> Result<(), Fail> {
+    let array = truths(&rt, &[true, true], Validity::AllInvalid)?;
+    let Some(slot) = array.slots(rt.alloc())?.validity else {
+        return Err(VortexError::MismatchedTypes.into());
+    };
+    assert!(rt; slot.len() == 2 && !slot.execute_scalar(rt.alloc(), 1)?.as_bool());
+    assert!(rt; ConstantArray::try_from_array(slot).is_ok());
     Ok(())
 }
 

@@ -2,8 +2,8 @@
 
 use std::alloc::Global;
 use std::test::Fail;
-use vx_base::{BitBuffer, Buffer, VortexError};
-use vx_leaves::{BoolArray, DictArray, DictArrayExt, DictOwnedExt, PrimitiveArray};
+use vx_base::{BitBuffer, Buffer, DType, Nullability, PType, Scalar, VortexError};
+use vx_leaves::{BoolArray, ConstantArray, DictArray, DictArrayExt, DictOwnedExt, PrimitiveArray};
 use vx_tree::{ArrayRef, TypedArray, Validity};
 
 // Numbers of type u8, none of them null.
@@ -34,6 +34,23 @@ fn nulls_of_both(alloc: Global) -> Result<DictArray, VortexError> {
     let codes = masked(alloc, &[0, -3, 2, 99, 1], &valid)?;
     let values = masked(alloc, &[0, 6, 9], &[false, true, true])?;
     DictArray::try_new(alloc, codes, values)
+}
+
+// Whether the scan of a dictionary tells these booleans.
+fn scan_tells(
+    alloc: Global,
+    array: &DictArray,
+    referenced: bool,
+    want: &[bool],
+) -> Result<bool, VortexError> {
+    let marks = array.compute_referenced_values_mask(alloc, referenced)?;
+    Ok(marks == BitBuffer::from_bools(alloc, want)?)
+}
+
+// Three values under codes that are one row, however often.
+fn by_one_code(alloc: Global, code: Scalar) -> Result<DictArray, VortexError> {
+    let codes = ConstantArray::new(alloc, code, 4)?.into_array();
+    DictArray::try_new(alloc, codes, plain(alloc, &[5, 6, 9])?)
 }
 
 #[test]
@@ -109,6 +126,75 @@ fn null_codes_reference_nothing(rt: HostRuntime) -> Result<(), Fail> {
     let array = DictArray::try_new(rt.alloc(), codes, plain(rt.alloc(), &[5, 6])?)?;
     let marks = array.compute_referenced_values_mask(rt.alloc(), true)?;
     assert!(rt; marks == BitBuffer::from_bools(rt.alloc(), &[true, false])?);
+    Ok(())
+}
+
+#[test]
+fn null_codes_leave_values_unreferenced(rt: HostRuntime) -> Result<(), Fail> {
+    let codes = masked(rt.alloc(), &[0, 1], &[true, false])?;
+    let array = DictArray::try_new(rt.alloc(), codes, plain(rt.alloc(), &[5, 6])?)?;
+    assert!(rt; scan_tells(rt.alloc(), &array, false, &[false, true])?);
+    Ok(())
+}
+
+#[test]
+fn one_code_however_often(rt: HostRuntime) -> Result<(), Fail> {
+    let code = Scalar::int(1, PType::U8, Nullability::NonNullable);
+    let array = by_one_code(rt.alloc(), code)?;
+    assert!(rt; scan_tells(rt.alloc(), &array, true, &[false, true, false])?);
+    assert!(rt; scan_tells(rt.alloc(), &array, false, &[true, false, true])?);
+    Ok(())
+}
+
+#[test]
+fn one_null_code_however_often(rt: HostRuntime) -> Result<(), Fail> {
+    let code = Scalar::null(DType::Primitive(PType::U8, Nullability::Nullable));
+    let array = by_one_code(rt.alloc(), code)?;
+    assert!(rt; scan_tells(rt.alloc(), &array, true, &[false, false, false])?);
+    assert!(rt; scan_tells(rt.alloc(), &array, false, &[true, true, true])?);
+    Ok(())
+}
+
+#[test]
+fn codes_of_a_dictionary(rt: HostRuntime) -> Result<(), Fail> {
+    let places = plain(rt.alloc(), &[1, 1])?;
+    let codes = DictArray::try_new(rt.alloc(), places, plain(rt.alloc(), &[0, 2])?)?;
+    let values = plain(rt.alloc(), &[5, 6, 9])?;
+    let array = DictArray::try_new(rt.alloc(), codes.into_array(), values)?;
+    assert!(rt; scan_tells(rt.alloc(), &array, true, &[false, false, true])?);
+    Ok(())
+}
+
+#[test]
+fn null_codes_of_a_dictionary(rt: HostRuntime) -> Result<(), Fail> {
+    let places = masked(rt.alloc(), &[0, 1], &[true, false])?;
+    let codes = DictArray::try_new(rt.alloc(), places, plain(rt.alloc(), &[2, 0])?)?;
+    let values = plain(rt.alloc(), &[5, 6, 9])?;
+    let array = DictArray::try_new(rt.alloc(), codes.into_array(), values)?;
+    assert!(rt; scan_tells(rt.alloc(), &array, true, &[false, false, true])?);
+    assert!(rt; scan_tells(rt.alloc(), &array, false, &[true, true, false])?);
+    Ok(())
+}
+
+#[test]
+fn flag_where_all_values_are_referenced(rt: HostRuntime) -> Result<(), Fail> {
+    let codes = plain(rt.alloc(), &[1, 0])?;
+    let array = DictArray::try_new(rt.alloc(), codes, plain(rt.alloc(), &[5, 6])?)?;
+    let holds = array.are_all_values_referenced(rt.alloc())?;
+    assert!(rt; holds);
+    let array = array.set_all_values_referenced(rt.alloc(), holds)?;
+    assert!(rt; array.has_all_values_referenced());
+    let data = array.to_data(rt.alloc())?;
+    assert!(rt; format!(in rt.alloc(); "{data}")?.as_str() == "all_values_referenced: true");
+    Ok(())
+}
+
+#[test]
+fn slots_of_a_dictionary(rt: HostRuntime) -> Result<(), Fail> {
+    let slots = two_of_three(rt.alloc())?.slots(rt.alloc())?;
+    assert!(rt; slots.codes.len() == 3 && slots.values.len() == 3);
+    assert!(rt; slots.codes.execute_scalar(rt.alloc(), 1)?.as_int() == Some(2));
+    assert!(rt; slots.values.execute_scalar(rt.alloc(), 1)?.as_int() == Some(6));
     Ok(())
 }
 

@@ -5,7 +5,7 @@ use vx_base::{BitBuffer, Buffer, ByteBuffer, Nullability, PType, Scalar, VortexE
 use vx_leaves::{BoolArray, ConstantArray, ConstantData, PrimitiveArray, PrimitiveArrayExt};
 use vx_tree::{TypedArray, Validity};
 
-// An iterator whose size hint tells nothing true of how many items come.
+// Three numbers from an iterator whose hint promises more than memory has.
 #[derive(Drop)]
 struct Boasting {
     left: u8,
@@ -14,9 +14,10 @@ struct Boasting {
 impl Iterator for Boasting {
     type Item = u8;
 
+    ghost use Rattle.std.specs.Prelude.{◌+◌, ◌^◌};
     ghost use Rattle.std.specs.Iterator.{at_most};
 
-    ghost remaining = { λ s. at_most s.left };
+    ghost remaining = { λ s. at_most (2 ^ 64 + s.left) };
 
     fn next(&mut self) -> Option<u8> {
         if self.left == 0 {
@@ -24,6 +25,10 @@ impl Iterator for Boasting {
         }
         self.left -= 1;
         Some(self.left)
+    }
+
+    fn size_hint(&self) -> (usize, Option<usize>) {
+        (usize::MAX, None)
     }
 }
 
@@ -48,6 +53,9 @@ fn values_of_valid_rows(rt: HostRuntime) -> Result<(), Fail> {
     assert!(rt;
         array.len() == 3 && array.buffer_handle().as_slice() == [7u8, 0, 0, 0, 9, 0].as_slice()
     );
+    let array = array.into_array();
+    assert!(rt; array.is_valid(rt.alloc(), 0)? && !array.is_valid(rt.alloc(), 1)?);
+    assert!(rt; array.is_valid(rt.alloc(), 2)?);
     Ok(())
 }
 
@@ -66,6 +74,36 @@ fn values_of_too_few_rows(rt: HostRuntime) -> Result<(), Fail> {
 }
 
 #[test]
+fn values_where_null_cannot_stand(rt: HostRuntime) -> Result<(), Fail> {
+    let bytes = ByteBuffer::copy_from(rt.alloc(), &[7, 0, 44, 1])?;
+    let array = PrimitiveArray::from_values_byte_buffer(
+        rt.alloc(),
+        bytes,
+        PType::U16,
+        Validity::NonNullable,
+        2,
+    )?;
+    assert!(rt; array.len() == 2 && !array.dtype().is_nullable());
+    assert!(rt; array.as_array().execute_scalar(rt.alloc(), 1)?.as_int() == Some(300));
+    Ok(())
+}
+
+#[test]
+fn values_where_none_is_null(rt: HostRuntime) -> Result<(), Fail> {
+    let bytes = ByteBuffer::copy_from(rt.alloc(), &[255, 5])?;
+    let array = PrimitiveArray::from_values_byte_buffer(
+        rt.alloc(),
+        bytes,
+        PType::I8,
+        Validity::AllValid,
+        2,
+    )?;
+    assert!(rt; array.len() == 2 && array.dtype().is_nullable());
+    assert!(rt; array.as_array().execute_scalar(rt.alloc(), 0)?.as_int() == Some(-1));
+    Ok(())
+}
+
+#[test]
 fn values_of_null_rows_are_not_read(rt: HostRuntime) -> Result<(), Fail> {
     let bytes = ByteBuffer::copy_from(rt.alloc(), &[7, 0, 9, 0])?;
     let array = PrimitiveArray::from_values_byte_buffer(
@@ -76,6 +114,9 @@ fn values_of_null_rows_are_not_read(rt: HostRuntime) -> Result<(), Fail> {
         3,
     )?;
     assert!(rt; array.len() == 3 && array.nullability() == Nullability::Nullable);
+    let array = array.into_array();
+    assert!(rt; !array.is_valid(rt.alloc(), 0)? && !array.is_valid(rt.alloc(), 1)?);
+    assert!(rt; !array.is_valid(rt.alloc(), 2)?);
     Ok(())
 }
 
@@ -89,6 +130,21 @@ fn values_of_more_rows_than_bytes_can_be(rt: HostRuntime) -> Result<(), Fail> {
         usize::MAX,
     );
     assert!(rt; matches!(made, Err(VortexError::Overflow)));
+    Ok(())
+}
+
+#[test]
+fn bytes_of_whole_numbers(rt: HostRuntime) -> Result<(), Fail> {
+    let bytes = ByteBuffer::copy_from(rt.alloc(), &[7, 0, 44, 1])?;
+    let array = PrimitiveArray::from_byte_buffer(
+        rt.alloc(),
+        bytes,
+        PType::U16,
+        told(&rt, &[false, true])?,
+    )?;
+    assert!(rt; array.ptype() == PType::U16 && array.len() == 2);
+    assert!(rt; array.as_array().execute_scalar(rt.alloc(), 1)?.as_int() == Some(300));
+    assert!(rt; !array.as_array().is_valid(rt.alloc(), 0)?);
     Ok(())
 }
 
@@ -139,6 +195,27 @@ fn parts_of_numbers(rt: HostRuntime) -> Result<(), Fail> {
     assert!(rt; array.slots(rt.alloc())?.validity.is_some());
     let parts = array.into_data_parts(rt.alloc())?;
     assert!(rt; parts.ptype == PType::U8 && parts.buffer.as_slice() == [3u8, 4].as_slice());
+    Ok(())
+}
+
+#[test]
+fn children_of_numbers(rt: HostRuntime) -> Result<(), Fail> {
+    let buffer = Buffer::copy_from(rt.alloc(), &[3u8, 4])?;
+    let array = PrimitiveArray::try_new(rt.alloc(), buffer, told(&rt, &[true, false])?)?;
+    let Some(child) = array.validity_child(rt.alloc())? else {
+        return Err(VortexError::MismatchedTypes.into());
+    };
+    assert!(rt; child.len() == 2 && child.execute_scalar(rt.alloc(), 0)?.as_bool());
+    assert!(rt; !child.execute_scalar(rt.alloc(), 1)?.as_bool());
+    assert!(rt; array.slots(rt.alloc())?.validity.is_some());
+    Ok(())
+}
+
+#[test]
+fn child_of_numbers_that_are_all_there(rt: HostRuntime) -> Result<(), Fail> {
+    let buffer = Buffer::copy_from(rt.alloc(), &[3u8, 4])?;
+    let array = PrimitiveArray::new(rt.alloc(), buffer, Validity::AllValid)?;
+    assert!(rt; array.validity_child(rt.alloc())?.is_none());
     Ok(())
 }
 

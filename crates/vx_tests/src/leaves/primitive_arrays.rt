@@ -1,8 +1,8 @@
 // Arrays of numbers from items that may be none, and numbers apart from their validity.
 
 use std::test::Fail;
-use vx_base::{Buffer, ByteBuffer, Nullability, PType, Scalar, VortexError};
-use vx_leaves::{ConstantData, PrimitiveArray, PrimitiveArrayExt, PrimitiveData};
+use vx_base::{BitBuffer, Buffer, ByteBuffer, Nullability, PType, Scalar, VortexError};
+use vx_leaves::{BoolArray, ConstantData, PrimitiveArray, PrimitiveArrayExt, PrimitiveData};
 use vx_tree::{TypedArray, Validity};
 
 // Three items from an iterator whose hint promises more than memory has.
@@ -77,6 +77,49 @@ fn numbers_of_data(rt: HostRuntime) -> Result<(), Fail> {
     let data = PrimitiveData::new(rt.alloc(), buffer, Validity::AllInvalid)?;
     assert!(rt; data.to_buffer::<u16>(rt.alloc())?.as_slice() == [300u16, 2].as_slice());
     assert!(rt; data.into_buffer_mut::<u16>(rt.alloc())?.as_slice() == [300u16, 2].as_slice());
+    Ok(())
+}
+
+#[test]
+fn buffers_of_data(rt: HostRuntime) -> Result<(), Fail> {
+    let buffer = Buffer::copy_from(rt.alloc(), &[300u16, 2])?;
+    let data = PrimitiveData::new(rt.alloc(), buffer, Validity::AllValid)?;
+    let copy = data.try_clone(rt.alloc())?;
+    assert!(rt; copy.into_buffer::<u16>(rt.alloc())?.as_slice() == [300u16, 2].as_slice());
+    let Ok(numbers) = data.try_into_buffer_mut::<u16>(rt.alloc())? else {
+        return Err(VortexError::MismatchedTypes.into());
+    };
+    assert!(rt; numbers.as_slice() == [300u16, 2].as_slice());
+    Ok(())
+}
+
+#[test]
+fn data_of_bytes(rt: HostRuntime) -> Result<(), Fail> {
+    let bytes = ByteBuffer::copy_from(rt.alloc(), &[7, 0, 44, 1])?;
+    let data = PrimitiveData::from_byte_buffer(
+        rt.alloc(),
+        bytes,
+        PType::U16,
+        Validity::NonNullable,
+    )?;
+    assert!(rt; data.len() == 2 && data.ptype() == PType::U16);
+    assert!(rt; data.buffer_handle().as_slice() == [7u8, 0, 44, 1].as_slice());
+    Ok(())
+}
+
+#[test]
+fn data_of_values(rt: HostRuntime) -> Result<(), Fail> {
+    let bytes = ByteBuffer::copy_from(rt.alloc(), &[7, 0])?;
+    let bits = BitBuffer::from_bools(rt.alloc(), &[false, true])?;
+    let mask = BoolArray::from_bit_buffer(rt.alloc(), bits)?;
+    let data = PrimitiveData::from_values_byte_buffer(
+        rt.alloc(),
+        bytes,
+        PType::U16,
+        Validity::Array(mask.into_array()),
+        2,
+    )?;
+    assert!(rt; data.buffer_handle().as_slice() == [0u8, 0, 7, 0].as_slice());
     Ok(())
 }
 

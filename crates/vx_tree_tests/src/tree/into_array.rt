@@ -40,6 +40,16 @@ fn mask_of_both(rt: HostRuntime) -> Result<(), Fail> {
 }
 
 #[test]
+fn bits_that_are_done(rt: HostRuntime) -> Result<(), Fail> {
+    let bits = BitBuffer::from_bools(rt.alloc(), &[false, true])?;
+    let array = bits.into_array(rt.alloc())?;
+    assert!(rt; array.len() == 2 && array.dtype().is_plain_bool());
+    assert!(rt; !array.execute_scalar(rt.alloc(), 0)?.as_bool());
+    assert!(rt; array.execute_scalar(rt.alloc(), 1)?.as_bool());
+    Ok(())
+}
+
+#[test]
 fn bits(rt: HostRuntime) -> Result<(), Fail> {
     let mut bits = BitBufferMut::with_capacity(rt.alloc(), 2)?;
     bits.append(true)?;
