@@ -1,8 +1,8 @@
 // Arrays of truth values from places, items and bits, their masks and their parts.
 
 use std::test::Fail;
-use vx_base::{BitBuffer, ByteBuffer, Mask, Nullability, VortexError};
-use vx_leaves::{BoolArray, BoolArrayExt, ConstantArray};
+use vx_base::{BitBuffer, Buffer, ByteBuffer, Mask, Nullability, Scalar, VortexError};
+use vx_leaves::{BoolArray, BoolArrayExt, ConstantArray, DictArray, PrimitiveArray};
 use vx_tree::{TypedArray, Validity};
 
 // Three truth values from an iterator whose hint promises more than memory has.
@@ -224,6 +224,46 @@ fn mask_of_truths(rt: HostRuntime) -> Result<(), Fail> {
 fn null_rows_become_false(rt: HostRuntime) -> Result<(), Fail> {
     let valid = told(&rt, &[true, false, true])?;
     let array = truths(&rt, &[true, true, false], valid)?;
+    let mask = array.to_mask_fill_null_false(rt.alloc())?;
+    assert!(rt; mask.len() == 3 && mask.value(0) && !mask.value(1) && !mask.value(2));
+    Ok(())
+}
+
+#[test]
+fn null_rows_become_false_under_a_part(rt: HostRuntime) -> Result<(), Fail> {
+    let valid = BoolArray::from_bit_buffer(rt.alloc(), bits_of_a_part(&rt)?)?;
+    let validity = Validity::Array(valid.into_array());
+    let array = truths(&rt, &[true, true, true, true, false, true], validity)?;
+    let mask = array.to_mask_fill_null_false(rt.alloc())?;
+    assert!(rt; mask.len() == 6 && mask.true_count() == 2 && mask.value(2) && mask.value(5));
+    Ok(())
+}
+
+#[test]
+fn null_rows_become_false_under_a_constant(rt: HostRuntime) -> Result<(), Fail> {
+    let row = Scalar::bool(true, Nullability::NonNullable);
+    let valid = ConstantArray::new(rt.alloc(), row, 3)?;
+    let array = truths(
+        &rt,
+        &[true, false, true],
+        Validity::Array(valid.into_array()),
+    )?;
+    let mask = array.to_mask_fill_null_false(rt.alloc())?;
+    assert!(rt; mask.len() == 3 && mask.value(0) && !mask.value(1) && mask.value(2));
+    Ok(())
+}
+
+#[test]
+fn null_rows_become_false_under_a_dictionary(rt: HostRuntime) -> Result<(), Fail> {
+    let codes = Buffer::copy_from(rt.alloc(), &[1u8, 0, 1])?;
+    let codes = PrimitiveArray::try_new(rt.alloc(), codes, Validity::NonNullable)?;
+    let values = truths(&rt, &[false, true], Validity::NonNullable)?;
+    let valid = DictArray::try_new(rt.alloc(), codes.into_array(), values.into_array())?;
+    let array = truths(
+        &rt,
+        &[true, true, false],
+        Validity::Array(valid.into_array()),
+    )?;
     let mask = array.to_mask_fill_null_false(rt.alloc())?;
     assert!(rt; mask.len() == 3 && mask.value(0) && !mask.value(1) && !mask.value(2));
     Ok(())
