@@ -1,5 +1,5 @@
-// The bytes of the numbers that iterators give: each is written where there is room, which grows by
-// blocks with what comes. No size hint is looked at.
+// The bytes of the numbers that iterators give: each is written where there is room, which grows
+// with what comes. No size hint is looked at.
 
 ghost use Rattle.std.specs.Prelude.{◌≡◌, ◌≤◌, ◌+◌, ◌*◌, ◌∷◌, ◌++◌, [], List, Option, length, take, map, OnOk};
 ghost use Rattle.std.specs.Option.{is_some};
@@ -11,8 +11,8 @@ ghost use Rattle.vx_leaves.specs.Leaves.{number_or_zero};
 use std::alloc::Global;
 use vx_base::{NativePType, VortexError};
 
-// How many bytes are added where there is no room, which are cleared and are still near when they are
-// written, and how many of them a number takes at most.
+// How many bytes are added at most where there is no room, which are cleared and are still near when
+// they are written, and how many of them a number takes at most.
 const BLOCK: usize = 1024;
 
 const WIDEST: usize = 8;
@@ -84,7 +84,7 @@ fn number_or_zero<T: NativePType>(item: Option<T>) -> T
     }
 }
 
-// Makes room for a number after the first bytes.
+// Makes room for a number after the first bytes: twice as much as there is, up to a block.
 #[inline]
 pub(crate) fn make_room(bytes: &mut Vec<u8>, filled: usize) -> Result<(), VortexError>
     requires { filled ≤ length bytes.old.items }
@@ -93,7 +93,8 @@ pub(crate) fn make_room(bytes: &mut Vec<u8>, filled: usize) -> Result<(), Vortex
 {
     let len = bytes.len();
     if len - filled < WIDEST {
-        bytes.resize(len + BLOCK, 0)?;
+        let more = if len < BLOCK { len + WIDEST } else { BLOCK };
+        bytes.resize(len + more, 0)?;
     }
     Ok(())
 }
