@@ -89,6 +89,7 @@ impl<T: NativePType + Drop> IntoArray for BufferMut<T> {
     ghost becomes = { λ b t. AreNumbers T.PTYPE (map T.value b) t };
 
     fn into_array(self, alloc: Global) -> Result<ArrayRef, VortexError> {
-        self.freeze()?.into_array(alloc)
+        let numbers = self.freeze()?;
+        numbers.into_array(alloc)
     }
 }
