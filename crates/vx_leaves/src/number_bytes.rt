@@ -11,8 +11,8 @@ ghost use Rattle.vx_leaves.specs.Leaves.{number_or_zero};
 use std::alloc::Global;
 use vx_base::{NativePType, VortexError};
 
-// How many bytes are added at most where there is no room, which are cleared and are still near when
-// they are written, and how many of them a number takes at most.
+// How many bytes are added at most where there is no room, which are cleared and are still near
+// when they are written, and how many of them a number takes at most.
 const BLOCK: usize = 1024;
 
 const WIDEST: usize = 8;

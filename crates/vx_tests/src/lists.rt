@@ -219,7 +219,8 @@ fn another_layout_comes_back(rt: HostRuntime) -> Result<(), Fail> {
     Ok(())
 }
 
-// The lists `[9]`, `[1]`, `[2]`, `[9]`, of which the middle two are left: flagged, over four elements.
+// The lists `[9]`, `[1]`, `[2]`, `[9]`, of which the middle two are left: flagged, over four
+// elements.
 fn flagged_middle(alloc: Global) -> Result<ListViewArray, VortexError> {
     let lists = view::<u8>(
         alloc,

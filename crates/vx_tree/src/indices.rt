@@ -23,9 +23,9 @@ use std::alloc::Global;
 use vx_base::{Mask, NativePType, PType, VortexError, call_native, int_at};
 
 impl ArrayRef {
-    /// The positions below `len` that the rows name, 0 for a null row. Asks integers. Refuses at the
-    /// first faulty valid row: `Negative` with the row, or `OutOfBounds` with the position. What
-    /// stands in a null row is not looked at.
+    /// The positions below `len` that the rows name, 0 for a null row. Asks integers. Refuses at
+    /// the first faulty valid row: `Negative` with the row, or `OutOfBounds` with the position.
+    /// What stands in a null row is not looked at.
     pub fn positions(&self, alloc: Global, len: usize) -> Result<Vec<usize>, VortexError>
         requires { is_integers (kind_of self.now) ≡ true }
         ensures ok { IfOk result (λ ps. ArePositions self.now len ps.items) }

@@ -61,8 +61,8 @@ impl ArrayRef {
         }
     }
 
-    // Rows of null of the data type of this in plain layout, by a validity that is nowhere true, in the
-    // state of this taken by it. Asks that this is in plain layout.
+    // Rows of null of the data type of this in plain layout, by a validity that is nowhere true, in
+    // the state of this taken by it. Asks that this is in plain layout.
     pub(crate) fn plain_nulls(
         &self,
         alloc: Global,

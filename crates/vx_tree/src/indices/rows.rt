@@ -6,7 +6,8 @@ ghost use Rattle.vx_base.specs.Integers.{numbers};
 use std::marker::Model;
 use vx_base::{PType, Selection};
 
-// The positions that indices name, where they lie: numbers, where none of them is null, else a list.
+// The positions that indices name, where they lie: numbers, where none of them is null, else a
+// list.
 #[derive(Drop)]
 pub(crate) struct Indices<'a> {
     form: Form<'a>,

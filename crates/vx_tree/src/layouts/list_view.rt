@@ -1,6 +1,7 @@
 // Lists that lie anywhere among shared elements.
 
-ghost use Rattle.std.specs.Prelude.{◌≡◌, ◌<◌, ◌≤◌, ◌≤ℤ◌, ◌*◌, ◌%◌, ◌-◌, ℕ, List, true, false, IfOk, ◌+◌, ◌^◌, ◌++◌, pos, unsigned_abs, length, map};
+ghost use Rattle.std.specs.Prelude.{◌≡◌, ◌<◌, ◌≤◌, ◌≤ℤ◌, ◌*◌, ◌%◌, ◌-◌, ℕ, List, true, false, IfOk, ◌+◌, ◌^◌, ◌++◌, pos};
+ghost use Rattle.std.specs.Prelude.{unsigned_abs, length, map};
 ghost use Rattle.vx_base.specs.Refusals.{Gives, Refuses};
 ghost use Rattle.std.specs.List.{All};
 ghost use Rattle.vx_base.specs.Integers.{numbers};
@@ -9,7 +10,8 @@ ghost use Rattle.vx_base.specs.Rows.{count_in};
 ghost use Rattle.vx_base.specs.ValueRows.{row_under};
 ghost use Rattle.vx_tree.specs.Tree.{list_view};
 ghost use Rattle.vx_tree.specs.Layouts.{is_list_view, is_primitive};
-ghost use Rattle.vx_tree.specs.Joined.{joined_len, elements_in, counts_in, offsets_from, joined_sizes, AreLists, IsCountsOf, IsJoined, IsValidJoined};
+ghost use Rattle.vx_tree.specs.Joined.{joined_len, elements_in, counts_in, offsets_from, joined_sizes, AreLists, IsCountsOf};
+ghost use Rattle.vx_tree.specs.Joined.{IsJoined, IsValidJoined};
 ghost use Rattle.vx_base.specs.Kinds.{lists};
 ghost use Rattle.vx_tree.specs.Meaning.{tree_len, kind_of, row_at, is_valid_at, nullable};
 ghost use Rattle.vx_tree.specs.Formed.{ValidFits, IsCounts, WellFormed};
@@ -277,7 +279,8 @@ fn add_counts(counts: &ArrayRef, base: usize, out: &mut Vec<u8>) -> Result<(), V
     requires short { All (λ n. base + n < 2 ^ 64) (counts_in counts.now) }
     requires whole { length out.old.items % 8 ≡ 0 }
     ensures whole { length out.new.items % 8 ≡ 0 }
-    ensures numbers { Gives result (λ _. numbers U64 out.new.items ≡ numbers U64 out.old.items ++ map (λ n. pos (base + n)) (counts_in counts.now)) }
+    ensures numbers { Gives result (λ _. numbers U64 out.new.items
+        ≡ numbers U64 out.old.items ++ map (λ n. pos (base + n)) (counts_in counts.now)) }
 {
     let Layout::Primitive { ptype, bytes, .. } = counts.layout() else {
         unreachable!();
@@ -297,7 +300,8 @@ fn add_numbers(
     requires short { All (λ z. base + unsigned_abs z < 2 ^ 64) (numbers ptype bytes.now) }
     requires whole { length out.old.items % 8 ≡ 0 }
     ensures whole { length out.new.items % 8 ≡ 0 }
-    ensures numbers { Gives result (λ _. numbers U64 out.new.items ≡ numbers U64 out.old.items ++ map (λ z. pos (base + unsigned_abs z)) (numbers ptype bytes.now)) }
+    ensures numbers { Gives result (λ _. numbers U64 out.new.items
+        ≡ numbers U64 out.old.items ++ map (λ z. pos (base + unsigned_abs z)) (numbers ptype bytes.now)) }
 {
     call_native!(ptype, add_sums(bytes, base, out))
 }
@@ -308,7 +312,8 @@ fn add_sums<T: NativePType>(bytes: &[u8], base: usize, out: &mut Vec<u8>) -> Res
     requires short { All (λ z. base + unsigned_abs z < 2 ^ 64) (numbers T.PTYPE bytes.now) }
     requires whole { length out.old.items % 8 ≡ 0 }
     ensures whole { length out.new.items % 8 ≡ 0 }
-    ensures numbers { Gives result (λ _. numbers U64 out.new.items ≡ numbers U64 out.old.items ++ map (λ z. pos (base + unsigned_abs z)) (numbers T.PTYPE bytes.now)) }
+    ensures numbers { Gives result (λ _. numbers U64 out.new.items
+        ≡ numbers U64 out.old.items ++ map (λ z. pos (base + unsigned_abs z)) (numbers T.PTYPE bytes.now)) }
 {
     let start = out.len();
     let more = number_count(bytes, T::PTYPE).saturating_mul(8);

@@ -26,9 +26,9 @@ use vx_base::{
 };
 
 impl ArrayRef {
-    /// Records, null where the validity is false: row `i` has the rows `i` of the columns, each under
-    /// the name at its place. Asks that there is one column a name, and that each column and the
-    /// validity have `len` rows. A name may stand more than once. The columns `[1, 2]` and
+    /// Records, null where the validity is false: row `i` has the rows `i` of the columns, each
+    /// under the name at its place. Asks that there is one column a name, and that each column and
+    /// the validity have `len` rows. A name may stand more than once. The columns `[1, 2]` and
     /// `[true, false]` under the names a and b are the records `{a:1,b:true}`, `{a:2,b:false}`.
     pub fn structure(
         alloc: Global,

@@ -1,6 +1,7 @@
 // Texts and byte lists, each by its view.
 
-ghost use Rattle.std.specs.Prelude.{◌≡◌, ◌<◌, ◌≤◌, ◌+◌, ◌-◌, ◌^◌, ◌++◌, ℕ, true, false, [], length, map, slice_index_or, Some, MatchOption, IfOk};
+ghost use Rattle.std.specs.Prelude.{◌≡◌, ◌<◌, ◌≤◌, ◌+◌, ◌-◌, ◌^◌, ◌++◌, ℕ, true, false, [], length, map, slice_index_or, Some};
+ghost use Rattle.std.specs.Prelude.{MatchOption, IfOk};
 ghost use Rattle.std.specs.List.{All, range_with_len};
 ghost use Rattle.vx_base.specs.Refusals.{Gives, Refuses, Tests};
 ghost use Rattle.vx_base.specs.DTypes.{dtype_meaning};
@@ -59,8 +60,8 @@ impl ArrayRef {
         )
     }
 
-    // The texts or the byte lists of arrays, one array after another, under the validity of them; the
-    // buffers are shared, one array's after another's.
+    // The texts or the byte lists of arrays, one array after another, under the validity of them;
+    // the buffers are shared, one array's after another's.
     pub(crate) fn join_views(
         alloc: Global,
         dtype: &DType,
@@ -213,8 +214,8 @@ impl ArrayRef {
         ArrayRef::var_bin_view(alloc, views, buffers, dtype, validity)
     }
 
-    /// The bytes of row `i`, a text or a byte list, `None` where it is null: those in the view or in
-    /// the buffer, with no copy. Asks an array of views, and a row below the length.
+    /// The bytes of row `i`, a text or a byte list, `None` where it is null: those in the view or
+    /// in the buffer, with no copy. Asks an array of views, and a row below the length.
     #[tactic(auto, using(crate::proofs::ViewArrays::view_reads))]
     pub fn bytes_at(&self, i: usize) -> Option<&[u8]>
         requires layout { is_view_array self.now ≡ true }

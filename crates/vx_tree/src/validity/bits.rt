@@ -51,8 +51,8 @@ impl Validity {
         Ok(mask.all_true())
     }
 
-    /// Valid where the boolean is true: `AllValid` where all are, `AllInvalid` where none is, else an
-    /// array of them. Fails only for want of memory.
+    /// Valid where the boolean is true: `AllValid` where all are, `AllInvalid` where none is, else
+    /// an array of them. Fails only for want of memory.
     pub fn from_buffer(alloc: Global, bits: BitBuffer) -> Result<Validity, VortexError>
         ensures given { Gives result (λ v. valid_of v ≡ valid_from bits.bits all_valid) }
         ensures mask { IfOk result (λ v. valid_mask (valid_of v) (length bits.bits) ≡ bits.bits) }
@@ -60,8 +60,8 @@ impl Validity {
         Validity::from_bit_buffer(alloc, bits, Nullability::Nullable)
     }
 
-    /// Valid where the boolean is true: by the nullability where all are, `AllInvalid` where none is,
-    /// else an array of them. Fails only for want of memory.
+    /// Valid where the boolean is true: by the nullability where all are, `AllInvalid` where none
+    /// is, else an array of them. Fails only for want of memory.
     pub fn from_bit_buffer(
         alloc: Global,
         bits: BitBuffer,

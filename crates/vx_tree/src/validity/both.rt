@@ -17,9 +17,9 @@ use vx_base::VortexError;
 
 impl Validity {
     /// Valid where both are, nullable where either is: `NonNullable` of two of them, `AllInvalid`
-    /// where either is, the array of an array and a state without nulls, `AllValid` of other states,
-    /// and of two arrays an array. Refuses, of two arrays, `MismatchedTypes` where either is not one
-    /// of plain booleans, then `LengthMismatch`.
+    /// where either is, the array of an array and a state without nulls, `AllValid` of other
+    /// states, and of two arrays an array. Refuses, of two arrays, `MismatchedTypes` where either
+    /// is not one of plain booleans, then `LengthMismatch`.
     pub fn and(self, alloc: Global, rhs: Validity) -> Result<Validity, VortexError>
         ensures pair { IfOk result (λ w. (n : ℕ) → IsLenOf (valid_of self) n → IsLenOf (valid_of rhs) n
             → pair_of (valid_of w) n ≡ both_pairs (pair_of (valid_of self) n) (pair_of (valid_of rhs) n)) }

@@ -45,8 +45,8 @@ impl Validity {
     /// The rows of validities, one validity after another, each of so many rows: nothing of none,
     /// the state that all of them are where it is one without an array, and then no number of rows
     /// is looked at; else an array. Asks that an array has as many rows as stand beside it. Refuses
-    /// `MismatchedTypes` where an array is not one of plain booleans, then `Overflow` where the rows
-    /// are 2^64 or more. Two rows of `AllValid` and one of `AllInvalid` are true, true, false.
+    /// `MismatchedTypes` where an array is not one of plain booleans, then `Overflow` where the
+    /// rows are 2^64 or more. Two rows of `AllValid` and one of `AllInvalid` are true, true, false.
     #[tactic(auto, using(crate::proofs::Joins::lens_each))]
     pub fn concat(
         alloc: Global,

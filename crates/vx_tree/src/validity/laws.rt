@@ -22,8 +22,8 @@ pub fn and_has_a_unit()
     ensures { BothHasUnit }
 {}
 
-/// What `trivially_cast_nullability` gives, `cast_nullability` gives of the same length, and what it
-/// refuses, that refuses.
+/// What `trivially_cast_nullability` gives, `cast_nullability` gives of the same length, and what
+/// it refuses, that refuses.
 pub fn trivial_casts_are_casts()
     ensures { TrivialCasts }
 {}

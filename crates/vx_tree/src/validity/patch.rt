@@ -21,13 +21,14 @@ use vx_base::{BitBuffer, Mask, VortexError};
 
 impl Validity {
     /// `len` rows, overwritten one after another at the positions that the indices name, less the
-    /// offset, by the rows of the patches; of equal positions the last one wins. Two states that are
-    /// alike and no array stay, and nothing else is looked at. Else refuses `NullabilityMismatch`
-    /// where one is `NonNullable`, then `MismatchedTypes` where the indices are not integers that
-    /// take no null or an array is not one of plain booleans, then `LengthMismatch` where the array
-    /// has not `len` rows or the patches are not as many as the indices, then `PatchOutOfRange` at
-    /// the first index that is below the offset or whose position is not below `len`. All valid
-    /// rows, of which 2 and 4 are patched by true and false, are true, true, true, true, false.
+    /// offset, by the rows of the patches; of equal positions the last one wins. Two states that
+    /// are alike and no array stay, and nothing else is looked at. Else refuses
+    /// `NullabilityMismatch` where one is `NonNullable`, then `MismatchedTypes` where the indices
+    /// are not integers that take no null or an array is not one of plain booleans, then
+    /// `LengthMismatch` where the array has not `len` rows or the patches are not as many as the
+    /// indices, then `PatchOutOfRange` at the first index that is below the offset or whose
+    /// position is not below `len`. All valid rows, of which 2 and 4 are patched by true and false,
+    /// are true, true, true, true, false.
     pub fn patch(
         self,
         alloc: Global,

@@ -12,7 +12,8 @@ ghost use Rattle.vx_tree.specs.Parts.{valid_of};
 ghost use Rattle.vx_tree.specs.Faults.{take_fault, valid_type_fault};
 ghost use Rattle.vx_tree.specs.Formed.{ValidFits};
 ghost use Rattle.vx_tree.specs.Operations.{IsValidSlice, IsValidSelected};
-ghost use Rattle.vx_tree.specs.Validities.{opposite, IsOpposite, IsValidTaken, valid_position_fault, valid_slice_fault, valid_filter_fault, valid_take_fault};
+ghost use Rattle.vx_tree.specs.Validities.{opposite, IsOpposite, IsValidTaken, valid_position_fault, valid_slice_fault};
+ghost use Rattle.vx_tree.specs.Validities.{valid_filter_fault, valid_take_fault};
 
 use crate::array::{ArrayRef, Validity};
 use crate::validity::{nowhere_true, told_by};
@@ -71,9 +72,9 @@ impl Validity {
         self.is_null(alloc, i)
     }
 
-    /// The validity of the rows from `range.start` up to `range.end`. A state without an array stays,
-    /// whatever the range. Refuses `MismatchedTypes` where the array is not one of plain booleans,
-    /// then as slicing it does.
+    /// The validity of the rows from `range.start` up to `range.end`. A state without an array
+    /// stays, whatever the range. Refuses `MismatchedTypes` where the array is not one of plain
+    /// booleans, then as slicing it does.
     pub fn slice(&self, alloc: Global, range: Range<usize>) -> Result<Validity, VortexError>
         ensures sliced { IfOk result (λ w. IsValidSlice (valid_of self.now) range.start (range.end - range.start) (valid_of w)) }
         ensures refuses { Refuses result (valid_slice_fault (valid_of self.now) range.start range.end) }
@@ -136,9 +137,9 @@ impl Validity {
     }
 
     /// The validity of the rows at these indices: valid where the index is not null and the row is
-    /// valid. `NonNullable` and `AllValid` take the validity of the indices, and `AllInvalid` stays;
-    /// then the indices are not looked at. Refuses `MismatchedTypes` where the array is not one of
-    /// plain booleans, then as taking from it does.
+    /// valid. `NonNullable` and `AllValid` take the validity of the indices, and `AllInvalid`
+    /// stays; then the indices are not looked at. Refuses `MismatchedTypes` where the array is not
+    /// one of plain booleans, then as taking from it does.
     pub fn take(&self, alloc: Global, indices: &ArrayRef) -> Result<Validity, VortexError>
         ensures taken { IfOk result (λ w. IsValidTaken (valid_of self.now) indices.now (valid_of w)) }
         ensures refuses { Refuses result (valid_take_fault (valid_of self.now) indices.now) }
