@@ -29,7 +29,7 @@ use Rattle.vx_tree.proofs.ViewArrays.{empty_is_zeroes}
 
 pub bools_blank : (t : Tree) (k : Kind) (m : Bool) (bits : List Bool) (v : Valid) (n : ℕ) → k ≡ booleans m → nullable v ≡ is_nullable_kind k → IsPlainValid v → t ≡ bools bits v → length bits ≡ n → IsBlank k n v t
 bools_blank t k m bits v n e may p a long =
-    rw a (record { len = long; kind = ap booleans (may ∙ ap is_nullable_kind e) ∙ sym e; plain = p; state = refl; extent = ap (λ c. rows_extent c []) (sym e); nulls = λ i l. null_row (is_valid_at v i) _ })
+    rw a (record { len = long; kind = ap booleans (may ∙ ap is_nullable_kind e) ∙ sym e; plain = p; state = refl; extent = ap (λ c. rows_extent c []) (sym e); flag = refl; nulls = λ i l. null_row (is_valid_at v i) _ })
 
 pub numbers_blank : (t : Tree) (k : Kind) (p : PType) (m : Bool) (bs : List ℕ) (v : Valid) (n : ℕ) → k ≡ integers p m → nullable v ≡ is_nullable_kind k → IsPlainValid v → t ≡ primitive p bs v
     → numbers p bs ≡ map pos (replicate n 0) → IsBlank k n v t
@@ -40,6 +40,7 @@ numbers_blank t k p m bs v n e may plain a zeroes =
       plain = plain;
       state = refl;
       extent = ap (λ c. rows_extent c []) (sym e);
+      flag = refl;
       nulls = λ i l. null_row (is_valid_at v i) _;
     })
 
@@ -51,6 +52,7 @@ lists_blank t e o s k j m p q v n same may plain a x y z =
       plain = (x.plain, y.plain, z.plain, plain);
       state = refl;
       extent = (λ i. list_extent (x.len i) (x.extent i)) ∙ ap (λ c. rows_extent c []) (sym same);
+      flag = refl;
       nulls = λ i l. null_row (is_valid_at v i) _;
     })
 
@@ -62,6 +64,7 @@ fixed_lists_blank t e k j m size h v n same may plain a x =
       plain = (x.plain, plain);
       state = refl;
       extent = ap fixed_list_extent x.extent ∙ ap (λ c. rows_extent c []) (sym same);
+      flag = refl;
       nulls = λ i l. null_row (is_valid_at v i) _;
     })
 
@@ -109,6 +112,7 @@ struct_blank t k names ds rs m v n same may plain a x =
       plain = (blank_plain ds n rs x, plain);
       state = refl;
       extent = ap struct_extent (blank_extents 0 ds n rs x) ∙ ap (λ c. rows_extent c []) (sym same);
+      flag = refl;
       nulls = λ i l. null_row (is_valid_at v i) _;
     })
 
@@ -146,6 +150,7 @@ views_blank t ws k v n same plain a e =
       plain = plain;
       state = refl;
       extent = none_buffered (is_texts k) (nullable v) ∙ ap (λ c. rows_extent c []) (sym same);
+      flag = refl;
       nulls = λ i l. null_row (is_valid_at v i) _;
     })
 
@@ -164,6 +169,7 @@ plain_nulls_made t r u x y w n of nulls same blank =
       kind = blank.kind;
       plain = blank.plain;
       extent = blank.extent;
+      flag = blank.flag;
       state = blank.state ∙ same.state ∙ nulls.state ∙ ap (λ s. taken_state s (state_of u)) of.state;
       rows = λ i l. blank.nulls i l (same.bits i l ∙ nulls.bits i l);
     }
@@ -188,6 +194,7 @@ null_canonical k n r may h =
       plain = h.plain;
       state = h.state;
       extent = h.extent ∙ sym (null_extent k (nat_lt 0 n));
+      flag = h.flag;
       kept = tt;
     }
 

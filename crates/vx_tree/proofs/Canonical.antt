@@ -56,6 +56,7 @@ bools_canonical t r bits v w a b h =
       plain = h.plain;
       state = h.state;
       extent = refl;
+      flag = refl;
       kept = tt;
     })
 
@@ -66,6 +67,7 @@ numbers_canonical t r p bs v w a b h =
       plain = h.plain;
       state = h.state;
       extent = refl;
+      flag = refl;
       kept = tt;
     })
 
@@ -82,6 +84,7 @@ views_canonical t r vs bs k v w a b h =
       plain = h.plain;
       state = h.state;
       extent = refl;
+      flag = refl;
       kept = (refl, refl);
     })
 
@@ -98,6 +101,7 @@ fixed_lists_canonical t r e d k n v w a b long x h =
       plain = (x.plain, h.plain);
       state = h.state;
       extent = ap fixed_list_extent x.extent;
+      flag = refl;
       kept = tt;
     })
 
@@ -141,7 +145,8 @@ lists_canonical t r e o s d p q v w f a b view x y z h =
       plain = (x.plain, y.plain, z.plain, h.plain);
       state = h.state;
       extent = λ i. list_extent (x.same.len i) (x.extent i);
-      kept = (refl, x.same, y.same, z.same);
+      flag = refl;
+      kept = (x.same, y.same, z.same);
     })
 
 -- ---- records
@@ -188,6 +193,7 @@ struct_canonical t r ns ts us v w n a b x h =
       plain = (x.plain, h.plain);
       state = h.state;
       extent = ap struct_extent x.extents;
+      flag = refl;
       kept = tt;
     })
 

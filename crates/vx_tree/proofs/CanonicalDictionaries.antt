@@ -15,6 +15,7 @@ use Rattle.vx_tree.specs.Canonical.{IsCanonical, IsCanonicalValid, IsPlainNulls}
 use Rattle.vx_tree.proofs.RowNames.{rows_extent-or_nullable}
 use Rattle.vx_tree.proofs.Canonical.{same_nullable}
 use Rattle.vx_tree.proofs.Dictionaries.{state_of_nulled, state_of_selected}
+use Rattle.vx_tree.proofs.Flags.{flag_of_nulled, flag_of_selected}
 
 picked_row : (f : ℕ → Row) (k : ℕ) (b : Bool) (p : Option ℕ) → b ≡ is_some p → k ≡ or_zero p → (if b then f k else null) ≡ picked f p
 picked_row f k b None e same = rw e refl
@@ -36,6 +37,7 @@ named_values c v s r ps x w plain some codes h are selected nulled =
       plain = nulled.plain (selected.plain plain) h.plain;
       state = state_of_nulled s r w nulled ∙ (λ i. taken_state (state_of_selected v s ps selected i) ((h.state ∙ codes.state) i));
       extent = nulled.extent (selected.plain plain) ∙ selected.extent plain ∙ ap (λ b. if b then extent_of v else rows_extent (kind_of v) []) (sym (lt-ltb 0 (tree_len v) some));
+      flag = flag_of_nulled s r w nulled (flag_of_selected v s ps selected);
       kept = tt;
     }
 
@@ -62,6 +64,7 @@ named_none c v r x w d none codes h nulls =
       plain = nulls.plain;
       state = nulls.state ∙ ap (taken_state (tree_state v)) (h.state ∙ codes.state);
       extent = nulls.extent ∙ rows_extent-or_nullable (nullable w) (kind_of v) [] ∙ ap (λ n. if nat_lt 0 n then extent_of v else rows_extent (kind_of v) []) (sym none);
+      flag = nulls.flag;
       kept = tt;
     }
 
@@ -87,6 +90,7 @@ dictionary_canonical t r c v w f a d x h =
       plain = h.plain;
       state = h.state ∙ ap (λ s. taken_state s (tree_state c)) x.state;
       extent = h.extent ∙ (λ i. if nat_lt 0 (x.same.len i) then x.extent i else rows_extent (x.same.kind i) []);
+      flag = h.flag;
       kept = tt;
     })
 

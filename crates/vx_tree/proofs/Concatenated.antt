@@ -16,7 +16,8 @@ use Rattle.vx_tree.specs.Shapes.{tree_state}
 use Rattle.vx_tree.specs.Plain.{IsPlain}
 use Rattle.vx_tree.specs.Fitting.{AllFormed}
 use Rattle.vx_tree.specs.Canonical.{IsCanonical, columns_fault}
-use Rattle.vx_tree.specs.Joined.{joined_len, joined_state, joined_states, is_flagged, joined_row, parts_join_fault, join_fault, IsJoined, AreJoinable}
+use Rattle.vx_tree.specs.Flags.{is_flagged}
+use Rattle.vx_tree.specs.Joined.{joined_len, joined_state, joined_states, joined_row, parts_join_fault, join_fault, IsJoined, AreJoinable}
 use Rattle.vx_tree.specs.Extents.{extent_of}
 use Rattle.vx_tree.specs.Concatenated.{are_alike, given_fault, extents_fault, plain_fault, concat_fault}
 use Rattle.vx_tree.proofs.RowLists.{length-rows, get_or-rows}

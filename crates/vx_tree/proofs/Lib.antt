@@ -17,6 +17,7 @@ pub mod Values
 pub mod Worked
 pub mod WorkedViews
 pub mod Composed
+pub mod Flags
 pub mod Canonical
 pub mod PlainKinds
 pub mod RowNames

@@ -309,6 +309,7 @@ lists_made t e o s k m v vs ws os ns valid x elements places sizes a =
       state = refl;
       extent =
           (λ i. list_extent ((elements.len ∙ sym (length-map ws option_row)) i) (elements.extent i)) ∙ ap (λ qs. list_extent (length qs) (rows_extent k qs)) x.items;
+      flag = refl;
       rows = λ i l fits.
           let inside : i < length rs = rw (length-map vs option_row) l in
           let from : count_in (row_at o i) ≡ length (flat_map items_in (take i rs)) = ap count_in (places.rows i (omega (arith, l, olen, places.len))) ∙ ap (λ (xs : List ℕ). slice_index xs i) x.places ∙ place_at rs i inside in
@@ -366,6 +367,7 @@ fixed_lists_made t e k size n m v vs ws valid long same all elements a =
       plain = (elements.plain, values_valid-plain m vs);
       state = refl;
       extent = ap fixed_list_extent (elements.extent ∙ ap (rows_extent k) same);
+      flag = refl;
       rows = λ i l fits.
           let inside : i < length rs = rw (length-map vs option_row) l in
           let sized = all_sized k size m vs all in
@@ -511,6 +513,7 @@ records_made t names ds m v vs ts n valid long x a =
       plain = (fields_plain 0 ds rs ts x, values_valid-plain m vs);
       state = refl;
       extent = ap struct_extent (fields_extents-of 0 ds rs ts x);
+      flag = refl;
       rows = λ i l fits.
           row_of_value (records names (dtype_kinds ds) m) vs i (record_of (fields_at (trees_from ts) names i)) l
           (λ y here h. record_row names ds m rs ts i y x (rw (length-map vs option_row) l) (raw_row vs i y l here) h)
@@ -630,6 +633,7 @@ none_canonical a k r vs e here x =
       plain = y.plain;
       extent = y.extent;
       state = y.state ∙ state_of_none (is_nullable_kind k) ∙ ap (λ b. if b then (if is_nullable_kind k then none_null else never_null) else every_null) (sym here);
+      flag = y.flag;
       kept = tt;
     }
 

@@ -234,6 +234,7 @@ texts_made-of u n t vs ws bs v e fit x a =
       kind = refl;
       plain = values_valid-plain n vs;
       extent = ap (λ xs. view_extent (length xs)) x.buffers ∙ texts_extent u n vs;
+      flag = refl;
       state = ap (λ b. state_of (values_valid b vs)) (sym isn);
       rows = λ i l fits.
           let k = value_kind u n in

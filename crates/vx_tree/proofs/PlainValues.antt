@@ -27,6 +27,7 @@ use Rattle.vx_tree.specs.PlainValues.{truth_in, number_or_zero, FitsIfThere, val
 use Rattle.vx_tree.specs.Extents.{rows_extent}
 use Rattle.vx_tree.proofs.RowNames.{named_null, rows_extent-named}
 use Rattle.vx_tree.proofs.Dictionaries.{state_of_selected}
+use Rattle.vx_tree.proofs.Flags.{flag_of_selected}
 use Rattle.vx_tree.proofs.Validities.{valid_from-mask}
 
 -- ---- the validity
@@ -97,6 +98,7 @@ truths_rows t m bits v vs e a same =
       plain = values_valid-plain m vs;
       state = refl;
       extent = refl;
+      flag = refl;
       rows = λ i l fits.
           let bit : bool_at bits i ≡ truth_in (slice_index_or vs i None) = ap (λ (bs : List Bool). bool_at bs i) same ∙ get_or-map truth_in vs i None false l in
           row_of_value (booleans m) vs i (boolean (bool_at bits i)) l (λ x here h. ap boolean (bit ∙ ap truth_in here) ∙ truth_row m x h) refl (λ h. h) fits;
@@ -127,6 +129,7 @@ numbers_made t k p bs v vs kind e a same = subst (λ x. ArePlainValues x vs t) (
           plain = values_valid-plain m vs;
           state = refl;
           extent = refl;
+          flag = refl;
           rows = λ i l fits.
               let number : number_of_position (numbers p bs) i ≡ number_or_zero (slice_index_or vs i None) = ap (λ (zs : List ℤ). number_of_position zs i) same ∙ get_or-map number_or_zero vs i None (pos 0) l in
               row_of_value (integers p m) vs i (whole (number_of_position (numbers p bs) i)) l (λ x here h. ap whole (number ∙ ap number_or_zero here) ∙ number_row p m x h) refl (λ h. h) fits;
@@ -207,6 +210,7 @@ one_canonical t k r v e fits even h =
       plain = h.plain;
       state = h.state ∙ state_of_one k v here ∙ ap (row_state k) e;
       extent = h.extent ∙ sym (rows_extent-named k (option_row v ∷ []) even) ∙ ap (λ x. rows_extent k (x ∷ [])) e;
+      flag = h.flag;
       kept = tt;
     }
   where
@@ -233,6 +237,7 @@ constant_canonical t a b k r n ps e some x same h =
       plain = h.plain x.plain;
       state = state_of_selected a b ps h ∙ x.state;
       extent = h.extent x.plain ∙ x.extent ∙ ap (λ b. rows_extent k (if b then r ∷ [] else [])) (sym (lt-ltb 0 n some));
+      flag = flag_of_selected a b ps h;
       kept = tt;
     })
 

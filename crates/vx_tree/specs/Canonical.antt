@@ -11,6 +11,7 @@ use Rattle.vx_tree.specs.Tree.{Tree, bools, primitive, constant, dictionary, fix
 use Rattle.vx_tree.specs.Tree.{view_array, Trees, no_trees, tree, Valid}
 use Rattle.vx_tree.specs.Meaning.{tree_len, kind_of, row_at, is_valid_at}
 use Rattle.vx_tree.specs.Shapes.{State, state_of, tree_state}
+use Rattle.vx_tree.specs.Flags.{is_flagged, kept_flag}
 use Rattle.vx_tree.specs.Formed.{ValidFits}
 use Rattle.vx_tree.specs.Plain.{IsPlain, ArePlain, IsPlainValid}
 use Rattle.vx_tree.specs.Columns.{AreRowsAt}
@@ -23,20 +24,21 @@ pub record HasRowsOf (t r : Tree) : Type 0 where
   pub kind : kind_of r ≡ kind_of t
   pub rows : (i : ℕ) → i < tree_len t → row_at r i ≡ row_at t i
 
--- a list view keeps its numbers, its flag and the rows of its elements, a view array its views and buffers
+-- a list view keeps its numbers and the rows of its elements, a view array its views and buffers
 abbrev pub KeepsParts : Tree → Tree → Type 0
-KeepsParts (list_view e o s v f) (list_view e2 o2 s2 w g) = (g ≡ f) × HasRowsOf e e2 × HasRowsOf o o2 × HasRowsOf s s2
+KeepsParts (list_view e o s v f) (list_view e2 o2 s2 w g) = HasRowsOf e e2 × HasRowsOf o o2 × HasRowsOf s s2
 KeepsParts (list_view e o s v f) _ = ⊥
 KeepsParts (view_array vs bs k v) (view_array ws cs k2 w) = (ws ≡ vs) × (cs ≡ bs)
 KeepsParts (view_array vs bs k v) _ = ⊥
 KeepsParts _ _ = Unit {0}
 
--- the same rows in plain layout, in the same state and of the same extent
+-- the same rows in plain layout, in the same state and of the same extent: a list view keeps its flag, and none is set else
 pub record IsCanonical (t r : Tree) : Type 0 where
   pub same : HasRowsOf t r
   pub plain : IsPlain r
   pub state : tree_state r ≡ tree_state t
   pub extent : extent_of r ≡ extent_of t
+  pub flag : is_flagged r ≡ kept_flag t
   pub kept : KeepsParts t r
 
 -- n rows of each column, in plain layout
@@ -91,13 +93,14 @@ abbrev mutual
   columns_fault no_trees = None
   columns_fault (tree t ts) = or_else (canonical_fault t) (columns_fault ts)
 
--- n rows of a kind in plain layout, of which a validity is known: no list has elements, no text a buffer
+-- n rows of a kind in plain layout, of which a validity is known: no list has elements, no text a buffer, no flag is set
 pub record IsBlank (k : Kind) (n : ℕ) (v : Valid) (r : Tree) : Type 0 where
   pub len : tree_len r ≡ n
   pub kind : kind_of r ≡ k
   pub plain : IsPlain r
   pub state : tree_state r ≡ state_of v
   pub extent : extent_of r ≡ rows_extent k []
+  pub flag : is_flagged r ≡ false
   pub nulls : (i : ℕ) → i < n → is_valid_at v i ≡ false → row_at r i ≡ null
 
 -- n rows of a kind in plain layout
@@ -118,4 +121,5 @@ pub record IsPlainNulls (k : Kind) (n : ℕ) (s : State) (r : Tree) : Type 0 whe
   pub plain : IsPlain r
   pub state : tree_state r ≡ s
   pub extent : extent_of r ≡ rows_extent k []
+  pub flag : is_flagged r ≡ false
   pub rows : (i : ℕ) → i < n → row_at r i ≡ null

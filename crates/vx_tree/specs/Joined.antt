@@ -18,6 +18,7 @@ use Rattle.vx_tree.specs.Formed.{ValidFits, IsCounts, AllLen, column_count}
 use Rattle.vx_tree.specs.Shapes.{State, never_null, none_null, every_null, told, state_of, tree_state}
 use Rattle.std.specs.List.{All, flat_map, range_with_len}
 use Rattle.vx_tree.specs.Layouts.{is_primitive, is_fixed_list, is_list_view, is_struct, is_view_array}
+use Rattle.vx_tree.specs.Flags.{is_flagged}
 use Rattle.vx_tree.specs.Fitting.{AllFormed, AreViews}
 use Rattle.vx_tree.specs.PlainValues.{buffers_overflow}
 use Rattle.vx_tree.specs.Plain.{IsPlain, IsPlainValid}
@@ -51,12 +52,6 @@ abbrev pub joined_state : List Tree → State
 joined_state [] = told
 joined_state (t ∷ []) = tree_state t
 joined_state (t ∷ u ∷ ts) = joined_states (tree_state t) (joined_state (u ∷ ts))
-
--- the flag of a list view or of a dictionary is set
-abbrev pub is_flagged : Tree → Bool
-is_flagged (list_view e o s v f) = f
-is_flagged (dictionary c v f) = f
-is_flagged _ = false
 
 -- the rows of arrays, one array after another, in plain layouts
 pub record IsJoined (k : Kind) (ts : List Tree) (r : Tree) : Type 0 where

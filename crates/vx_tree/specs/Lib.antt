@@ -1,6 +1,7 @@
 pub mod Tree
 pub mod Meaning
 pub mod Shapes
+pub mod Flags
 pub mod Formed
 pub mod Parts
 pub mod Plain

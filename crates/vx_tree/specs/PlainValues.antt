@@ -14,6 +14,7 @@ use Rattle.vx_views.specs.Views.{view_of}
 use Rattle.vx_tree.specs.Tree.{Tree, Valid, non_nullable, all_valid}
 use Rattle.vx_tree.specs.Meaning.{tree_len, kind_of, row_at}
 use Rattle.vx_tree.specs.Shapes.{state_of, tree_state}
+use Rattle.vx_tree.specs.Flags.{is_flagged}
 use Rattle.vx_tree.specs.Validities.{valid_from}
 use Rattle.vx_tree.specs.Plain.{IsPlain}
 use Rattle.vx_tree.specs.RowParts.{field_in, is_long, is_long_row, items_in, items_or_nulls}
@@ -71,6 +72,7 @@ pub record ArePlainValues (k : Kind) (vs : List (Option ScalarValue)) (r : Tree)
   pub plain : IsPlain r
   pub state : tree_state r ≡ state_of (values_valid (is_nullable_kind k) vs)
   pub extent : extent_of r ≡ rows_extent k (map option_row vs)
+  pub flag : is_flagged r ≡ false
   pub rows : (i : ℕ) → i < length vs → Fits k (row_under k (slice_index_or vs i None))
       → row_at r i ≡ row_under k (slice_index_or vs i None)
 

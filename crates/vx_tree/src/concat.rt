@@ -7,7 +7,8 @@ ghost use Rattle.vx_base.specs.Refusals.{Refuses};
 ghost use Rattle.vx_tree.specs.Meaning.{kind_of, rows, trees_from};
 ghost use Rattle.vx_tree.specs.Shapes.{tree_state};
 ghost use Rattle.vx_tree.specs.Plain.{IsPlain};
-ghost use Rattle.vx_tree.specs.Joined.{joined_state, is_flagged};
+ghost use Rattle.vx_tree.specs.Joined.{joined_state};
+ghost use Rattle.vx_tree.specs.Flags.{is_flagged};
 ghost use Rattle.vx_tree.specs.Canonical.{IsCanonical, columns_fault};
 ghost use Rattle.vx_tree.specs.Concatenated.{are_alike, concat_fault};
 

@@ -17,7 +17,8 @@ impl ArrayRef {
     /// also not in a validity. A list view keeps its numbers, its flag and the rows of its
     /// elements, texts and byte lists their views and buffers; a constant list has its elements
     /// once, a constant text one buffer at most, however often they stand; a dictionary has the
-    /// elements and the buffers of its values, none if it has no values. Refuses by the first
+    /// elements and the buffers of its values, none if it has no values. Lists that a constant or
+    /// a dictionary becomes have the flag false. Refuses by the first
     /// fault of the parts in their order, the values of a dictionary first: a constant with
     /// `MismatchedTypes` where a record has not as many names as fields, then with `Overflow` where
     /// its row, if it stands at least once, or else all of its rows need more elements of lists of

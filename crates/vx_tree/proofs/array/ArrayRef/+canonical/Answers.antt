@@ -3,10 +3,11 @@ use Rattle.std.proofs.lemmas.Result.{err_from_is_err_and}
 use Rattle.vx_tree.specs.Parts.{tree_of, valid_of}
 use Rattle.vx_tree.specs.Meaning.{tree_len, trees_from}
 use Rattle.vx_tree.specs.Formed.{WellFormed}
-use Rattle.vx_tree.specs.Tree.{fixed_list, list_view, structure}
+use Rattle.vx_tree.specs.Tree.{dictionary, fixed_list, list_view, structure}
 use Rattle.vx_tree.specs.Canonical.{IsCanonical, IsCanonicalValid}
 use Rattle.vx_tree.proofs.Columns.{AllZip-next, columns_below}
 use Rattle.vx_tree.proofs.Canonical.{fixed_lists_canonical, lists_canonical, AreCanonical-from_each, columns_fault-next, columns_fault-all, columns_refused}
+use Rattle.vx_tree.proofs.CanonicalDictionaries.{dictionary_canonical}
 use Rattle.vx_tree.proofs.array.ArrayRef.+canonical.Goals as goal
 
 pub canonical_fixed_lists-returns-clause-ok : goal.canonical_fixed_lists-returns-clause-ok
@@ -25,6 +26,13 @@ canonical_list_view-returns-clause-ok t c =
     let valid : IsCanonicalValid (valid_of parts.validity) (tree_len parts.offsets) (valid_of c.in_ok-validity.validity) = rw c.len.ensures at c.in_ok-validity.ensures in
     lists_canonical c.args.self.now c.in_ok-lists.lists parts.elements parts.offsets parts.sizes c.in_ok-elements.elements c.in_ok-offsets.offsets c.in_ok-sizes.sizes (valid_of parts.validity) (valid_of c.in_ok-validity.validity) parts.flag
     same c.in_ok-lists.ensures formed.1 c.in_ok-elements.ensures.ok c.in_ok-offsets.ensures.ok c.in_ok-sizes.ensures.ok valid
+
+pub canonical_dictionary-returns-clause-ok : goal.canonical_dictionary-returns-clause-ok
+canonical_dictionary-returns-clause-ok t c =
+    let parts = c.in-Dict in
+    let same = sym c.layout.ensures.parts ∙ ap tree_of parts.is in
+    let formed : WellFormed (dictionary parts.codes parts.values parts.flag) = rw parts.is at c.layout.ensures.formed in
+    dictionary_canonical c.args.self.now c.in_ok-named.named parts.codes parts.values c.in_ok-values.values parts.flag same formed c.in_ok-values.ensures.ok c.in_ok-named.ensures.ok
 
 pub canonical_struct-canonical_columns-requires : goal.canonical_struct-canonical_columns-requires
 canonical_struct-canonical_columns-requires t c =
