@@ -18,6 +18,7 @@ pub mod Worked
 pub mod WorkedViews
 pub mod Composed
 pub mod Flags
+pub mod OneValue
 pub mod Canonical
 pub mod PlainKinds
 pub mod RowNames

@@ -2,6 +2,7 @@ pub mod Tree
 pub mod Meaning
 pub mod Shapes
 pub mod Flags
+pub mod OneValue
 pub mod Formed
 pub mod Parts
 pub mod Plain

@@ -5,6 +5,8 @@ ghost use Rattle.vx_base.specs.Kinds.{or_nullable};
 ghost use Rattle.vx_base.specs.Refusals.{Refuses};
 ghost use Rattle.vx_tree.specs.Tree.{by_array};
 ghost use Rattle.vx_tree.specs.Meaning.{tree_len, kind_of, rows};
+ghost use Rattle.vx_tree.specs.Layouts.{is_constant};
+ghost use Rattle.vx_tree.specs.OneValue.{HasOneValue};
 ghost use Rattle.vx_tree.specs.Shapes.{shape_of, nulled_shape, told};
 ghost use Rattle.vx_tree.specs.Faults.{validity_fault};
 ghost use Rattle.vx_tree.specs.Operations.{IsNulled, masked, truths};
@@ -24,6 +26,7 @@ impl ArrayRef {
         ensures kind { IfOk result (λ a. kind_of a ≡ or_nullable true (kind_of self.now)) }
         ensures shape { IfOk result (λ a. shape_of a ≡ nulled_shape (shape_of self.now) told) }
         ensures by_row { IfOk result (IsNulled self.now (by_array mask.now)) }
+        ensures one_value { is_constant self.now ≡ true → IfOk result HasOneValue }
         ensures refuses { Refuses result (validity_fault (by_array mask.now) (tree_len self.now)) }
     {
         let nulls = Validity::Array(mask.try_clone(alloc)?);

@@ -1,8 +1,10 @@
 // Rows that become null where a validity is not true.
 
-ghost use Rattle.std.specs.Prelude.{◌≡◌, ◌<◌, ℕ, false, None};
+ghost use Rattle.std.specs.Prelude.{◌≡◌, ◌<◌, ℕ, true, false, None, IfOk};
 ghost use Rattle.vx_base.specs.Refusals.{Gives};
 ghost use Rattle.vx_tree.specs.Meaning.{tree_len, is_valid_at};
+ghost use Rattle.vx_tree.specs.Layouts.{is_constant};
+ghost use Rattle.vx_tree.specs.OneValue.{HasOneValue};
 ghost use Rattle.vx_tree.specs.Formed.{ValidFits};
 ghost use Rattle.vx_tree.specs.Parts.{valid_of};
 ghost use Rattle.vx_tree.specs.Faults.{take_overflow};
@@ -18,7 +20,8 @@ impl ArrayRef {
     #[cycle(nulls)]
     pub(crate) fn nulled(&self, alloc: Global, nulls: &Validity) -> Result<ArrayRef, VortexError>
         requires fits { ValidFits (valid_of nulls.now) (tree_len self.now) }
-        ensures { Gives result (IsNulled self.now (valid_of nulls.now)) }
+        ensures by_row { Gives result (IsNulled self.now (valid_of nulls.now)) }
+        ensures one_value { is_constant self.now ≡ true → IfOk result HasOneValue }
     {
         match self.layout() {
             Layout::Bool { .. } => self.nulled_bools(alloc, nulls),
@@ -45,7 +48,8 @@ impl ArrayRef {
         requires fits { ValidFits (valid_of nulls.now) len }
         requires none { (i : ℕ) → i < len → is_valid_at (valid_of nulls.now) i ≡ false }
         requires countable { take_overflow self.now len ≡ None }
-        ensures { Gives result (IsNulls self.now len (valid_of nulls.now)) }
+        ensures by_row { Gives result (IsNulls self.now len (valid_of nulls.now)) }
+        ensures one_value { is_constant self.now ≡ true → IfOk result HasOneValue }
     {
         match self.layout() {
             Layout::Bool { .. } => self.null_bools(alloc, len, nulls),

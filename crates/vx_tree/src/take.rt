@@ -1,9 +1,11 @@
 // Rows of an array at indices.
 
-ghost use Rattle.std.specs.Prelude.{◌≡◌, ◌<◌, ℕ, false, length, IfOk};
+ghost use Rattle.std.specs.Prelude.{◌≡◌, ◌<◌, ℕ, true, false, length, IfOk};
 ghost use Rattle.vx_base.specs.Refusals.{Refuses};
 ghost use Rattle.vx_base.specs.Kinds.{is_nullable_kind, or_nullable};
 ghost use Rattle.vx_tree.specs.Meaning.{tree_len, kind_of, rows, is_valid_at};
+ghost use Rattle.vx_tree.specs.Layouts.{is_constant};
+ghost use Rattle.vx_tree.specs.OneValue.{HasOneValue};
 ghost use Rattle.vx_tree.specs.Shapes.{tree_state, shape_of, taken_shape};
 ghost use Rattle.vx_tree.specs.Formed.{ValidFits};
 ghost use Rattle.vx_tree.specs.Parts.{valid_of};
@@ -28,6 +30,7 @@ impl ArrayRef {
         ensures rows { IfOk result (λ a. rows a ≡ picks (rows self.now) (positions (rows indices.now))) }
         ensures kind { IfOk result (λ a. kind_of a ≡ or_nullable (is_nullable_kind (kind_of indices.now)) (kind_of self.now)) }
         ensures shape { IfOk result (λ a. shape_of a ≡ taken_shape (shape_of self.now) (tree_state indices.now)) }
+        ensures one_value { is_constant self.now ≡ true → IfOk result HasOneValue }
         ensures refuses { Refuses result (take_fault self.now indices.now) }
     {
         if !indices.dtype().is_int() {
@@ -50,6 +53,7 @@ impl ArrayRef {
         requires below { 0 < tree_len self.now → AreBelow (tree_len self.now) positions.now }
         requires none { tree_len self.now ≡ 0 → (i : ℕ) → i < length positions.now → is_valid_at (valid_of nulls.now) i ≡ false }
         ensures taken { IfOk result (IsTakenAt self.now positions.now (valid_of nulls.now)) }
+        ensures one_value { is_constant self.now ≡ true → IfOk result HasOneValue }
         ensures refuses { Refuses result (take_overflow self.now (length positions.now)) }
     {
         let selection = positions.selection();

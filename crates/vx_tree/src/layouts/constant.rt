@@ -9,6 +9,7 @@ ghost use Rattle.vx_base.specs.Refusals.{Gives, Refuses, or_else};
 ghost use Rattle.vx_base.specs.ValueRows.{row_under};
 ghost use Rattle.vx_tree.specs.Tree.{constant};
 ghost use Rattle.vx_tree.specs.Layouts.{is_constant};
+ghost use Rattle.vx_tree.specs.OneValue.{HasOneValue};
 ghost use Rattle.vx_tree.specs.Meaning.{tree_len, kind_of, row_at, is_valid_at, nullable};
 ghost use Rattle.vx_tree.specs.Shapes.{state_of, row_state};
 ghost use Rattle.vx_tree.specs.Formed.{ValidFits};
@@ -73,7 +74,8 @@ impl ArrayRef {
     ) -> Result<ArrayRef, VortexError>
         requires layout { is_constant self.now ≡ true }
         requires fits { ValidFits (valid_of nulls.now) (tree_len self.now) }
-        ensures { Gives result (IsNulled self.now (valid_of nulls.now)) }
+        ensures by_row { Gives result (IsNulled self.now (valid_of nulls.now)) }
+        ensures one_value { IfOk result HasOneValue }
     {
         let Layout::Constant { scalar, len } = self.layout() else {
             unreachable!();
@@ -90,7 +92,8 @@ impl ArrayRef {
         requires layout { is_constant self.now ≡ true }
         requires fits { ValidFits (valid_of nulls.now) len }
         requires none { (i : ℕ) → i < len → is_valid_at (valid_of nulls.now) i ≡ false }
-        ensures { Gives result (IsNulls self.now len (valid_of nulls.now)) }
+        ensures by_row { Gives result (IsNulls self.now len (valid_of nulls.now)) }
+        ensures one_value { IfOk result HasOneValue }
     {
         let Layout::Constant { scalar, .. } = self.layout() else {
             unreachable!();
@@ -149,7 +152,7 @@ impl ArrayRef {
 
 // The row `len` times, null where this validity is not true: a constant where null may not stand
 // under it, else a dictionary of the one row.
-#[tactic(auto, using(crate::proofs::Dictionaries::constants))]
+#[tactic(auto, using(crate::proofs::Dictionaries::constants, crate::proofs::OneValue::one_values))]
 fn constant_or_null(
     alloc: Global,
     scalar: &Scalar,
@@ -157,7 +160,8 @@ fn constant_or_null(
     nulls: &Validity,
 ) -> Result<ArrayRef, VortexError>
     requires { ValidFits (valid_of nulls.now) len }
-    ensures { Gives result (IsNulled (constant scalar.now.kind scalar.now.row len) (valid_of nulls.now)) }
+    ensures by_row { Gives result (IsNulled (constant scalar.now.kind scalar.now.row len) (valid_of nulls.now)) }
+    ensures one_value { IfOk result HasOneValue }
 {
     let row = scalar.try_clone(alloc)?;
     if !nulls.is_nullable() {

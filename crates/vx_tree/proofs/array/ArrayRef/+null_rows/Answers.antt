@@ -8,9 +8,9 @@ pub null_codes-returns : goal.null_codes-returns
 null_codes-returns t c =
     let same = sym c.layout.ensures.parts ∙ ap tree_of c.in-Dict.is in
     Gives-weaker c.dictionary.result _ _
-    (λ a e. dictionary_nulls c.args.self.now a c.in-Dict.codes c.in-Dict.values c.in_ok-codes.codes c.in-Dict.flag c.args.len (valid_of c.args.nulls.now) same (rw c.in_ok-values.ensures at e) c.in_ok-codes.ensures)
+    (λ a e. dictionary_nulls c.args.self.now a c.in-Dict.codes c.in-Dict.values c.in_ok-codes.codes c.in-Dict.flag c.args.len (valid_of c.args.nulls.now) same (rw c.in_ok-values.ensures at e) c.in_ok-codes.ensures.by_row)
     c.dictionary.ensures
 
 pub null_codes-dictionary-requires : goal.null_codes-dictionary-requires
 null_codes-dictionary-requires t c =
-    rw c.in_ok-values.ensures (codes_null c.in-Dict.codes c.in-Dict.values c.in_ok-codes.codes c.in-Dict.flag c.args.len (valid_of c.args.nulls.now) (rw c.in-Dict.is at c.layout.ensures.formed) c.in_ok-codes.ensures)
+    rw c.in_ok-values.ensures (codes_null c.in-Dict.codes c.in-Dict.values c.in_ok-codes.codes c.in-Dict.flag c.args.len (valid_of c.args.nulls.now) (rw c.in-Dict.is at c.layout.ensures.formed) c.in_ok-codes.ensures.by_row)

@@ -8,9 +8,9 @@ pub nulled_dictionary-returns : goal.nulled_dictionary-returns
 nulled_dictionary-returns t c =
     let same = sym c.layout.ensures.parts ∙ ap tree_of c.in-Dict.is in
     Gives-weaker c.dictionary.result _ _
-    (λ a e. dictionary_nulled c.args.self.now a c.in-Dict.codes c.in-Dict.values c.in_ok-codes.codes c.in-Dict.flag (valid_of c.args.nulls.now) same (rw c.in_ok-values.ensures at e) c.in_ok-codes.ensures)
+    (λ a e. dictionary_nulled c.args.self.now a c.in-Dict.codes c.in-Dict.values c.in_ok-codes.codes c.in-Dict.flag (valid_of c.args.nulls.now) same (rw c.in_ok-values.ensures at e) c.in_ok-codes.ensures.by_row)
     c.dictionary.ensures
 
 pub nulled_dictionary-dictionary-requires : goal.nulled_dictionary-dictionary-requires
 nulled_dictionary-dictionary-requires t c =
-    rw c.in_ok-values.ensures (codes_nulled c.in-Dict.codes c.in-Dict.values c.in_ok-codes.codes c.in-Dict.flag (valid_of c.args.nulls.now) (rw c.in-Dict.is at c.layout.ensures.formed) c.in_ok-codes.ensures)
+    rw c.in_ok-values.ensures (codes_nulled c.in-Dict.codes c.in-Dict.values c.in_ok-codes.codes c.in-Dict.flag (valid_of c.args.nulls.now) (rw c.in-Dict.is at c.layout.ensures.formed) c.in_ok-codes.ensures.by_row)

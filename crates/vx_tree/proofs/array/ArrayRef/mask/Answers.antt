@@ -11,5 +11,5 @@ returns-clause-rows c =
     let m = c.args.mask.now in
     let same = c.in_ok-try_clone.ensures in
     let fits : IsMask m (tree_len t) = rw (same, c.len.ensures) at c.in_ok-check.ensures.fits in
-    let nulled : IsNulled t (by_array m) c.in_ok-nulled.field-0 = rw same at c.in_ok-nulled.ensures in
+    let nulled : IsNulled t (by_array m) c.in_ok-nulled.field-0 = rw same at c.in_ok-nulled.ensures.by_row in
     rows_masked t m c.in_ok-nulled.field-0 fits.len nulled

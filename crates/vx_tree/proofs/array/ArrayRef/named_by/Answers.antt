@@ -23,4 +23,4 @@ returns-clause-ok c =
     let selected : IsSelected v ps c.in_ok-selected.selected = rw c.selection.ensures at c.in_ok-selected.ensures in
     let valid : IsCanonicalValid (valid_of c.in_ok-validity.field-0) (tree_len c.args.codes.now) (valid_of c.in_ok-nulls.nulls) = rw c.len-2.ensures at c.in_ok-nulls.ensures in
     named_values c.args.codes.now v c.in_ok-selected.selected c.in_ok-nulled.field-0 ps (valid_of c.in_ok-validity.field-0) (valid_of c.in_ok-nulls.nulls)
-    c.requires.plain (not_empty c.is_empty.result (tree_len v) c.is_empty.ensures c.if-is_empty.false) c.in_ok-validity.ensures valid are selected c.in_ok-nulled.ensures
+    c.requires.plain (not_empty c.is_empty.result (tree_len v) c.is_empty.ensures c.if-is_empty.false) c.in_ok-validity.ensures valid are selected c.in_ok-nulled.ensures.by_row
