@@ -4,6 +4,7 @@
 //! shared by `Arc`; each function tests what it is given, and refuses by an `Err`.
 
 mod leaves;
+mod parts;
 mod trees;
 
 use std::hint::black_box;
@@ -140,9 +141,13 @@ fn fill(words: &mut [u64], range: Range<usize>) {
 enum DType {
     Bool,
     Int,
+    Text,
     List(Arc<DType>),
+    FixedList(Arc<DType>, u32),
+    Record(Arc<[(String, DType)]>),
 }
 
+#[derive(Clone)]
 #[allow(dead_code)]
 struct BoolArray {
     dtype: DType,
@@ -150,6 +155,7 @@ struct BoolArray {
     validity: Option<Bits>,
 }
 
+#[derive(Clone)]
 #[allow(dead_code)]
 struct PrimitiveArray {
     dtype: DType,
@@ -300,6 +306,15 @@ fn take_fixed_lists(elements: &[u32], indices: &[u32]) -> Vec<u32> {
         taken.extend_from_slice(&elements[start..start + 4]);
     }
     taken
+}
+
+/// Refuses the first index that is no row's.
+#[inline(never)]
+fn check_indices(indices: &[u32], rows: usize) -> Result<()> {
+    match indices.iter().find(|index| **index as usize >= rows) {
+        Some(index) => Err(Refusal::OutOfBounds(*index as usize)),
+        None => Ok(()),
+    }
 }
 
 #[inline(never)]
@@ -844,6 +859,7 @@ enum Rows {
     FixedLists(Vec<u32>),
     Records(Vec<u32>, Bits),
     Dictionary(Vec<u32>, Arc<Vec<u32>>),
+    Constant(u32, usize),
 }
 
 impl Rows {
@@ -855,6 +871,9 @@ impl Rows {
             Rows::Views(views) => EMPTY.with_views(views).0,
             Rows::Records(numbers, bits) => EMPTY.with_numbers(numbers).with_bits(bits).0,
             Rows::Dictionary(codes, values) => EMPTY.with_numbers(codes).with_numbers(values).0,
+            Rows::Constant(number, rows) => {
+                EMPTY.with_word(*number as u64).with_word(*rows as u64).0
+            }
         }
     }
 }
@@ -880,6 +899,10 @@ impl Operation for TakeRows {
             }
             Rows::Dictionary(codes, values) => {
                 Rows::Dictionary(take_numbers(codes, indices), values.clone())
+            }
+            Rows::Constant(number, rows) => {
+                check_indices(indices, *rows)?;
+                Rows::Constant(*number, indices.len())
             }
         })
     }
@@ -917,6 +940,12 @@ impl Operation for FilterRows {
             }
             Rows::Dictionary(codes, values) => {
                 Rows::Dictionary(filter_items(codes, mask), values.clone())
+            }
+            Rows::Constant(number, rows) => {
+                if mask.len != *rows {
+                    return Err(Refusal::LengthMismatch);
+                }
+                Rows::Constant(*number, mask.true_count())
             }
         })
     }
@@ -1255,7 +1284,7 @@ impl Operation for WriteCounts {
     }
 }
 
-const OPERATIONS: [&str; 64] = [
+const OPERATIONS: [&str; 78] = [
     "rebuild_in_order",
     "rebuild_at_random",
     "rebuild_in_order_null",
@@ -1268,6 +1297,7 @@ const OPERATIONS: [&str; 64] = [
     "take_fixed_lists",
     "take_records",
     "take_dictionary",
+    "take_constant",
     "filter_numbers",
     "filter_bools",
     "filter_list_view",
@@ -1275,20 +1305,33 @@ const OPERATIONS: [&str; 64] = [
     "filter_fixed_lists",
     "filter_records",
     "filter_dictionary",
+    "filter_constant",
     "mask_numbers",
+    "mask_bools",
     "mask_list_view",
     "mask_views",
+    "mask_fixed_lists",
+    "mask_records",
+    "mask_dictionary",
+    "mask_constant",
     "concat_numbers",
     "concat_bools",
     "concat_list_view",
     "concat_views",
     "concat_fixed_lists",
     "concat_records",
+    "concat_dictionaries",
+    "concat_constants",
     "canonical_constant",
     "canonical_constant_text",
     "canonical_constant_list",
     "canonical_dictionary",
     "canonical_list_view",
+    "canonical_numbers",
+    "canonical_bools",
+    "canonical_views",
+    "canonical_fixed_lists",
+    "canonical_records",
     "slice_list_view",
     "list_view_try_new",
     "is_consecutive",
@@ -1339,9 +1382,10 @@ fn rows_of(rows: usize, name: &str) -> Result<Rows> {
         "numbers" => Rows::Numbers(numbers()),
         "bools" => Rows::Bools(random_bits(rows, 2, 7)),
         "list_view" => Rows::Lists(list_view(rows, AT_RANDOM)?),
-        "views" => Rows::Views(views_of(rows)?),
+        "views" => Rows::Views(text_array(rows)?.1.as_slice().to_vec()),
         "fixed_lists" => Rows::FixedLists(random_numbers(4 * rows, u32::MAX, 1)),
         "records" => Rows::Records(numbers(), random_bits(rows, 2, 7)),
+        "constant" => Rows::Constant(1_000_003, rows),
         _ => {
             let values = Arc::new(random_numbers(1000, u32::MAX, 6));
             Rows::Dictionary(random_numbers(rows, 1000, 9), values)
@@ -1349,10 +1393,10 @@ fn rows_of(rows: usize, name: &str) -> Result<Rows> {
     })
 }
 
-fn views_of(rows: usize) -> Result<Vec<View>> {
+/// The buffers and the views of texts.
+fn text_array(rows: usize) -> Result<Built> {
     let (heap, lengths) = text_heap(rows, false);
-    let made = build_views(MAX_BUFFER_LEN, &heap, &lengths)?;
-    Ok(made.1.as_slice().to_vec())
+    build_views(MAX_BUFFER_LEN, &heap, &lengths)
 }
 
 fn measure_rows(bench: &Bench, name: &str) -> Result<()> {
@@ -1394,7 +1438,7 @@ fn measure_lists(bench: &Bench, name: &str) -> Result<()> {
         }
         "take_views" | "take_fixed_lists" | "take_records" | "take_dictionary" | "filter_numbers" | "filter_bools"
         | "filter_list_view" | "filter_views" | "filter_fixed_lists" | "filter_records"
-        | "filter_dictionary" => measure_rows(bench, name),
+        | "filter_dictionary" | "take_constant" | "filter_constant" => measure_rows(bench, name),
         "list_view_try_new" => bench.measure(ListViewTryNew(list_view(rows, AT_RANDOM)?)),
         "is_consecutive" => bench.measure(IsConsecutive(list_view(rows, IN_ORDER)?)),
         _ => measure_flat(bench, name),
@@ -1405,7 +1449,7 @@ fn measure_lists(bench: &Bench, name: &str) -> Result<()> {
 fn measure(bench: &Bench, name: &str) -> Result<()> {
     let (verb, rest) = name.split_once('_').unwrap_or((name, ""));
     match verb {
-        "mask" => trees::measure_mask(bench, rest),
+        "mask" => parts::measure_mask(bench, rest),
         "concat" => trees::measure_concat(bench, rest),
         "canonical" => trees::measure_canonical(bench, rest),
         "numbers" => leaves::measure_numbers(bench, rest),

@@ -1,9 +1,9 @@
-//! Rows that are joined, written out in plain layout, or made null.
+//! Rows that are joined, or written out in plain layout.
 
 use super::{
-    AT_RANDOM, Bench, Bits, Buffer, Built, DType, EMPTY, ListShape, ListViewArray,
-    MAX_BUFFER_LEN, MAX_INLINED_SIZE, Operation, PrimitiveArray, Refusal, Result, View, build_views,
-    list_view, number_array, random_bits, random_numbers, take_numbers, text_heap,
+    AT_RANDOM, Bench, Bits, Buffer, Built, EMPTY, ListViewArray, MAX_INLINED_SIZE, Operation,
+    Refusal, Result, View, list_view, number_array, parts, random_bits, random_numbers,
+    take_numbers, text_array,
 };
 use std::sync::Arc;
 
@@ -12,6 +12,26 @@ use std::sync::Arc;
 #[inline(never)]
 fn concat_numbers(arrays: &[&[u32]]) -> Vec<u32> {
     arrays.concat()
+}
+
+/// The values that the codes of each array name.
+#[inline(never)]
+fn concat_dictionaries(arrays: &[(Vec<u32>, Arc<Vec<u32>>)]) -> Vec<u32> {
+    let mut joined = Vec::with_capacity(arrays.iter().map(|(codes, _)| codes.len()).sum());
+    for (codes, values) in arrays {
+        joined.extend(codes.iter().map(|code| values[*code as usize]));
+    }
+    joined
+}
+
+/// Each number as often as it stands.
+#[inline(never)]
+fn concat_constants(arrays: &[(u32, usize)]) -> Vec<u32> {
+    let mut joined = Vec::with_capacity(arrays.iter().map(|(_, rows)| rows).sum());
+    for (number, rows) in arrays {
+        joined.resize(joined.len() + rows, *number);
+    }
+    joined
 }
 
 /// Bits, a word at a time, each word cut where the bits before it end within a word.
@@ -109,6 +129,8 @@ enum Concat {
     Records(Vec<Vec<u32>>, Vec<Bits>),
     Views(Vec<Built>),
     Lists(Vec<Arc<ListViewArray>>),
+    Dictionaries(Vec<(Vec<u32>, Arc<Vec<u32>>)>),
+    Constants(Vec<(u32, usize)>),
 }
 
 fn slices(arrays: &[Vec<u32>]) -> Vec<&[u32]> {
@@ -135,6 +157,8 @@ impl Operation for Concat {
                 Plain::Views(views, buffers)
             }
             Concat::Lists(arrays) => Plain::Wide(concat_lists(arrays)),
+            Concat::Dictionaries(arrays) => Plain::Numbers(concat_dictionaries(arrays)),
+            Concat::Constants(arrays) => Plain::Numbers(concat_constants(arrays)),
         })
     }
 
@@ -185,92 +209,7 @@ impl Operation for Canonical {
     }
 }
 
-// ---- nulls ----
-
-struct MaskNumbers {
-    array: PrimitiveArray,
-    mask: Bits,
-}
-
-fn both(validity: &Option<Bits>, mask: &Bits) -> Result<Option<Bits>> {
-    Ok(Some(match validity {
-        Some(valid) => valid.and(mask)?,
-        None => mask.clone(),
-    }))
-}
-
-impl Operation for MaskNumbers {
-    type Made = Arc<PrimitiveArray>;
-
-    fn run(&mut self) -> Result<Arc<PrimitiveArray>> {
-        Ok(Arc::new(PrimitiveArray {
-            dtype: self.array.dtype.clone(),
-            numbers: self.array.numbers.clone(),
-            validity: both(&self.array.validity, &self.mask)?,
-        }))
-    }
-
-    fn checksum(&self, made: Arc<PrimitiveArray>) -> u64 {
-        let sum = EMPTY.with_numbers(made.numbers());
-        made.validity.as_ref().map_or(sum, |valid| sum.with_bits(valid)).0
-    }
-}
-
-struct MaskLists {
-    lists: Arc<ListViewArray>,
-    mask: Bits,
-}
-
-impl Operation for MaskLists {
-    type Made = Arc<ListViewArray>;
-
-    fn run(&mut self) -> Result<Arc<ListViewArray>> {
-        Ok(Arc::new(ListViewArray {
-            dtype: self.lists.dtype.clone(),
-            elements: self.lists.elements.clone(),
-            offsets: self.lists.offsets.clone(),
-            sizes: self.lists.sizes.clone(),
-            validity: both(&self.lists.validity, &self.mask)?,
-            zero_copy_to_list: self.lists.zero_copy_to_list,
-        }))
-    }
-
-    fn checksum(&self, made: Arc<ListViewArray>) -> u64 {
-        let sum = EMPTY.with_list_view(&made);
-        made.validity.as_ref().map_or(sum, |valid| sum.with_bits(valid)).0
-    }
-}
-
-/// The views of null rows become zeroes.
-struct MaskViews {
-    views: Vec<View>,
-    mask: Bits,
-}
-
-#[inline(never)]
-fn mask_views(views: &[View], mask: &Bits) -> Vec<View> {
-    let rows = views.iter().enumerate();
-    rows.map(|(i, view)| if mask.value(i) { *view } else { View(0) }).collect()
-}
-
-impl Operation for MaskViews {
-    type Made = (Vec<View>, Bits);
-
-    fn run(&mut self) -> Result<(Vec<View>, Bits)> {
-        Ok((mask_views(&self.views, &self.mask), self.mask.clone()))
-    }
-
-    fn checksum(&self, made: (Vec<View>, Bits)) -> u64 {
-        EMPTY.with_views(&made.0).with_bits(&made.1).0
-    }
-}
-
 // ---- the operations by name ----
-
-fn views_of(rows: usize) -> Result<Built> {
-    let (heap, lengths) = text_heap(rows, false);
-    build_views(MAX_BUFFER_LEN, &heap, &lengths)
-}
 
 /// Four arrays of a quarter of the rows.
 pub fn measure_concat(bench: &Bench, layout: &str) -> Result<()> {
@@ -282,8 +221,13 @@ pub fn measure_concat(bench: &Bench, layout: &str) -> Result<()> {
         "bools" => Concat::Bools(truths()),
         "records" => Concat::Records(numbers(), truths()),
         "fixed_lists" => Concat::Numbers(vec![random_numbers(4 * rows, u32::MAX, 1); 4]),
-        "views" => Concat::Views(vec![views_of(rows)?; 4]),
+        "views" => Concat::Views(vec![text_array(rows)?; 4]),
         "list_view" => Concat::Lists(vec![list_view(rows, AT_RANDOM)?; 4]),
+        "dictionaries" => {
+            let values = Arc::new(random_numbers(1000, u32::MAX, 6));
+            Concat::Dictionaries(vec![(random_numbers(rows, 1000, 9), values); 4])
+        }
+        "constants" => Concat::Constants(vec![(1_000_003, rows); 4]),
         _ => return Err(Refusal::Usage),
     })
 }
@@ -304,28 +248,6 @@ pub fn measure_canonical(bench: &Bench, layout: &str) -> Result<()> {
             Canonical::Dictionary { codes, values: random_numbers(1000, u32::MAX, 6) }
         }
         "list_view" => Canonical::Lists { lists: list_view(rows, AT_RANDOM)?, size: 4 },
-        _ => return Err(Refusal::Usage),
+        _ => return parts::measure_canonical(bench, layout),
     })
-}
-
-pub fn measure_mask(bench: &Bench, layout: &str) -> Result<()> {
-    let rows = bench.rows;
-    let mask = random_bits(rows, 4, 8);
-    match layout {
-        "numbers" => {
-            let numbers = Buffer::new(random_numbers(rows, u32::MAX, 6));
-            let validity = Some(random_bits(rows, 10, 3));
-            let array = PrimitiveArray { dtype: DType::Int, numbers, validity };
-            bench.measure(MaskNumbers { array, mask })
-        }
-        "list_view" => {
-            let lists = list_view(rows, ListShape { some_null: true, ..AT_RANDOM })?;
-            bench.measure(MaskLists { lists, mask })
-        }
-        "views" => {
-            let views = views_of(rows)?.1.as_slice().to_vec();
-            bench.measure(MaskViews { views, mask })
-        }
-        _ => Err(Refusal::Usage),
-    }
 }

@@ -1,6 +1,6 @@
 // Sums over what operations make, in which the order counts.
 
-use vx_base::{BitBuffer, ByteBuffer};
+use vx_base::{BitBuffer, ByteBuffer, Scalar, ScalarValue};
 use vx_lists::ListViewArray;
 use vx_tree::{ArrayRef, Layout, Validity};
 use vx_views::BinaryView;
@@ -81,12 +81,22 @@ impl Checksum {
         sum
     }
 
-    // The numbers or truth values of an array; of other layouts its length.
+    // The numbers or truth values of an array, of a constant its row and its length; of other
+    // layouts the length.
     pub(crate) fn with_array(self, array: &ArrayRef) -> Checksum {
         match array.layout() {
             Layout::Primitive { bytes, .. } => self.with_bytes(bytes.as_slice()),
             Layout::Bool { bits, .. } => self.with_bits(bits),
+            Layout::Constant { scalar, len } => self.with_scalar(scalar).with_word(*len as u64),
             _ => self.with_word(array.len() as u64),
+        }
+    }
+
+    // A row, where it is a number; others are summed as 0.
+    fn with_scalar(self, scalar: &Scalar) -> Checksum {
+        match scalar.value() {
+            Some(ScalarValue::Int(number)) => self.with_word(u64::try_from(*number).unwrap_or(0)),
+            _ => self.with_word(0),
         }
     }
 
@@ -125,15 +135,25 @@ impl Checksum {
         }
     }
 
-    // The parts of an array, its validity among them.
+    // The parts of an array and its validity; of a dictionary that of its codes.
     pub(crate) fn with_nullable(self, array: &ArrayRef) -> Checksum {
         let sum = self.with_parts(array);
         match array.layout() {
-            Layout::Bool { validity, .. } => sum.with_validity(validity),
-            Layout::Primitive { validity, .. } => sum.with_validity(validity),
-            Layout::ListView { validity, .. } => sum.with_validity(validity),
-            Layout::VarBinView { validity, .. } => sum.with_validity(validity),
-            _ => sum,
+            Layout::Dict { codes, .. } => sum.with_nulls(codes),
+            _ => sum.with_nulls(array),
+        }
+    }
+
+    // The validity of an array, where it is one of its parts.
+    fn with_nulls(self, array: &ArrayRef) -> Checksum {
+        match array.layout() {
+            Layout::Bool { validity, .. } => self.with_validity(validity),
+            Layout::Primitive { validity, .. } => self.with_validity(validity),
+            Layout::FixedSizeList { validity, .. } => self.with_validity(validity),
+            Layout::ListView { validity, .. } => self.with_validity(validity),
+            Layout::VarBinView { validity, .. } => self.with_validity(validity),
+            Layout::Struct { validity, .. } => self.with_validity(validity),
+            _ => self,
         }
     }
 

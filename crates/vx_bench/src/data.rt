@@ -176,17 +176,6 @@ pub(crate) fn number_bytes(alloc: Global, rows: usize) -> Result<ByteBuffer, Fau
     Ok(buffer.into_byte_buffer(alloc)?)
 }
 
-// Numbers that are null where a bit is false.
-pub(crate) fn nullable_numbers(
-    alloc: Global,
-    numbers: Vec<u32>,
-    valid: BitBuffer,
-) -> Result<ArrayRef, Fault> {
-    let buffer = Buffer::from_vec(alloc, numbers)?;
-    let validity = Validity::Array(bool_array(alloc, valid)?);
-    Ok(PrimitiveArray::try_new(alloc, buffer, validity)?.into_array())
-}
-
 pub(crate) fn bool_array(alloc: Global, bits: BitBuffer) -> Result<ArrayRef, Fault> {
     Ok(BoolArray::try_new(alloc, bits, Validity::NonNullable)?.into_array())
 }

@@ -3,8 +3,8 @@
 use crate::checksum::Checksum;
 use crate::data::{
     ListShape, Scale, bool_array, constant_list, constant_number, constant_text, dictionary,
-    fixed_size_lists, list_view, lists_of_one_size, nullable_numbers, number_array, random_bits,
-    random_numbers, records, text_array,
+    fixed_size_lists, list_view, lists_of_one_size, number_array, random_bits, random_numbers,
+    records, text_array,
 };
 use crate::fault::Fault;
 use crate::operation::{Bench, Operation};
@@ -16,11 +16,6 @@ const LISTS: ListShape = ListShape {
     size: 4,
     in_order: false,
     some_null: false,
-};
-
-const NULLABLE_LISTS: ListShape = ListShape {
-    some_null: true,
-    ..LISTS
 };
 
 // Taking rows of an array at indices of which each is any.
@@ -98,17 +93,22 @@ impl Operation for Concat {
     }
 }
 
-// The plain layout of an array.
+// The plain layout of an array, some times, each but the last let go at once.
 #[derive(Drop)]
 struct ToCanonical {
     array: ArrayRef,
+    times: usize,
 }
 
 impl Operation for ToCanonical {
     type Made = ArrayRef;
 
     fn run(&mut self, alloc: Global) -> Result<ArrayRef, Fault> {
-        Ok(self.array.to_canonical(alloc)?)
+        let mut made = self.array.to_canonical(alloc)?;
+        for _ in 1..self.times {
+            made = self.array.to_canonical(alloc)?;
+        }
+        Ok(made)
     }
 
     fn checksum(&self, made: ArrayRef) -> Result<u64, Fault> {
@@ -116,7 +116,7 @@ impl Operation for ToCanonical {
     }
 }
 
-// Plain rows of a layout.
+// Rows of a layout, none of them null.
 fn array_of(alloc: Global, scale: Scale, layout: &str) -> Result<ArrayRef, Fault> {
     let rows = scale.rows();
     match layout {
@@ -126,29 +126,26 @@ fn array_of(alloc: Global, scale: Scale, layout: &str) -> Result<ArrayRef, Fault
         "views" => text_array(alloc, rows),
         "fixed_lists" => fixed_size_lists(alloc, scale),
         "records" => records(alloc, rows),
-        "dictionary" => Ok(dictionary(alloc, rows)?.into_array()),
+        "dictionary" | "dictionaries" => Ok(dictionary(alloc, rows)?.into_array()),
+        "constant" | "constants" => constant_number(alloc, 1_000_003, rows),
         _ => Err(Fault::Usage),
     }
 }
 
-// Rows some of which are null, where they are to become null.
+// Rows that are to become null: but for texts and a constant one in ten is already.
 fn array_to_mask(alloc: Global, scale: Scale, layout: &str) -> Result<ArrayRef, Fault> {
-    let rows = scale.rows();
-    match layout {
-        "numbers" => {
-            let numbers = random_numbers(alloc, rows, u32::MAX, 6)?;
-            nullable_numbers(alloc, numbers, random_bits(alloc, rows, 10, 3)?)
-        }
-        "list_view" => Ok(list_view(alloc, scale, NULLABLE_LISTS)?.into_array()),
-        _ => array_of(alloc, scale, layout),
+    let array = array_of(alloc, scale, layout)?;
+    if layout == "views" || layout == "constant" {
+        return Ok(array);
     }
+    let valid = bool_array(alloc, random_bits(alloc, scale.rows(), 10, 3)?)?;
+    Ok(array.mask(alloc, &valid)?)
 }
 
-// Rows that are not in plain layout.
+// Rows that are to be in plain layout.
 fn array_to_write(alloc: Global, scale: Scale, layout: &str) -> Result<ArrayRef, Fault> {
     let rows = scale.rows();
     match layout {
-        "constant" => constant_number(alloc, 1_000_003, rows),
         "constant_text" => constant_text(alloc, rows),
         "constant_list" => constant_list(alloc, rows),
         "list_view" => lists_of_one_size(alloc, scale),
@@ -192,6 +189,14 @@ pub(crate) fn measure_concat(rt: &HostRuntime, bench: &Bench, layout: &str) -> R
     bench.measure(rt, Concat { arrays })
 }
 
+// How often the plain layout is made: where it only shares what is plain, one time is too short.
+fn times_of(scale: Scale, layout: &str) -> usize {
+    match layout {
+        "numbers" | "bools" | "views" | "fixed_lists" | "records" => scale.rows() / 10,
+        _ => 1,
+    }
+}
+
 // Measures the making of a plain layout.
 pub(crate) fn measure_canonical(
     rt: &HostRuntime,
@@ -199,5 +204,6 @@ pub(crate) fn measure_canonical(
     layout: &str,
 ) -> Result<(), Fault> {
     let array = array_to_write(rt.alloc(), bench.scale, layout)?;
-    bench.measure(rt, ToCanonical { array })
+    let times = times_of(bench.scale, layout);
+    bench.measure(rt, ToCanonical { array, times })
 }
