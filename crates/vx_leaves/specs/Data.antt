@@ -2,7 +2,7 @@
 use Rattle.std.specs.Prelude.{◌≡◌, ◌≤◌, ◌<◌, ◌+◌, ◌*◌, ℕ, ℤ, Bool, List, length, codes, ◌++◌}
 use Rattle.std.specs.Fmt.{decimal}
 use Rattle.vx_base.specs.Bits.{unpacked}
-use Rattle.vx_base.specs.Integers.{type_name, numbers}
+use Rattle.vx_base.specs.Integers.{type_name, numbers, byte_width}
 use Rattle.vx_base.specs.declared.ptypes.PType.{PType}
 
 -- bytes, and the bit of the first of them at which truth values begin
@@ -27,10 +27,11 @@ pub record NumberData : Type 0 where
 abbrev pub number_data : PType → List ℕ → NumberData
 number_data t bs = record { ptype = t; bytes = bs }
 
--- these numbers, of this type, stand there
+-- these numbers, of this type, stand there, and no byte beyond the last of them
 pub record HoldsNumbers (t : PType) (zs : List ℤ) (d : NumberData) : Type 0 where
   pub type : d.ptype ≡ t
   pub same : numbers t d.bytes ≡ zs
+  pub whole : length d.bytes ≡ length zs * byte_width t
 
 -- what is printed of either
 abbrev pub bit_data_text : BitData → List ℕ

@@ -1,13 +1,13 @@
 // The numbers of an array apart from its validity, in bytes.
 
-ghost use Rattle.std.specs.Prelude.{◌≡◌, ◌==◌, [], length, map, Some, IfOk, OnOk, MatchResult};
-ghost use Rattle.vx_base.specs.Integers.{numbers};
+ghost use Rattle.std.specs.Prelude.{◌≡◌, ◌*◌, ◌==◌, [], length, map, Some, IfOk, OnOk, MatchResult};
+ghost use Rattle.vx_base.specs.Integers.{numbers, byte_width};
 ghost use Rattle.vx_base.specs.Refusals.{Gives, Refuses, Tests, or_else};
 ghost use Rattle.vx_tree.specs.Formed.{ValidFits};
 ghost use Rattle.vx_tree.specs.Meaning.{valid_mask};
 ghost use Rattle.vx_tree.specs.Parts.{valid_of};
 ghost use Rattle.vx_leaves.specs.Data.{number_data, number_data_text, HoldsNumbers};
-ghost use Rattle.vx_leaves.specs.Leaves.{type_in, bytes_in, validity_fault};
+ghost use Rattle.vx_leaves.specs.Leaves.{type_in, bytes_in, numbers_in, validity_fault};
 ghost use Rattle.vx_leaves.specs.Spread.{spread, whole_fault, values_fault};
 
 use crate::primitive_array::PrimitiveArray;
@@ -228,7 +228,9 @@ impl fmt::Debug for PrimitiveData {
 impl PrimitiveArray {
     /// The numbers, valid or not, in their bytes, shared. Fails only for want of memory.
     pub fn to_data(&self, alloc: Global) -> Result<PrimitiveData, VortexError>
-        ensures { Gives result (λ d. d ≡ number_data (type_in self.now) (bytes_in self.now)) }
+        ensures data { Gives result (λ d. d ≡ number_data (type_in self.now) (bytes_in self.now)) }
+        ensures whole { length (bytes_in self.now)
+            ≡ length (numbers_in self.now) * byte_width (type_in self.now) }
     {
         let parts = self.parts();
         Ok(PrimitiveData {
