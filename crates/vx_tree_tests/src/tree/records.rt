@@ -124,9 +124,10 @@ fn records_taken_from_no_rows(rt: HostRuntime) -> Result<(), VortexError> {
     let nulls = numbers(rt.alloc(), PType::U8, &[9], Validity::AllInvalid)?;
     let taken = empty.take(rt.alloc(), &nulls)?;
     assert!(rt; taken.len() == 1 && !taken.is_valid(rt.alloc(), 0)?);
-    if let Layout::Struct { columns, .. } = taken.layout() {
-        assert!(rt; columns.len() == 2 && columns[0].len() == 1);
-        assert!(rt; !columns[0].dtype().is_nullable());
-    }
+    let Layout::Struct { columns, .. } = taken.layout() else {
+        panic!(rt; "no records");
+    };
+    assert!(rt; columns.len() == 2 && columns[0].len() == 1);
+    assert!(rt; !columns[0].dtype().is_nullable());
     Ok(())
 }
