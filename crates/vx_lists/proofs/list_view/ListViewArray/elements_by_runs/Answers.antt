@@ -24,11 +24,11 @@ pub returns-clause-selected : goal.returns-clause-selected
 returns-clause-selected c =
     let planned = c.in_ok-elements.ensures in
     let all : c.of_runs.result ≡ valid_positions_of c.args.self.now = c.of_runs.ensures ∙ ap (flat_map run_positions) c.deref.ensures.value ∙ planned.runs in
-    subst (λ ps. IfOk c.select.result (IsSelected (elements_of c.args.self.now) ps)) all
-    (subst (λ e. IfOk c.select.result (IsSelected e c.of_runs.result)) planned.elements c.select.ensures.selected)
+    subst (λ ps. IfOk c.select-2.result (IsSelected (elements_of c.args.self.now) ps)) all
+    (subst (λ e. IfOk c.select-2.result (IsSelected e c.of_runs.result)) planned.elements c.select-2.ensures.selected)
 
 pub returns-clause-refuses : goal.returns-clause-refuses
 returns-clause-refuses c =
     let planned = c.in_ok-elements.ensures in
     let all : c.of_runs.result ≡ valid_positions_of c.args.self.now = c.of_runs.ensures ∙ ap (flat_map run_positions) c.deref.ensures.value ∙ planned.runs in
-    subst (Refuses c.select.result) (ap (λ (ps : List ℕ). take_overflow c.in_ok-elements.elements.now (length ps)) all ∙ planned.overflow c.requires.fits) c.select.ensures.refuses
+    subst (Refuses c.select-2.result) (ap (λ (ps : List ℕ). take_overflow c.in_ok-elements.elements.now (length ps)) all ∙ planned.overflow c.requires.fits) c.select-2.ensures.refuses
