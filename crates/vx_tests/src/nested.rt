@@ -1,26 +1,64 @@
 // Arrays nested three deep, of three rows each, through every operation: each row is compared with
-// one written by hand.
+// one written by hand, and so are data types.
 
+use layouts::{
+    counts, lists_by_codes, pairs_by_codes, parcels, records_of, same_parcels, some_counts, truths,
+};
 use std::alloc::Global;
 use std::process::Abort;
 use std::rc::Rc;
-use vx_base::{
-    BitBuffer, Buffer, ByteBuffer, DType, FieldNames, Mask, Nullability, PType, Scalar,
-    ScalarValue, ScalarValues, StructFields, VortexError,
-};
-use vx_leaves::{BoolArray, DictArray, PrimitiveArray};
-use vx_lists::ListViewArray;
-use vx_tree::{ArrayRef, TypedArray, Validity};
+use vx_base::{BitBuffer, DType, Mask, Nullability, PType, ScalarValue, VortexError};
+use vx_tree::{ArrayRef, Layout};
+
+mod layouts;
 
 const LONG: &[u8] = b"this value is definitely long";
 
 // What the three rows of an array are.
 trait Rows {
+    // The data type of the array.
+    fn dtype(&self, alloc: Global) -> Result<DType, VortexError>;
+
     // Whether this is the row at that place, or null where there is no place.
     fn is_row(&self, row: &Option<ScalarValue>, place: Option<usize>) -> bool;
 }
 
-// Stops unless the rows of the array are those at these places.
+// ---- what is wanted of an array
+
+// Stops unless the array has the wanted data type, with null where there is a row of no place.
+fn expect_dtype(
+    rt: &impl Abort,
+    alloc: Global,
+    rows: &impl Rows,
+    array: &ArrayRef,
+    places: &[Option<usize>],
+) -> Result<(), VortexError> {
+    let mut dtype = rows.dtype(alloc)?;
+    if places.contains(&None) {
+        dtype = dtype.with_nullability(Nullability::Nullable);
+    }
+    assert!(rt; *array.dtype() == dtype);
+    Ok(())
+}
+
+// Stops unless the validity of the array tells which rows are null.
+fn expect_validity(
+    rt: &impl Abort,
+    alloc: Global,
+    rows: &impl Rows,
+    array: &ArrayRef,
+    places: &[Option<usize>],
+) -> Result<(), VortexError> {
+    let validity = array.validity(alloc)?;
+    for (i, place) in places.iter().enumerate() {
+        let is_valid = !rows.is_row(&None, *place);
+        assert_eq!(rt; validity.is_valid(alloc, i)?, is_valid, "at {i}");
+        assert_eq!(rt; array.is_valid(alloc, i)?, is_valid, "at {i}");
+    }
+    Ok(())
+}
+
+// Stops unless the array is that of the rows at these places.
 fn expect_rows(
     rt: &impl Abort,
     alloc: Global,
@@ -29,51 +67,126 @@ fn expect_rows(
     places: &[Option<usize>],
 ) -> Result<(), VortexError> {
     assert_eq!(rt; array.len(), places.len());
+    assert_eq!(rt; array.is_empty(), places.is_empty());
     for (i, place) in places.iter().enumerate() {
         let row = array.execute_scalar(alloc, i)?;
         assert!(rt; rows.is_row(row.value(), *place), "at {i}");
     }
-    Ok(())
+    expect_validity(rt, alloc, rows, array, places)?;
+    expect_dtype(rt, alloc, rows, array, places)
 }
 
-// Stops unless the parts of an array have the rows that they should.
-fn through_parts(
+// ---- the operations
+
+// Stops unless a copy, and cuts of the array, have the rows that they should.
+fn cut(
     rt: &impl Abort,
     alloc: Global,
     rows: &impl Rows,
     array: &ArrayRef,
 ) -> Result<(), VortexError> {
-    expect_rows(
-        rt,
-        alloc,
-        rows,
-        &array.slice(alloc, 1..3)?,
-        &[Some(1), Some(2)],
-    )?;
-    let mask = Mask::from_buffer(alloc, BitBuffer::from_bools(alloc, &[true, false, true])?)?;
-    expect_rows(
-        rt,
-        alloc,
-        rows,
-        &array.filter(alloc, &mask)?,
-        &[Some(0), Some(2)],
-    )?;
     let places = [Some(0), Some(1), Some(2)];
-    expect_rows(rt, alloc, rows, &array.to_canonical(alloc)?, &places)
+    expect_rows(rt, alloc, rows, array, &places)?;
+    expect_rows(rt, alloc, rows, &array.try_clone(alloc)?, &places)?;
+    expect_rows(rt, alloc, rows, &array.slice(alloc, 1..3)?, &places[1..])?;
+    expect_rows(rt, alloc, rows, &array.slice(alloc, 2..2)?, &[])
 }
 
-// The rows of the array under a mask without the first of them.
+// Stops unless rows that are taken, by indices without null and with null, are those that they
+// should be.
+fn taken(
+    rt: &impl Abort,
+    alloc: Global,
+    rows: &impl Rows,
+    array: &ArrayRef,
+) -> Result<(), VortexError> {
+    let places = [Some(2), Some(0), Some(1), Some(2)];
+    let taken = array.take(alloc, &counts(alloc, &[2, 0, 1, 2])?)?;
+    expect_rows(rt, alloc, rows, &taken, &places)?;
+    let places = [Some(2), None, Some(0)];
+    expect_rows(rt, alloc, rows, &with_null(alloc, array)?, &places)
+}
+
+// Stops unless the rows that a filter leaves are those that they should be.
+fn filtered(
+    rt: &impl Abort,
+    alloc: Global,
+    rows: &impl Rows,
+    array: &ArrayRef,
+) -> Result<(), VortexError> {
+    let mask = Mask::from_buffer(alloc, BitBuffer::from_bools(alloc, &[true, false, true])?)?;
+    let left = array.filter(alloc, &mask)?;
+    expect_rows(rt, alloc, rows, &left, &[Some(0), Some(2)])
+}
+
+// The last row of the array, null, and the first row.
+fn with_null(alloc: Global, array: &ArrayRef) -> Result<ArrayRef, VortexError> {
+    let indices = some_counts(alloc, &[2, 9, 0], &[true, false, true])?;
+    array.take(alloc, &indices)
+}
+
+// The array without its first row.
 fn without_first(alloc: Global, array: &ArrayRef) -> Result<ArrayRef, VortexError> {
-    let bits = BitBuffer::from_bools(alloc, &[false, true, true])?;
-    array.mask(
-        alloc,
-        &BoolArray::from_bit_buffer(alloc, bits)?.into_array(),
-    )
+    array.mask(alloc, &truths(alloc, &[false, true, true])?)
+}
+
+// Stops unless rows under a mask, and those taken of them, are those that they should be.
+fn nulled(
+    rt: &impl Abort,
+    alloc: Global,
+    rows: &impl Rows,
+    array: &ArrayRef,
+) -> Result<(), VortexError> {
+    let masked = without_first(alloc, array)?;
+    expect_rows(rt, alloc, rows, &masked, &[None, Some(1), Some(2)])?;
+    let taken = with_null(alloc, &masked)?;
+    expect_rows(rt, alloc, rows, &taken, &[Some(2), None, None])
 }
 
 // The rows of two arrays.
 fn both(alloc: Global, first: ArrayRef, second: ArrayRef) -> Result<ArrayRef, VortexError> {
     ArrayRef::concat(alloc, &vec![in alloc; first, second]?)
+}
+
+// Stops unless rows of two arrays are those that they should be.
+fn joined(
+    rt: &impl Abort,
+    alloc: Global,
+    rows: &impl Rows,
+    array: &ArrayRef,
+) -> Result<(), VortexError> {
+    let twice = both(alloc, array.slice(alloc, 1..3)?, array.try_clone(alloc)?)?;
+    let places = [Some(1), Some(2), Some(0), Some(1), Some(2)];
+    expect_rows(rt, alloc, rows, &twice, &places)
+}
+
+// Stops unless rows of two arrays, with null in them, are those that they should be.
+fn joined_with_null(
+    rt: &impl Abort,
+    alloc: Global,
+    rows: &impl Rows,
+    array: &ArrayRef,
+) -> Result<(), VortexError> {
+    let nulls = both(
+        alloc,
+        with_null(alloc, array)?,
+        without_first(alloc, array)?,
+    )?;
+    let places = [Some(2), None, Some(0), None, Some(1), Some(2)];
+    expect_rows(rt, alloc, rows, &nulls, &places)
+}
+
+// Stops unless the plain layout of the array, and that of its rows under a mask, have the same rows.
+fn made_plain(
+    rt: &impl Abort,
+    alloc: Global,
+    rows: &impl Rows,
+    array: &ArrayRef,
+) -> Result<(), VortexError> {
+    let plain = array.to_canonical(alloc)?;
+    expect_rows(rt, alloc, rows, &plain, &[Some(0), Some(1), Some(2)])?;
+    let plain = without_first(alloc, array)?.to_canonical(alloc)?;
+    expect_rows(rt, alloc, rows, &plain, &[None, Some(1), Some(2)])
 }
 
 // Stops unless each operation gives the rows that it should.
@@ -83,209 +196,177 @@ fn through_all(
     rows: &impl Rows,
     array: &ArrayRef,
 ) -> Result<(), VortexError> {
-    expect_rows(rt, alloc, rows, array, &[Some(0), Some(1), Some(2)])?;
-    through_parts(rt, alloc, rows, array)?;
-    let masked = without_first(alloc, array)?;
-    expect_rows(rt, alloc, rows, &masked, &[None, Some(1), Some(2)])?;
-    let taken = masked.take(alloc, &numbers(alloc, &[Some(2), None, Some(0)])?)?;
-    expect_rows(rt, alloc, rows, &taken, &[Some(2), None, None])?;
-    let places = [Some(2), None, None, None, Some(1), Some(2)];
-    expect_rows(rt, alloc, rows, &both(alloc, taken, masked)?, &places)
+    cut(rt, alloc, rows, array)?;
+    taken(rt, alloc, rows, array)?;
+    filtered(rt, alloc, rows, array)?;
+    nulled(rt, alloc, rows, array)?;
+    joined(rt, alloc, rows, array)?;
+    joined_with_null(rt, alloc, rows, array)?;
+    made_plain(rt, alloc, rows, array)
 }
 
-// Numbers of type u8, null where there is none.
-fn numbers(alloc: Global, numbers: &[Option<u8>]) -> Result<ArrayRef, VortexError> {
-    Ok(PrimitiveArray::from_option_iter(alloc, numbers.iter().copied())?.into_array())
-}
+// ---- a dictionary of list views of records of texts and truth values
 
-// Numbers of type u8.
-fn counts(alloc: Global, numbers: &[u8]) -> Result<ArrayRef, VortexError> {
-    let buffer = Buffer::copy_from(alloc, numbers)?;
-    Ok(PrimitiveArray::try_new(alloc, buffer, Validity::NonNullable)?.into_array())
-}
-
-// The value of a text.
-fn text(alloc: Global, bytes: &[u8]) -> Result<ScalarValue, VortexError> {
-    Ok(ScalarValue::Text(ByteBuffer::copy_from(alloc, bytes)?))
-}
-
-// One text, or null where there is none.
-fn one_text(alloc: Global, bytes: Option<&[u8]>) -> Result<ArrayRef, VortexError> {
-    let value = match bytes {
-        Some(bytes) => Some(text(alloc, bytes)?),
-        None => None,
-    };
-    let scalar = Scalar::try_new(DType::Utf8(Nullability::Nullable), value)?;
-    ArrayRef::constant(alloc, scalar, 1)
-}
-
-// The texts `hi`, null, `é` and a long one, by views.
-fn texts(alloc: Global) -> Result<ArrayRef, VortexError> {
-    let mut rows = Vec::new(alloc);
-    for bytes in [Some(b"hi".as_slice()), None, Some(b"\xC3\xA9"), Some(LONG)] {
-        rows.push(one_text(alloc, bytes)?)?;
-    }
-    ArrayRef::concat(alloc, &rows)
-}
-
-// ---- a dictionary of list views of records of texts
-
-// The records {name:hi}, {name:null}, {name:é} and that of a long text.
-fn records(alloc: Global) -> Result<ArrayRef, VortexError> {
-    let names = FieldNames::try_new(alloc, &["name"])?;
-    let texts = texts(alloc)?;
-    if texts.len() != 4 {
-        return Err(VortexError::MismatchedTypes);
-    }
-    let columns = vec![in alloc; texts]?;
-    ArrayRef::structure(alloc, names, columns, Validity::NonNullable, 4)
-}
-
-// The lists of the last three records, none, and of the first two, of the lists of the last two,
-// the first two and the last three of the records.
-fn lists_by_codes(alloc: Global) -> Result<ArrayRef, VortexError> {
-    let (offsets, sizes) = (counts(alloc, &[2, 0, 1])?, counts(alloc, &[2, 2, 3])?);
-    let validity = Validity::NonNullable;
-    let lists = ListViewArray::try_new(alloc, records(alloc)?, offsets, sizes, validity)?;
-    let codes = numbers(alloc, &[Some(2), None, Some(1)])?;
-    Ok(DictArray::try_new(alloc, codes, lists.into_array())?.into_array())
-}
-
-// Whether this is the record of that name, which may be null.
-fn is_named(row: &Option<ScalarValue>, name: Option<&[u8]>) -> bool {
-    let Some(ScalarValue::Record(fields)) = row else {
-        return false;
-    };
-    match (fields.as_slice().first(), name) {
+// Whether this is the text, or null where there is none.
+fn is_text(row: Option<&Option<ScalarValue>>, text: Option<&[u8]>) -> bool {
+    match (row, text) {
         (Some(None), None) => true,
-        (Some(Some(ScalarValue::Text(text))), Some(name)) => text.as_slice() == name,
+        (Some(Some(ScalarValue::Text(found))), Some(text)) => found.as_slice() == text,
         _ => false,
     }
 }
 
-// Whether this is the list of the records of those names.
-fn are_named(row: &Option<ScalarValue>, names: &[Option<&[u8]>]) -> bool {
-    let Some(ScalarValue::List(rows)) = row else {
+// Whether this is the truth value, or null where there is none.
+fn is_truth(row: Option<&Option<ScalarValue>>, truth: Option<bool>) -> bool {
+    match (row, truth) {
+        (Some(None), None) => true,
+        (Some(Some(ScalarValue::Bool(found))), Some(truth)) => *found == truth,
+        _ => false,
+    }
+}
+
+// Whether this is the record of that name and of that truth value, each of which may be null.
+fn is_record(row: Option<&Option<ScalarValue>>, name: Option<&[u8]>, done: Option<bool>) -> bool {
+    let Some(Some(ScalarValue::Record(fields))) = row else {
         return false;
     };
-    for (row, name) in rows.as_slice().iter().zip(names.iter()) {
-        if !is_named(row, *name) {
-            return false;
-        }
+    let fields = fields.as_slice();
+    fields.len() == 2 && is_text(fields.first(), name) && is_truth(fields.last(), done)
+}
+
+// The rows of a list; none where it is null.
+fn rows_of(row: &Option<ScalarValue>) -> &[Option<ScalarValue>] {
+    match row {
+        Some(ScalarValue::List(rows)) => rows.as_slice(),
+        _ => &[],
     }
-    rows.as_slice().len() == names.len()
 }
 
 struct Lists;
 
 impl Rows for Lists {
+    fn dtype(&self, alloc: Global) -> Result<DType, VortexError> {
+        let nullable = Nullability::Nullable;
+        let (name, done) = (DType::Utf8(nullable), DType::Bool(nullable));
+        let record = records_of(alloc, &["name", "done"], name, done, nullable)?;
+        Ok(DType::List(Rc::new(alloc, record)?, nullable))
+    }
+
     fn is_row(&self, row: &Option<ScalarValue>, place: Option<usize>) -> bool {
-        let accent = Some(b"\xC3\xA9".as_slice());
-        match place {
-            Some(0) => are_named(row, &[None, accent, Some(LONG)]),
-            Some(2) => are_named(row, &[Some(b"hi".as_slice()), None]),
+        match (place, rows_of(row)) {
+            (Some(0), [first, second, last]) => {
+                is_record(Some(first), Some(b"\xC3\xA9".as_slice()), None)
+                    && is_record(Some(second), Some(LONG), Some(true))
+                    && last.is_none()
+            }
+            (Some(2), [first, last]) => {
+                is_record(Some(first), Some(b"hi".as_slice()), Some(true))
+                    && is_record(Some(last), None, Some(false))
+            }
+            (Some(0), _) | (Some(2), _) => false,
             _ => row.is_none(),
         }
     }
 }
 
 #[test]
-fn lists_of_records_by_codes(rt: HostRuntime) -> Result<(), VortexError> {
-    let array = lists_by_codes(rt.alloc())?;
-    through_all(&rt, rt.alloc(), &Lists, &array)
+fn lists_through_all(rt: HostRuntime) -> Result<(), VortexError> {
+    through_all(&rt, rt.alloc(), &Lists, &lists_by_codes(rt.alloc())?)
 }
 
 // ---- lists of one size of a dictionary
 
-// The pairs [7, null], [9, null], [null, 7], by codes into 7, null, 9.
-fn pairs_by_codes(alloc: Global) -> Result<ArrayRef, VortexError> {
-    let codes = counts(alloc, &[0, 1, 2, 1, 1, 0])?;
-    let values = numbers(alloc, &[Some(7), None, Some(9)])?;
-    let elements = DictArray::try_new(alloc, codes, values)?.into_array();
-    if elements.len() != 6 {
-        return Err(VortexError::MismatchedTypes);
-    }
-    ArrayRef::fixed_size_list(alloc, elements, 2, Validity::NonNullable, 3)
-}
-
 // Whether this is the number, or null where there is none.
-fn is_number(row: Option<&Option<ScalarValue>>, number: Option<i128>) -> bool {
+fn is_number(row: &Option<ScalarValue>, number: Option<i128>) -> bool {
     match (row, number) {
-        (Some(None), None) => true,
-        (Some(Some(ScalarValue::Int(found))), Some(number)) => *found == number,
+        (None, None) => true,
+        (Some(ScalarValue::Int(found)), Some(number)) => *found == number,
         _ => false,
     }
 }
 
 // Whether this is the list of those two numbers.
 fn is_pair(row: &Option<ScalarValue>, first: Option<i128>, last: Option<i128>) -> bool {
-    let Some(ScalarValue::List(rows)) = row else {
-        return false;
-    };
-    let rows = rows.as_slice();
-    rows.len() == 2 && is_number(rows.first(), first) && is_number(rows.last(), last)
+    match rows_of(row) {
+        [found, other] => is_number(found, first) && is_number(other, last),
+        _ => false,
+    }
 }
 
 struct Pairs;
 
 impl Rows for Pairs {
+    fn dtype(&self, alloc: Global) -> Result<DType, VortexError> {
+        let number = Rc::new(alloc, DType::Primitive(PType::I16, Nullability::Nullable))?;
+        Ok(DType::FixedSizeList(number, 2, Nullability::NonNullable))
+    }
+
     fn is_row(&self, row: &Option<ScalarValue>, place: Option<usize>) -> bool {
         match place {
             Some(0) => is_pair(row, Some(7), None),
-            Some(1) => is_pair(row, Some(9), None),
+            Some(1) => is_pair(row, Some(-9), None),
             Some(2) => is_pair(row, None, Some(7)),
             _ => row.is_none(),
         }
     }
 }
 
-#[test]
-fn pairs_of_a_dictionary(rt: HostRuntime) -> Result<(), VortexError> {
-    let array = pairs_by_codes(rt.alloc())?;
-    through_all(&rt, rt.alloc(), &Pairs, &array)
+// Row `i` of an array of numbers.
+fn number(rt: &impl Abort, array: &ArrayRef, i: usize) -> Option<i128> {
+    assert!(rt; array.dtype().is_int() && i < array.len());
+    array.int_at(i)
 }
 
-// ---- a constant record
-
-// Records of a text `name` and a nullable 16-bit `size`.
-fn parcel_fields(alloc: Global) -> Result<DType, VortexError> {
-    let names = FieldNames::try_new(alloc, &["name", "size"])?;
-    let dtypes = vec![in alloc;
-        DType::Utf8(Nullability::NonNullable),
-        DType::Primitive(PType::I16, Nullability::Nullable),
-    ]?;
-    let dtypes = Rc::new(alloc, dtypes)?;
-    if names.len() != dtypes.len() {
-        return Err(VortexError::MismatchedTypes);
+// Stops unless these are the numbers of the elements of lists of one size.
+fn expect_numbers(rt: &impl Abort, array: &ArrayRef, numbers: &[Option<i128>]) {
+    let Layout::FixedSizeList { elements, .. } = array.layout() else {
+        panic!(rt; "no lists of one size");
+    };
+    assert_eq!(rt; elements.len(), numbers.len());
+    for (i, wanted) in numbers.iter().enumerate() {
+        assert_eq!(rt; number(rt, elements, i), *wanted, "at {i}");
     }
-    Ok(DType::new_struct(StructFields::new(names, dtypes), Nullability::NonNullable))
 }
 
-// A parcel of a long name and the size -3.
-fn parcel(alloc: Global) -> Result<Scalar, VortexError> {
-    let values = vec![in alloc; Some(text(alloc, LONG)?), Some(ScalarValue::Int(-3))]?;
-    let value = ScalarValue::Record(ScalarValues::from_vec(alloc, values)?);
-    Scalar::try_new(parcel_fields(alloc)?, Some(value))
+#[test]
+fn numbers_of_pairs(rt: HostRuntime) -> Result<(), VortexError> {
+    let array = pairs_by_codes(rt.alloc())?;
+    expect_numbers(&rt, &array, &[Some(7), None, Some(-9), None, None, Some(7)]);
+    let taken = array.take(rt.alloc(), &counts(rt.alloc(), &[2, 1])?)?;
+    expect_numbers(&rt, &taken, &[None, Some(7), Some(-9), None]);
+    let plain = taken.to_canonical(rt.alloc())?;
+    expect_numbers(&rt, &plain, &[None, Some(7), Some(-9), None]);
+    Ok(())
 }
+
+#[test]
+fn pairs_through_all(rt: HostRuntime) -> Result<(), VortexError> {
+    through_all(&rt, rt.alloc(), &Pairs, &pairs_by_codes(rt.alloc())?)
+}
+
+// ---- a constant record of a text and a list
 
 struct Parcels;
 
 impl Rows for Parcels {
+    fn dtype(&self, alloc: Global) -> Result<DType, VortexError> {
+        parcels(alloc)
+    }
+
     fn is_row(&self, row: &Option<ScalarValue>, place: Option<usize>) -> bool {
         let Some(ScalarValue::Record(fields)) = row else {
             return place.is_none() && row.is_none();
         };
-        let fields = fields.as_slice();
-        let is_long = match fields.first() {
-            Some(Some(ScalarValue::Text(text))) => text.as_slice() == LONG,
+        match fields.as_slice() {
+            [name, sizes] => {
+                place.is_some() && is_text(Some(name), Some(LONG)) && is_pair(sizes, Some(-3), None)
+            }
             _ => false,
-        };
-        place.is_some() && fields.len() == 2 && is_long && is_number(fields.last(), Some(-3))
+        }
     }
 }
 
 #[test]
-fn constant_records(rt: HostRuntime) -> Result<(), VortexError> {
-    let array = ArrayRef::constant(rt.alloc(), parcel(rt.alloc())?, 3)?;
-    through_all(&rt, rt.alloc(), &Parcels, &array)
+fn parcels_through_all(rt: HostRuntime) -> Result<(), VortexError> {
+    through_all(&rt, rt.alloc(), &Parcels, &same_parcels(rt.alloc())?)
 }
