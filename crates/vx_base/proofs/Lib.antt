@@ -14,6 +14,7 @@ pub mod BitWords
 pub mod Filling
 pub mod Refused
 pub mod Repeated
+pub mod Blocks
 pub mod FirstFaults
 pub mod Runs
 pub mod SizedLists

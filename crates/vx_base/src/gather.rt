@@ -1,6 +1,6 @@
 // Numbers, booleans and items of the rows that are picked.
 
-ghost use Rattle.std.specs.Prelude.{◌≡◌, ◌<◌, ◌≤◌, ◌*◌, ◌/◌, ◌+◌, ◌++◌, length, map, replicate, slice_index_or, unsigned_abs, IfOk};
+ghost use Rattle.std.specs.Prelude.{◌≡◌, ◌<◌, ◌≤◌, ◌*◌, ◌/◌, ◌+◌, ◌++◌, length, map, replicate, slice_index_or, slice_range, unsigned_abs, IfOk};
 ghost use Rattle.vx_base.specs.Refusals.{Gives};
 ghost use Rattle.std.specs.List.{All, flat_map};
 ghost use Rattle.vx_base.specs.Bits.{unpacked};
@@ -88,7 +88,7 @@ fn bytes_at_numbers<const WIDTH: usize, T: NativePType>(
     bytes_at::<WIDTH, Numbered<T>>(alloc, bytes, Numbered::new(places))
 }
 
-// One number at a time.
+// One number at a time: a block of them is read, and then written at once.
 fn bytes_at<const WIDTH: usize, P: Places>(
     alloc: Global,
     bytes: &[u8],
@@ -98,23 +98,34 @@ fn bytes_at<const WIDTH: usize, P: Places>(
     requires within { All (λ k. k * WIDTH + WIDTH ≤ length bytes.now) (P.positions places) }
     ensures { Gives result (λ picked. picked.items ≡ flat_map (bytes_of_position WIDTH bytes.now) (P.positions places)) }
 {
-    let mut picked = vec![in alloc; 0u8; places.count().saturating_mul(WIDTH)]?;
-    put_numbers_at::<WIDTH, P>(bytes, places, &mut picked);
+    let count = places.count();
+    let mut picked = Vec::with_capacity(alloc, count.saturating_mul(WIDTH))?;
+    let mut block = [[0u8; WIDTH]; BLOCK];
+    for at in 0..count.div_ceil(BLOCK) {
+        let start = at * BLOCK;
+        let numbers = &mut block[..BLOCK.min(count - start)];
+        read_numbers_at::<WIDTH, P>(bytes, places, start, numbers);
+        picked.extend_from_slice(numbers.as_flattened())?;
+    }
     Ok(picked)
 }
 
-// Writes the numbers at these positions.
+// Reads the numbers at the positions from place `start` on.
 #[inline(never)]
-fn put_numbers_at<const WIDTH: usize, P: Places>(bytes: &[u8], places: P, out: &mut [u8])
+fn read_numbers_at<const WIDTH: usize, P: Places>(
+    bytes: &[u8],
+    places: P,
+    start: usize,
+    out: &mut [[u8; WIDTH]],
+)
     requires within { All (λ k. k * WIDTH + WIDTH ≤ length bytes.now) (P.positions places) }
-    requires room { length out.old ≡ length (P.positions places) * WIDTH }
-    ensures { out.new ≡ flat_map (bytes_of_position WIDTH bytes.now) (P.positions places) }
+    requires room { start + length out.old ≤ length (P.positions places) }
+    ensures { out.new ≡ map (bytes_of_position WIDTH bytes.now) (slice_range (P.positions places) start (start + length out.old)) }
 {
-    for i in 0..places.count() {
-        let k = places.at(i);
-        let mut number = [0u8; WIDTH];
-        number.copy_from_slice(&bytes[k * WIDTH..k * WIDTH + WIDTH]);
-        out[i * WIDTH..i * WIDTH + WIDTH].copy_from_slice(&number);
+    let _ = places.count();
+    for i in 0..out.len() {
+        let k = places.at(start + i);
+        out[i].copy_from_slice(&bytes[k * WIDTH..k * WIDTH + WIDTH]);
     }
 }
 
