@@ -78,10 +78,3 @@ numbers_gathered t bs (p ∷ ps) all =
     let rest = All-tail (HasNumber t bs) p ps all in
     numbers_append t (bytes_of_position (byte_width t) bs p) (flat_map (bytes_of_position (byte_width t) bs) ps) 1 (length ps) (length_picked t bs p (all 0 p (omega arith))) (length_gathered t bs ps rest)
     ∙ rw (numbers_one t bs p (all 0 p (omega arith)), numbers_gathered t bs ps rest) refl
-
--- the same where the width is known by itself
-pub gathered : (width : ℕ) (t : PType) (bs : List ℕ) (ps : List ℕ) (items : List ℕ) → byte_width t ≡ width → All (HasNumber t bs) ps
-    → items ≡ flat_map (bytes_of_position width bs) ps → (numbers t items ≡ map (number_of_position (numbers t bs)) ps) × (length items ≡ length ps * byte_width t)
-gathered width t bs ps items wide all e =
-    let here : items ≡ flat_map (bytes_of_position (byte_width t) bs) ps = e ∙ ap (λ (n : ℕ). flat_map (bytes_of_position n bs) ps) (sym wide) in
-    (ap (numbers t) here ∙ numbers_gathered t bs ps all, ap length here ∙ length_gathered t bs ps all)

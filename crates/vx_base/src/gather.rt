@@ -34,72 +34,93 @@ pub fn gather_numbers(
     ensures ok { Gives result (λ b. numbers ptype b ≡ map (number_of_position (numbers ptype bytes.now)) selection.now) }
     ensures len { IfOk result (λ b. length b ≡ length selection.now * byte_width ptype) }
 {
-    let picked = match ptype {
-        PType::U8 | PType::I8 => gather_width::<1>(alloc, bytes, selection)?,
-        PType::U16 | PType::I16 => gather_width::<2>(alloc, bytes, selection)?,
-        PType::U32 | PType::I32 => gather_width::<4>(alloc, bytes, selection)?,
-        PType::U64 | PType::I64 => gather_width::<8>(alloc, bytes, selection)?,
-    };
+    let mut picked = Vec::new(alloc);
+    extend_with_numbers(&mut picked, ptype, bytes, selection)?;
     ByteBuffer::from_vec(alloc, picked)
 }
 
-// The same, where a number takes WIDTH bytes.
-fn gather_width<const WIDTH: usize>(
-    alloc: Global,
+/// Appends the bytes of the numbers that are picked, in their order. Asks that each position has a
+/// number. Fails only for want of memory.
+pub fn extend_with_numbers(
+    picked: &mut Vec<u8>,
+    ptype: PType,
     bytes: &[u8],
     selection: &Selection,
-) -> Result<Vec<u8>, VortexError>
+) -> Result<(), VortexError>
+    requires { All (λ k. k < length bytes.now / byte_width ptype) selection.now }
+    ensures { Gives result (λ _. picked.new.items ≡ picked.old.items
+        ++ flat_map (bytes_of_position (byte_width ptype) bytes.now) selection.now) }
+{
+    picked.reserve(selection.len().saturating_mul(ptype.byte_width()))?;
+    match ptype {
+        PType::U8 | PType::I8 => extend_width::<1>(picked, bytes, selection),
+        PType::U16 | PType::I16 => extend_width::<2>(picked, bytes, selection),
+        PType::U32 | PType::I32 => extend_width::<4>(picked, bytes, selection),
+        PType::U64 | PType::I64 => extend_width::<8>(picked, bytes, selection),
+    }
+}
+
+// The same, where a number takes WIDTH bytes.
+fn extend_width<const WIDTH: usize>(
+    picked: &mut Vec<u8>,
+    bytes: &[u8],
+    selection: &Selection,
+) -> Result<(), VortexError>
     requires width { WIDTH ≤ 8 }
     requires within { All (λ k. k * WIDTH + WIDTH ≤ length bytes.now) selection.now }
-    ensures { Gives result (λ picked. picked.items ≡ flat_map (bytes_of_position WIDTH bytes.now) selection.now) }
+    ensures { Gives result (λ _. picked.new.items ≡ picked.old.items
+        ++ flat_map (bytes_of_position WIDTH bytes.now) selection.now) }
 {
-    let capacity = selection.len().saturating_mul(WIDTH);
     match selection.picks() {
-        Picks::Positions(positions) => bytes_at::<WIDTH, Listed>(alloc, bytes, Listed(positions)),
-        Picks::Numbers(ptype, numbers) => {
-            call_native!(*ptype, bytes_at_numbers::<WIDTH>(alloc, bytes, numbers))
+        Picks::Positions(positions) => {
+            extend_at::<WIDTH, Listed>(picked, bytes, Listed(positions))
         }
-        Picks::Repeated(position, len) => bytes_repeated::<WIDTH>(alloc, bytes, *position, *len),
-        Picks::Runs(runs) => bytes_of_runs::<WIDTH>(alloc, bytes, runs, capacity),
-        Picks::OwnRuns(runs) => bytes_of_runs::<WIDTH>(alloc, bytes, runs, capacity),
+        Picks::Numbers(ptype, numbers) => {
+            call_native!(*ptype, extend_at_numbers::<WIDTH>(picked, bytes, numbers))
+        }
+        Picks::Repeated(position, len) => {
+            extend_repeated::<WIDTH>(picked, bytes, *position, *len)
+        }
+        Picks::Runs(runs) => extend_runs::<WIDTH>(picked, bytes, runs),
+        Picks::OwnRuns(runs) => extend_runs::<WIDTH>(picked, bytes, runs),
         Picks::ListsAt(lists, size) => {
-            bytes_of_lists::<WIDTH, Listed>(alloc, bytes, Listed(lists), *size)
+            extend_lists::<WIDTH, Listed>(picked, bytes, Listed(lists), *size)
         }
         Picks::ListsAtNumbers(ptype, lists, size) => {
             call_native!(
                 *ptype,
-                bytes_of_lists_at_numbers::<WIDTH>(alloc, bytes, lists, *size)
+                extend_lists_at_numbers::<WIDTH>(picked, bytes, lists, *size)
             )
         }
     }
 }
 
 // The same, where the positions are numbers in bytes.
-fn bytes_at_numbers<const WIDTH: usize, T: NativePType>(
-    alloc: Global,
+fn extend_at_numbers<const WIDTH: usize, T: NativePType>(
+    picked: &mut Vec<u8>,
     bytes: &[u8],
     places: &[u8],
-) -> Result<Vec<u8>, VortexError>
+) -> Result<(), VortexError>
     requires width { WIDTH ≤ 8 }
     requires within { All (λ k. k * WIDTH + WIDTH ≤ length bytes.now) (map unsigned_abs (numbers T.PTYPE places.now)) }
-    ensures { Gives result (λ picked. picked.items
-        ≡ flat_map (bytes_of_position WIDTH bytes.now) (map unsigned_abs (numbers T.PTYPE places.now))) }
+    ensures { Gives result (λ _. picked.new.items ≡ picked.old.items
+        ++ flat_map (bytes_of_position WIDTH bytes.now) (map unsigned_abs (numbers T.PTYPE places.now))) }
 {
-    bytes_at::<WIDTH, Numbered<T>>(alloc, bytes, Numbered::new(places))
+    extend_at::<WIDTH, Numbered<T>>(picked, bytes, Numbered::new(places))
 }
 
 // One number at a time: a block of them is read, and then written at once.
-fn bytes_at<const WIDTH: usize, P: Places>(
-    alloc: Global,
+fn extend_at<const WIDTH: usize, P: Places>(
+    picked: &mut Vec<u8>,
     bytes: &[u8],
     places: P,
-) -> Result<Vec<u8>, VortexError>
+) -> Result<(), VortexError>
     requires width { WIDTH ≤ 32 }
     requires within { All (λ k. k * WIDTH + WIDTH ≤ length bytes.now) (P.positions places) }
-    ensures { Gives result (λ picked. picked.items ≡ flat_map (bytes_of_position WIDTH bytes.now) (P.positions places)) }
+    ensures { Gives result (λ _. picked.new.items ≡ picked.old.items
+        ++ flat_map (bytes_of_position WIDTH bytes.now) (P.positions places)) }
 {
     let count = places.count();
-    let mut picked = Vec::with_capacity(alloc, count.saturating_mul(WIDTH))?;
     let mut block = [[0u8; WIDTH]; BLOCK];
     for at in 0..count.div_ceil(BLOCK) {
         let start = at * BLOCK;
@@ -107,7 +128,7 @@ fn bytes_at<const WIDTH: usize, P: Places>(
         read_numbers_at::<WIDTH, P>(bytes, places, start, numbers);
         picked.extend_from_slice(numbers.as_flattened())?;
     }
-    Ok(picked)
+    Ok(())
 }
 
 // Reads the numbers at the positions from place `start` on.
@@ -130,46 +151,45 @@ fn read_numbers_at<const WIDTH: usize, P: Places>(
 }
 
 // One number, `len` times: a block of them is made once, and written as often as it goes in.
-fn bytes_repeated<const WIDTH: usize>(
-    alloc: Global,
+fn extend_repeated<const WIDTH: usize>(
+    picked: &mut Vec<u8>,
     bytes: &[u8],
     position: usize,
     len: usize,
-) -> Result<Vec<u8>, VortexError>
+) -> Result<(), VortexError>
     requires width { WIDTH ≤ 8 }
     requires within { All (λ k. k * WIDTH + WIDTH ≤ length bytes.now) (replicate len position) }
-    ensures { Gives result (λ picked. picked.items ≡ flat_map (bytes_of_position WIDTH bytes.now) (replicate len position)) }
+    ensures { Gives result (λ _. picked.new.items ≡ picked.old.items
+        ++ flat_map (bytes_of_position WIDTH bytes.now) (replicate len position)) }
 {
     if len == 0 {
-        return Ok(Vec::new(alloc));
+        return Ok(());
     }
     let mut number = [0u8; WIDTH];
     number.copy_from_slice(&bytes[position * WIDTH..position * WIDTH + WIDTH]);
     let block = [number; BLOCK];
-    let mut picked = Vec::with_capacity(alloc, len.saturating_mul(WIDTH))?;
     for _ in 0..len / BLOCK {
         picked.extend_from_slice(block.as_flattened())?;
     }
     picked.extend_from_slice(block[..len % BLOCK].as_flattened())?;
-    Ok(picked)
+    Ok(())
 }
 
 // One run at a time.
-fn bytes_of_runs<const WIDTH: usize>(
-    alloc: Global,
+fn extend_runs<const WIDTH: usize>(
+    picked: &mut Vec<u8>,
     bytes: &[u8],
     runs: &[(usize, usize)],
-    capacity: usize,
-) -> Result<Vec<u8>, VortexError>
+) -> Result<(), VortexError>
     requires { All (λ k. k * WIDTH + WIDTH ≤ length bytes.now) (flat_map run_positions runs.now) }
-    ensures { Gives result (λ picked. picked.items ≡ flat_map (bytes_of_position WIDTH bytes.now) (flat_map run_positions runs.now)) }
+    ensures { Gives result (λ _. picked.new.items ≡ picked.old.items
+        ++ flat_map (bytes_of_position WIDTH bytes.now) (flat_map run_positions runs.now)) }
 {
-    let mut picked = Vec::with_capacity(alloc, capacity)?;
     for run in runs {
         let (start, end) = *run;
-        extend_run::<WIDTH>(&mut picked, bytes, start, end)?;
+        extend_run::<WIDTH>(picked, bytes, start, end)?;
     }
-    Ok(picked)
+    Ok(())
 }
 
 // Appends the numbers from `start` up to `end`, none where there is none between.
@@ -191,74 +211,74 @@ fn extend_run<const WIDTH: usize>(
 }
 
 // The same of lists of `size` numbers each, where the lists are numbers in bytes.
-fn bytes_of_lists_at_numbers<const WIDTH: usize, T: NativePType>(
-    alloc: Global,
+fn extend_lists_at_numbers<const WIDTH: usize, T: NativePType>(
+    picked: &mut Vec<u8>,
     bytes: &[u8],
     places: &[u8],
     size: usize,
-) -> Result<Vec<u8>, VortexError>
+) -> Result<(), VortexError>
     requires { All (λ k. k * WIDTH + WIDTH ≤ length bytes.now) (flat_map (list_positions size) (map unsigned_abs (numbers T.PTYPE places.now))) }
-    ensures { Gives result (λ picked. picked.items
-        ≡ flat_map (bytes_of_position WIDTH bytes.now) (flat_map (list_positions size) (map unsigned_abs (numbers T.PTYPE places.now)))) }
+    ensures { Gives result (λ _. picked.new.items ≡ picked.old.items
+        ++ flat_map (bytes_of_position WIDTH bytes.now) (flat_map (list_positions size) (map unsigned_abs (numbers T.PTYPE places.now)))) }
 {
-    bytes_of_lists::<WIDTH, Numbered<T>>(alloc, bytes, Numbered::new(places), size)
+    extend_lists::<WIDTH, Numbered<T>>(picked, bytes, Numbered::new(places), size)
 }
 
 // One list at a time: the numbers of a list are one number of as many bytes.
-fn bytes_of_lists<const WIDTH: usize, P: Places>(
-    alloc: Global,
+fn extend_lists<const WIDTH: usize, P: Places>(
+    picked: &mut Vec<u8>,
     bytes: &[u8],
     lists: P,
     size: usize,
-) -> Result<Vec<u8>, VortexError>
+) -> Result<(), VortexError>
     requires { All (λ k. k * WIDTH + WIDTH ≤ length bytes.now) (flat_map (list_positions size) (P.positions lists)) }
-    ensures { Gives result (λ picked. picked.items
-        ≡ flat_map (bytes_of_position WIDTH bytes.now) (flat_map (list_positions size) (P.positions lists))) }
+    ensures { Gives result (λ _. picked.new.items ≡ picked.old.items
+        ++ flat_map (bytes_of_position WIDTH bytes.now) (flat_map (list_positions size) (P.positions lists))) }
 {
     if lists.count() == 0 {
-        return Ok(Vec::new(alloc));
+        return Ok(());
     }
-    wide_numbers_at::<P>(alloc, bytes, lists, size * WIDTH)
+    extend_wide_at::<P>(picked, bytes, lists, size * WIDTH)
 }
 
 // One number at a time, where a number takes `width` bytes. Of few bytes it is held whole.
-fn wide_numbers_at<P: Places>(
-    alloc: Global,
+fn extend_wide_at<P: Places>(
+    picked: &mut Vec<u8>,
     bytes: &[u8],
     places: P,
     width: usize,
-) -> Result<Vec<u8>, VortexError>
+) -> Result<(), VortexError>
     requires { All (λ k. k * width + width ≤ length bytes.now) (P.positions places) }
-    ensures { Gives result (λ picked. picked.items ≡ flat_map (bytes_of_position width bytes.now) (P.positions places)) }
+    ensures { Gives result (λ _. picked.new.items ≡ picked.old.items
+        ++ flat_map (bytes_of_position width bytes.now) (P.positions places)) }
 {
     match width {
-        1 => bytes_at::<1, P>(alloc, bytes, places),
-        2 => bytes_at::<2, P>(alloc, bytes, places),
-        4 => bytes_at::<4, P>(alloc, bytes, places),
-        8 => bytes_at::<8, P>(alloc, bytes, places),
-        16 => bytes_at::<16, P>(alloc, bytes, places),
-        32 => bytes_at::<32, P>(alloc, bytes, places),
-        _ => extend_numbers_at::<P>(alloc, bytes, places, width),
+        1 => extend_at::<1, P>(picked, bytes, places),
+        2 => extend_at::<2, P>(picked, bytes, places),
+        4 => extend_at::<4, P>(picked, bytes, places),
+        8 => extend_at::<8, P>(picked, bytes, places),
+        16 => extend_at::<16, P>(picked, bytes, places),
+        32 => extend_at::<32, P>(picked, bytes, places),
+        _ => extend_numbers_at::<P>(picked, bytes, places, width),
     }
 }
 
 // The same at any width.
 fn extend_numbers_at<P: Places>(
-    alloc: Global,
+    picked: &mut Vec<u8>,
     bytes: &[u8],
     places: P,
     width: usize,
-) -> Result<Vec<u8>, VortexError>
+) -> Result<(), VortexError>
     requires { All (λ k. k * width + width ≤ length bytes.now) (P.positions places) }
-    ensures { Gives result (λ picked. picked.items ≡ flat_map (bytes_of_position width bytes.now) (P.positions places)) }
+    ensures { Gives result (λ _. picked.new.items ≡ picked.old.items
+        ++ flat_map (bytes_of_position width bytes.now) (P.positions places)) }
 {
-    let count = places.count();
-    let mut picked = Vec::with_capacity(alloc, count.saturating_mul(width))?;
-    for i in 0..count {
+    for i in 0..places.count() {
         let start = places.at(i) * width;
         picked.extend_from_slice(&bytes[start..start + width])?;
     }
-    Ok(picked)
+    Ok(())
 }
 
 /// The booleans that are picked, in their order. Asks that each position has a boolean. Fails only

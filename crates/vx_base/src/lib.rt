@@ -38,7 +38,7 @@ pub use crate::counts::{read_counts, write_counts};
 pub use crate::dtypes::{DType, equal_where_same_kind};
 pub use crate::errors::VortexError;
 pub use crate::field_names::{FieldName, FieldNames};
-pub use crate::gather::{gather_bits, gather_items, gather_numbers};
+pub use crate::gather::{extend_with_numbers, gather_bits, gather_items, gather_numbers};
 pub use crate::laws::first_fault_is_least;
 pub use crate::mask::Mask;
 pub use crate::mask_values::MaskValues;

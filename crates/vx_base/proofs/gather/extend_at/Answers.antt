@@ -3,7 +3,7 @@ use Rattle.std.specs.Prelude.{slice_range}
 use Rattle.std.proofs.lemmas.List.{length-take-le}
 use Rattle.vx_base.proofs.Blocks.{next_pieces, end_of_block}
 use Rattle.vx_base.specs.Selections.{bytes_of_position}
-use Rattle.vx_base.proofs.gather.bytes_at.Goals as goal
+use Rattle.vx_base.proofs.gather.extend_at.Goals as goal
 
 pub loop-at-preserved : goal.loop-at-preserved
 loop-at-preserved g c =
@@ -13,4 +13,4 @@ loop-at-preserved g c =
     let size = c.min.result in
     let long : length (take size c.loop-at.block) ≡ size = search (rules, length-take-le) in
     let read : c.read_numbers_at.new.out ≡ map f (slice_range ps start (start + size)) = c.read_numbers_at.ensures ∙ ap (λ n. map f (slice_range ps start (start + n))) long in
-    next_pieces f ps start size ((c.loop-at.at + 1) * 128) _ _ _ _ (end_of_block ps start size 128 c.count-count.result (omega (arith, c.count-count.ensures)) c.min.ensures ∙ ap (λ n. take n ps) (omega arith)) c.loop-at.invariant read c.as_flattened.ensures.value c.in_ok-extend_from_slice.ensures.items
+    next_pieces f c.args.picked.now.items ps start size ((c.loop-at.at + 1) * 128) _ _ _ _ (end_of_block ps start size 128 c.count-count.result (omega (arith, c.count-count.ensures)) c.min.ensures ∙ ap (λ n. take n ps) (omega arith)) c.loop-at.invariant read c.as_flattened.ensures.value c.in_ok-extend_from_slice.ensures.items
