@@ -1,7 +1,8 @@
 // Rows that are picked at numbers in bytes, and one that is picked again and again.
 
 use vx_base::{
-    BitBuffer, PType, Selection, VortexError, gather_bits, gather_items, gather_numbers,
+    BitBuffer, PType, Selection, VortexError, extend_with_numbers, gather_bits, gather_items,
+    gather_numbers,
 };
 
 #[test]
@@ -18,6 +19,15 @@ fn one_number_picked_again(rt: HostRuntime) -> Result<(), VortexError> {
     let places = Selection::repeated(1, 3);
     let picked = gather_numbers(rt.alloc(), PType::U16, &[1, 0, 0, 2], &places)?;
     assert!(rt; picked.as_slice() == [0, 2, 0, 2, 0, 2].as_slice());
+    Ok(())
+}
+
+#[test]
+fn numbers_picked_after_others(rt: HostRuntime) -> Result<(), VortexError> {
+    let mut picked = vec![in rt.alloc(); 7u8, 7]?;
+    let places = Selection::at_positions(&[1, 0, 1]);
+    extend_with_numbers(&mut picked, PType::U16, &[1, 0, 0, 2], &places)?;
+    assert!(rt; picked.as_slice() == [7, 7, 0, 2, 1, 0, 0, 2].as_slice());
     Ok(())
 }
 
