@@ -3,7 +3,6 @@
 ghost use Rattle.std.specs.Prelude.{◌≡◌, ◌≤◌, ◌<◌, ◌*◌, ◌/◌, ◌↔◌, [], length, map, slice_get, slice_range, Some, IsTrue, IfOk};
 ghost use Rattle.vx_base.specs.Refusals.{Gives};
 ghost use Rattle.vx_base.specs.Integers.{byte_width, numbers};
-ghost use Rattle.vx_base.specs.declared.errors.VortexError.TheVariants.{Memory};
 
 use crate::byte_buffer::ByteBuffer;
 use crate::errors::VortexError;
@@ -13,6 +12,9 @@ use std::marker::Model;
 use std::ops::Range;
 use std::rc::Rc;
 
+// How many numbers a block has.
+const BLOCK: usize = 128;
+
 // The numbers that these bytes hold: memory is had once, and each number is written into it once.
 pub(crate) fn numbers_of<T: NativePType>(alloc: Global, bytes: &[u8]) -> Result<Vec<T>, VortexError>
     ensures { Gives result (λ v. map T.value v.items ≡ numbers T.PTYPE bytes.now) }
@@ -20,6 +22,27 @@ pub(crate) fn numbers_of<T: NativePType>(alloc: Global, bytes: &[u8]) -> Result<
     let width = T::PTYPE.byte_width();
     let places = bytes.chunks_exact(width);
     Ok(places.map(|place| T::get_le(place)).collect(alloc)?)
+}
+
+// The bytes of these numbers, one number after another: a block of them is made, and then written
+// at once.
+#[tactic(auto, using(crate::proofs::Blocks::block_room))]
+fn bytes_of_numbers<T: NativePType>(alloc: Global, items: &[T]) -> Result<Vec<u8>, VortexError>
+    ensures ok { Gives result (λ bytes. numbers T.PTYPE bytes.items ≡ map T.value items.now) }
+    ensures len { IfOk result (λ bytes. length bytes.items ≡ length items.now * byte_width T.PTYPE) }
+{
+    let width = T::PTYPE.byte_width();
+    let count = items.len();
+    let mut bytes = Vec::with_capacity(alloc, count.saturating_mul(width))?;
+    let mut block = [0u8; 8 * BLOCK];
+    for at in 0..count.div_ceil(BLOCK) {
+        let start = at * BLOCK;
+        let size = BLOCK.min(count - start);
+        let out = &mut block[..size * width];
+        put_numbers(&items[start..start + size], out);
+        bytes.extend_from_slice(out)?;
+    }
+    Ok(bytes)
 }
 
 // Writes the bytes of these numbers, one number after another.
@@ -154,11 +177,7 @@ impl<T: NativePType> Buffer<T> {
         ensures ok { Gives result (λ b. numbers T.PTYPE b ≡ map T.value self.now) }
         ensures len { IfOk result (λ b. length b ≡ length self.now * byte_width T.PTYPE) }
     {
-        let Some(size) = self.len().checked_mul(T::PTYPE.byte_width()) else {
-            return Err(VortexError::Memory);
-        };
-        let mut bytes = vec![in alloc; 0u8; size]?;
-        put_numbers(self.as_slice(), &mut bytes);
+        let bytes = bytes_of_numbers(alloc, self.as_slice())?;
         ByteBuffer::from_vec(alloc, bytes)
     }
 }
