@@ -6,10 +6,12 @@ use Rattle.std.proofs.lemmas.List.{length-map, get_or-map}
 use Rattle.std.proofs.lemmas.List.Elements.{All-filter}
 use Rattle.std.proofs.lemmas.List.FromFn.{fill_by_all, length-range_with_len, get_or-range_with_len}
 use Rattle.vx_base.proofs.ListParts.{map_range_same}
+use Rattle.vx_base.proofs.TrueRuns.{length_trues}
 use Rattle.vx_base.specs.Bits.{bool_at}
+use Rattle.vx_base.specs.Kinds.{Kind}
 use Rattle.vx_base.specs.Rows.{Row, null, truth_of}
 use Rattle.vx_base.specs.Trues.{trues}
-use Rattle.vx_tree.specs.Tree.{Tree, by_array}
+use Rattle.vx_tree.specs.Tree.{Tree, constant, by_array}
 use Rattle.vx_tree.specs.Meaning.{row_at, rows, tree_len, is_valid_at}
 use Rattle.vx_tree.specs.Operations.{IsSelected, IsNulled, AreBelow, filtered, masked, truths}
 
@@ -41,6 +43,18 @@ trues_below mask n long =
     All-filter (bool_at mask) (λ k. k < n) (range_with_len 0 (length mask)) (λ i d l.
     let inside : i < length mask = omega (arith, length-range_with_len 0 (length mask)) in
     omega (arith, get_or-range_with_len 0 (length mask) i d inside))
+
+-- of rows that are all one, as many as the mask has true
+pub constant_filtered : (t r : Tree) (k : Kind) (x : Row) (n m : ℕ) (mask : List Bool) → t ≡ constant k x n → r ≡ constant k x m → m ≡ count_by (λ b. b) mask → IsSelected t (trues mask) r
+constant_filtered t r k x n m mask a b count =
+    rw (a, b) (record {
+      len = count ∙ sym (length_trues mask);
+      kind = refl;
+      shape = refl;
+      plain = λ h. h;
+      extent = λ h. absurd h;
+      rows = λ i l. refl;
+    })
 
 -- ---- what a mask makes null
 

@@ -8,7 +8,7 @@ ghost use Rattle.vx_tree.specs.Shapes.{shape_of, selected_shape};
 ghost use Rattle.vx_tree.specs.Faults.{length_fault};
 ghost use Rattle.vx_tree.specs.Operations.{IsSelected, filtered};
 
-use crate::array::ArrayRef;
+use crate::array::{ArrayRef, Layout};
 use crate::laws::fewer_rows_are_countable;
 use std::alloc::Global;
 use vx_base::{Mask, Selection, VortexError};
@@ -29,6 +29,9 @@ impl ArrayRef {
         let found = mask.len();
         if found != expected {
             return Err(VortexError::LengthMismatch { expected, found });
+        }
+        if matches!(self.layout(), Layout::Constant { .. }) {
+            return Ok(self.filter_constant(alloc, mask)?);
         }
         fewer_rows_are_countable(self);
         let runs = mask.true_runs(alloc)?;

@@ -1,12 +1,13 @@
 // One row, however often.
 
-ghost use Rattle.std.specs.Prelude.{◌≡◌, ◌<◌, ◌≤◌, ◌-◌, ◌∷◌, [], ℕ, true, false, IfOk};
+ghost use Rattle.std.specs.Prelude.{◌≡◌, ◌<◌, ◌≤◌, ◌-◌, ◌∷◌, [], ℕ, true, false, length, IfOk};
 ghost use Rattle.vx_base.specs.Kinds.{is_nullable_kind};
 ghost use Rattle.vx_base.specs.DTypes.{dtype_meaning};
 ghost use Rattle.vx_base.specs.Rows.{is_present, null};
 ghost use Rattle.vx_base.specs.Defaults.{default_fault, default_row};
 ghost use Rattle.vx_base.specs.Refusals.{Gives, Refuses, or_else};
 ghost use Rattle.vx_base.specs.ValueRows.{row_under};
+ghost use Rattle.vx_base.specs.Trues.{trues};
 ghost use Rattle.vx_tree.specs.Tree.{constant};
 ghost use Rattle.vx_tree.specs.Layouts.{is_constant};
 ghost use Rattle.vx_tree.specs.OneValue.{HasOneValue};
@@ -22,7 +23,7 @@ use crate::array::{ArrayRef, Layout, Validity};
 use crate::plain_parts::plain_values;
 use crate::plain_rows::is_countable;
 use std::alloc::Global;
-use vx_base::{DType, Nullability, Scalar, ScalarValue, Selection, VortexError};
+use vx_base::{DType, Mask, Nullability, Scalar, ScalarValue, Selection, VortexError};
 
 impl ArrayRef {
     /// The row `len` times.
@@ -63,6 +64,22 @@ impl ArrayRef {
             unreachable!();
         };
         ArrayRef::constant(alloc, scalar.try_clone(alloc)?, selection.len())
+    }
+
+    // The rows at which the mask is true, of which only the number tells.
+    pub(crate) fn filter_constant(
+        &self,
+        alloc: Global,
+        mask: &Mask,
+    ) -> Result<ArrayRef, VortexError>
+        requires layout { is_constant self.now ≡ true }
+        requires len { length mask.now ≡ tree_len self.now }
+        ensures { Gives result (IsSelected self.now (trues mask.now)) }
+    {
+        let Layout::Constant { scalar, .. } = self.layout() else {
+            unreachable!();
+        };
+        ArrayRef::constant(alloc, scalar.try_clone(alloc)?, mask.true_count())
     }
 
     // A constant where null may not stand under the validity, else a dictionary of the one row.

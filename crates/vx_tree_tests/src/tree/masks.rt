@@ -35,6 +35,17 @@ fn filter_of_a_huge_constant(rt: HostRuntime) -> Result<(), VortexError> {
 }
 
 #[test]
+fn filter_of_a_constant(rt: HostRuntime) -> Result<(), VortexError> {
+    let scalar = Scalar::int(7, PType::I32, Nullability::NonNullable);
+    let array = ArrayRef::constant(rt.alloc(), scalar, 5)?;
+    let bits = BitBuffer::from_bools(rt.alloc(), &[true, false, true, true, false])?;
+    let left = array.filter(rt.alloc(), &Mask::from_buffer(rt.alloc(), bits)?)?;
+    assert!(rt; left.len() == 3 && matches!(left.layout(), Layout::Constant { .. }));
+    assert_eq!(rt; number(&rt, &left, 2), Some(7));
+    Ok(())
+}
+
+#[test]
 fn filter_by_a_longer_mask(rt: HostRuntime) -> Result<(), VortexError> {
     let found = match lists(rt.alloc())?.filter(rt.alloc(), &Mask::new_true(4)) {
         Err(

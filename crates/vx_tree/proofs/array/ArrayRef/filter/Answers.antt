@@ -30,3 +30,9 @@ returns-clause-rows c =
     let r = c.in_ok-select_within.field-0 in
     let picks : c.of_runs-selection.result ≡ trues mask = rw c.deref.ensures.value at c.of_runs-selection.ensures ∙ c.in_ok-runs.ensures in
     rows_filtered t r mask (omega arith) (subst (λ ps. IsSelected t ps r) picks c.in_ok-select_within.ensures)
+
+pub returns-then-matches-clause-rows : goal.returns-then-matches-clause-rows
+returns-then-matches-clause-rows c =
+    let mask = c.args.mask.now in
+    let long : length mask ≡ tree_len c.args.self.now = omega arith in
+    rows_filtered c.args.self.now c.in_ok-filter_constant.field-0 mask long c.in_ok-filter_constant.ensures
