@@ -43,3 +43,4 @@ pub mod JoinedParts
 pub mod JoinedViews
 pub mod JoinedExtents
 pub mod Concatenated
+pub mod Zeroes

@@ -19,7 +19,6 @@ use crate::array::{ArrayRef, Layout, Validity};
 use std::alloc::Global;
 use vx_base::{
     ByteBuffer, PType, ScalarValue, Selection, VortexError, gather_numbers, int_at, slice_numbers,
-    write_counts,
 };
 
 impl ArrayRef {
@@ -233,8 +232,8 @@ pub(crate) fn zero_numbers(
     ensures zeroes { Gives result (λ b. numbers ptype b ≡ map pos (replicate len 0)) }
     ensures whole { IfOk result (λ b. length b ≡ len * byte_width ptype) }
 {
-    let counts = vec![in alloc; 0; len]?;
-    write_counts(alloc, ptype, &counts)
+    let bytes = vec![in alloc; 0u8; len.saturating_mul(ptype.byte_width())]?;
+    ByteBuffer::from_vec(alloc, bytes)
 }
 
 // The bytes of arrays of numbers, one array after another.
