@@ -44,3 +44,4 @@ pub mod JoinedViews
 pub mod JoinedExtents
 pub mod Concatenated
 pub mod Zeroes
+pub mod PlainTests

@@ -27,3 +27,4 @@ pub mod Fitting
 pub mod Worked
 pub mod Values
 pub mod Slots
+pub mod PlainTests

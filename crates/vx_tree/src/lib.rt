@@ -12,6 +12,7 @@ mod laws;
 mod layouts;
 mod mask;
 mod nulls;
+mod plain;
 mod plain_parts;
 mod plain_rows;
 mod plain_values;

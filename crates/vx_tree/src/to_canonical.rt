@@ -18,19 +18,23 @@ impl ArrayRef {
     /// elements, texts and byte lists their views and buffers; a constant list has its elements
     /// once, a constant text one buffer at most, however often they stand; a dictionary has the
     /// elements and the buffers of its values, none if it has no values. Lists that a constant or
-    /// a dictionary becomes have the flag false. Refuses by the first
-    /// fault of the parts in their order, the values of a dictionary first: a constant with
-    /// `MismatchedTypes` where a record has not as many names as fields, then with `Overflow` where
-    /// its row, if it stands at least once, or else all of its rows need more elements of lists of
-    /// one size than can be counted, or its row more than 4294967296 buffers in one layout; a
-    /// dictionary with `Overflow` where the rows of its codes need too many elements. Of the values
-    /// 7, 9 and the codes 1, null, 0, 1 it makes the numbers 9, null, 7, 9.
-    #[tactic(auto, using(crate::proofs::Canonical::rows_canonical))]
+    /// a dictionary becomes have the flag false. An array that is plain already is shared. Refuses
+    /// by the first fault of the parts in their order, the values of a dictionary first: a
+    /// constant with `MismatchedTypes` where a record has not as many names as fields, then with
+    /// `Overflow` where its row, if it stands at least once, or else all of its rows need more
+    /// elements of lists of one size than can be counted, or its row more than 4294967296 buffers
+    /// in one layout; a dictionary with `Overflow` where the rows of its codes need too many
+    /// elements. Of the values 7, 9 and the codes 1, null, 0, 1 it makes the numbers 9, null, 7,
+    /// 9.
+    #[tactic(auto, using(crate::proofs::PlainTests::plain_tests))]
     pub fn to_canonical(&self, alloc: Global) -> Result<ArrayRef, VortexError>
         ensures rows { IfOk result (λ a. rows a ≡ rows self.now) }
         ensures canonical { IfOk result (IsCanonical self.now) }
         ensures refuses { Refuses result (canonical_fault self.now) }
     {
+        if self.is_plain() {
+            return Ok(self.try_clone(alloc)?);
+        }
         self.canonical(alloc)
     }
 

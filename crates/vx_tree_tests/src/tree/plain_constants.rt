@@ -2,6 +2,7 @@
 
 use super::{expect_list, number};
 use std::alloc::Global;
+use std::process::Abort;
 use std::rc::Rc;
 use vx_base::{
     ByteBuffer, DType, FieldNames, Nullability, PType, Scalar, ScalarValue, ScalarValues,
@@ -116,20 +117,31 @@ fn same_records(alloc: Global, len: usize) -> Result<ArrayRef, VortexError> {
     plain(alloc, records(alloc)?, Some(value), len)
 }
 
-#[test]
-fn records_by_columns(rt: HostRuntime) -> Result<(), VortexError> {
-    let array = same_records(rt.alloc(), 2)?;
+// Stops unless two of these records stand in plain layout.
+fn expect_records(rt: &impl Abort, alloc: Global, array: &ArrayRef) -> Result<(), VortexError> {
     let Layout::Struct { columns, .. } = array.layout() else {
         panic!(rt; "no records");
     };
     assert!(rt; array.len() == 2 && columns.len() == 2);
-    assert!(rt; !columns[1].is_valid(rt.alloc(), 0)? && !columns[1].is_valid(rt.alloc(), 1)?);
+    assert!(rt; !columns[1].is_valid(alloc, 0)? && !columns[1].is_valid(alloc, 1)?);
     let Layout::VarBinView { buffers, .. } = columns[0].layout() else {
         panic!(rt; "no texts");
     };
     assert_eq!(rt; buffers.len(), 1);
     assert!(rt; columns[0].bytes_at(0) == Some(LONG) && columns[0].bytes_at(1) == Some(LONG));
     Ok(())
+}
+
+#[test]
+fn records_by_columns(rt: HostRuntime) -> Result<(), VortexError> {
+    let array = same_records(rt.alloc(), 2)?;
+    expect_records(&rt, rt.alloc(), &array)
+}
+
+#[test]
+fn plain_records_stay_as_they_are(rt: HostRuntime) -> Result<(), VortexError> {
+    let array = same_records(rt.alloc(), 2)?.to_canonical(rt.alloc())?;
+    expect_records(&rt, rt.alloc(), &array)
 }
 
 #[test]
