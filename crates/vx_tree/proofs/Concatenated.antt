@@ -4,12 +4,13 @@ use Rattle.std.specs.Prelude.{◌&&◌, not, if◌then◌else◌, Result, Ok, Er
 use Rattle.std.specs.List.{All, AllZip, flat_map}
 use Rattle.std.proofs.lemmas.Bool.{cases_lt}
 use Rattle.std.proofs.lemmas.List.{at_drop_more, same_lists}
-use Rattle.vx_base.specs.Kinds.{Kind}
+use Rattle.vx_base.specs.Kinds.{Kind, integers, is_integers}
 use Rattle.vx_base.specs.SameKind.{kind_eq, kind_eq-Decides}
 use Rattle.vx_base.specs.Rows.{Row, null}
 use Rattle.vx_base.specs.Booleans.{count_fault}
 use Rattle.vx_base.specs.Refusals.{Refusal, or_else, IsMemoryOr, Names, differing_dtypes}
 use Rattle.vx_base.specs.declared.errors.VortexError.{VortexError}
+use Rattle.vx_base.specs.declared.ptypes.PType.{PType}
 use Rattle.vx_tree.specs.Tree.{Tree}
 use Rattle.vx_tree.specs.Meaning.{tree_len, kind_of, row_at, rows, trees_from}
 use Rattle.vx_tree.specs.Shapes.{tree_state}
@@ -21,9 +22,10 @@ use Rattle.vx_tree.specs.Joined.{joined_len, joined_state, joined_states, joined
 use Rattle.vx_tree.specs.Extents.{extent_of}
 use Rattle.vx_tree.specs.Concatenated.{are_alike, given_fault, extents_fault, plain_fault, concat_fault}
 use Rattle.vx_tree.proofs.RowLists.{length-rows, get_or-rows}
-use Rattle.vx_tree.proofs.JoinedRows.{HoldEach, length-joined, joined_item, joined_same, joined-here, joined-later}
+use Rattle.vx_tree.proofs.JoinedRows.{length-joined, joined_item, joined_same, joined-here, joined-later}
 use Rattle.vx_tree.proofs.JoinedParts.{first_named}
 use Rattle.vx_tree.proofs.JoinedExtents.{extents_fault-of}
+use Rattle.vx_tree.proofs.JoinedNumbers.{columns_faultless}
 use Rattle.vx_tree.proofs.Dictionaries.{memory_only}
 
 -- ---- kinds
@@ -115,23 +117,33 @@ plain_row (t ∷ ts) (p ∷ ps) h i l = elim (cases_lt i (tree_len t)) [
       ∙ plain_row ts ps h.1 (i - tree_len t) (omega arith) ∙ sym (joined-later row_at null t ts i later)
 ]
 
-pub rows_concatenated : (k : Kind) (ts ps : List Tree) (r : Tree) → AllZip IsCanonical ts ps → IsJoined k ps r → rows r ≡ flat_map rows ts
-rows_concatenated k ts ps r h joined =
-    same_lists (rows r) (flat_map rows ts) (length-rows r ∙ long ∙ sym (length-joined rows ts hold)) (λ i d l.
+-- the rows of arrays, one array after another
+rows_listed : (ts : List Tree) (i : ℕ) (d : Row) → i < joined_len ts → joined_row ts i ≡ get_or (flat_map rows ts) i d
+rows_listed ts i d n =
+    joined_same row_at (λ t j. get_or (rows t) j d) null null ts (λ k c m. λ j q. sym (get_or-rows (get_or ts k c) j d q)) i n
+    ∙ sym (joined_item rows (λ x. x) d null ts (λ k c l. length-rows (get_or ts k c)) i n)
+
+pub rows_joined : (k : Kind) (ts : List Tree) (r : Tree) → IsJoined k ts r → rows r ≡ flat_map rows ts
+rows_joined k ts r joined =
+    same_lists (rows r) (flat_map rows ts) (length-rows r ∙ joined.len ∙ sym (length-joined rows ts (λ i d l. length-rows (get_or ts i d)))) (λ i d l.
     let m : i < tree_len r = omega (arith, length-rows r) in
-    let n : i < joined_len ts = omega (arith, long) in
-    get_or-rows r i d m ∙ joined.rows i (omega (arith, joined.len)) ∙ plain_row ts ps h i n ∙ listed_row i d n)
-  where
-    long : tree_len r ≡ joined_len ts
-    long = joined.len ∙ plain_len ts ps h
+    let n : i < joined_len ts = omega (arith, joined.len) in
+    get_or-rows r i d m ∙ joined.rows i n ∙ rows_listed ts i d n)
 
-    hold : HoldEach rows ts
-    hold = λ i d l. length-rows (get_or ts i d)
+-- plain layouts that are joined are the arrays joined
+plain_joined : (k : Kind) (ts ps : List Tree) (r : Tree) → AllZip IsCanonical ts ps → IsJoined k ps r → IsJoined k ts r
+plain_joined k ts ps r h joined =
+    record {
+      len = joined.len ∙ plain_len ts ps h;
+      kind = joined.kind;
+      plain = joined.plain;
+      state = λ some. joined.state (omega (arith, plain_count ts ps h)) ∙ plain_states ts ps h;
+      flag = joined.flag;
+      rows = λ i l. joined.rows i (omega (arith, plain_len ts ps h)) ∙ plain_row ts ps h i l;
+    }
 
-    listed_row : (i : ℕ) (d : Row) → i < joined_len ts → joined_row ts i ≡ get_or (flat_map rows ts) i d
-    listed_row i d n =
-        joined_same row_at (λ t j. get_or (rows t) j d) null null ts (λ k c m. λ j q. sym (get_or-rows (get_or ts k c) j d q)) i n
-        ∙ sym (joined_item rows (λ x. x) d null ts hold i n)
+pub rows_concatenated : (k : Kind) (ts ps : List Tree) (r : Tree) → AllZip IsCanonical ts ps → IsJoined k ps r → rows r ≡ flat_map rows ts
+rows_concatenated k ts ps r h joined = rows_joined k ts r (plain_joined k ts ps r h joined)
 
 -- ---- faults
 
@@ -190,6 +202,12 @@ join_fault-concat ts ps t k h joinable same l first short none =
     let few : count_fault (joined_len ps) ≡ None = ap count_fault long ∙ short in
     ap (λ f. or_else f (parts_join_fault k ps)) few ∙ extents_fault-of k ps joinable few ∙ (λ i. extents_fault (same i) (long i) (extents i)) ∙ plain_fault-first ts t l first
     ∙ sym (ap (λ f. or_else f (plain_fault ts)) none)
+
+-- numbers have none, where they can be counted
+pub numbers_concatenated : (ts : List Tree) (t : Tree) (p : PType) (n : Bool) → kind_of t ≡ integers p n → 0 < length ts → t ≡ get_or ts 0 t → are_alike (kind_of t) ts ≡ true → count_fault (joined_len ts) ≡ None → concat_fault ts ≡ None
+numbers_concatenated ts t p n kind l first alike none =
+    let plain = columns_faultless ts (kind_of t) (ap is_integers kind) (alike_kinds (kind_of t) ts alike) in
+    ap (λ f. or_else f (plain_fault ts)) (given_none ts t l first alike none plain) ∙ sym (plain_fault-first ts t l first) ∙ ap (λ k. extents_fault k (joined_len ts) (map extent_of ts)) kind
 
 -- ---- what is answered
 

@@ -1,5 +1,5 @@
 -- Rows under a mask.
-use Rattle.std.proofs.Common.{ℕ, ◌<◌, ◌≡◌, Bool, true, false, cond, List, [], ◌∷◌, length, map, get_or, refl, sym, ◌∙◌, ap, zero-add, arith}
+use Rattle.std.proofs.Common.{ℕ, ◌<◌, ◌≡◌, Bool, true, false, cond, List, [], ◌∷◌, length, map, refl, sym, ◌∙◌, ap, zero-add, arith}
 use Rattle.std.specs.Prelude.{if◌then◌else◌, count_by}
 use Rattle.std.specs.List.{filter, range_with_len}
 use Rattle.std.proofs.lemmas.List.{length-map, get_or-map}
@@ -12,7 +12,7 @@ use Rattle.vx_base.specs.Kinds.{Kind}
 use Rattle.vx_base.specs.Rows.{Row, null, truth_of}
 use Rattle.vx_base.specs.Trues.{trues}
 use Rattle.vx_tree.specs.Tree.{Tree, constant, by_array}
-use Rattle.vx_tree.specs.Meaning.{row_at, rows, tree_len, is_valid_at}
+use Rattle.vx_tree.specs.Meaning.{row_at, rows, tree_len}
 use Rattle.vx_tree.specs.Operations.{IsSelected, IsNulled, AreBelow, filtered, masked, truths}
 
 -- ---- what a mask leaves

@@ -42,6 +42,7 @@ pub mod JoinedKinds
 pub mod JoinedParts
 pub mod JoinedViews
 pub mod JoinedExtents
+pub mod JoinedNumbers
 pub mod Concatenated
 pub mod Zeroes
 pub mod PlainTests

@@ -20,6 +20,7 @@ pub mod Patches
 pub mod Joins
 pub mod Becomes
 pub mod Joined
+pub mod JoinedNumbers
 pub mod Concatenated
 pub mod Columns
 pub mod Composed

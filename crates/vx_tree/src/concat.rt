@@ -12,6 +12,8 @@ ghost use Rattle.vx_tree.specs.Flags.{is_flagged};
 ghost use Rattle.vx_tree.specs.Canonical.{IsCanonical, columns_fault};
 ghost use Rattle.vx_tree.specs.Concatenated.{are_alike, concat_fault};
 
+mod numbers;
+
 use crate::array::ArrayRef;
 use crate::join::{all_formed, joined_len};
 use std::alloc::Global;
@@ -43,7 +45,10 @@ impl ArrayRef {
         if !are_alike(first.dtype(), arrays) {
             return Err(VortexError::DifferingDtypes);
         }
-        joined_len(arrays)?;
+        let len = joined_len(arrays)?;
+        if let DType::Primitive(ptype, nullability) = first.dtype() {
+            return Ok(ArrayRef::concat_numbers(alloc, *ptype, *nullability, arrays, len)?);
+        }
         let plain = plain_arrays(alloc, arrays)?;
         all_formed(&plain);
         plain[0].join_like(alloc, &plain)

@@ -3,10 +3,10 @@
 use super::fixed_size_lists::{expect_elements, pairs};
 use super::records::{expect_pair, records};
 use super::views::{LONG, is_null, is_text, texts};
-use super::{booleans, dictionary, expect_bool, expect_list, indices, lists, number};
+use super::{booleans, dictionary, expect_bool, expect_list, indices, lists, number, numbers};
 use std::alloc::Global;
-use vx_base::{Nullability, PType, Scalar, VortexError};
-use vx_tree::{ArrayRef, Layout};
+use vx_base::{DType, Nullability, PType, Scalar, VortexError};
+use vx_tree::{ArrayRef, Layout, Validity};
 
 // The rows of two arrays.
 fn both(alloc: Global, first: ArrayRef, second: ArrayRef) -> Result<ArrayRef, VortexError> {
@@ -23,6 +23,53 @@ fn numbers_and_a_dictionary(rt: HostRuntime) -> Result<(), VortexError> {
     for (i, row) in want.iter().enumerate() {
         assert!(rt; number(&rt, &joined, i) == *row, "at {i}");
     }
+    Ok(())
+}
+
+#[test]
+fn numbers_of_each_layout(rt: HostRuntime) -> Result<(), VortexError> {
+    let alloc = rt.alloc();
+    let seven = Scalar::int(7, PType::U8, Nullability::Nullable);
+    let null = Scalar::null(DType::Primitive(PType::U8, Nullability::Nullable));
+    let sevens = ArrayRef::constant(alloc, seven, 2)?;
+    let nulls = ArrayRef::constant(alloc, null, 1)?;
+    let arrays = vec![in alloc; indices(alloc)?, sevens, nulls, dictionary(alloc)?]?;
+    let joined = ArrayRef::concat(alloc, &arrays)?;
+    assert!(rt; joined.len() == 11 && matches!(joined.layout(), Layout::Primitive { .. }));
+    let want = [
+        Some(2),
+        None,
+        Some(0),
+        Some(7),
+        Some(7),
+        None,
+        None,
+        None,
+        Some(9),
+        None,
+        Some(6),
+    ];
+    for (i, row) in want.iter().enumerate() {
+        assert!(rt; number(&rt, &joined, i) == *row, "at {i}");
+    }
+    Ok(())
+}
+
+#[test]
+fn numbers_of_two_bytes(rt: HostRuntime) -> Result<(), VortexError> {
+    let alloc = rt.alloc();
+    let plain = numbers(alloc, PType::I16, &[254, 255, 1, 2], Validity::NonNullable)?;
+    let scalar = Scalar::int(-300, PType::I16, Nullability::NonNullable);
+    let constant = ArrayRef::constant(alloc, scalar, 130)?;
+    let codes = numbers(alloc, PType::U8, &[1, 0], Validity::NonNullable)?;
+    let values = plain.try_clone(alloc)?;
+    let named = ArrayRef::dictionary(alloc, codes, values, false)?;
+    let arrays = vec![in alloc; constant, named, plain]?;
+    let joined = ArrayRef::concat(alloc, &arrays)?;
+    assert!(rt; joined.len() == 134 && !joined.dtype().is_nullable());
+    assert!(rt; number(&rt, &joined, 0) == Some(-300) && number(&rt, &joined, 129) == Some(-300));
+    assert!(rt; number(&rt, &joined, 130) == Some(513) && number(&rt, &joined, 131) == Some(-2));
+    assert!(rt; number(&rt, &joined, 132) == Some(-2) && number(&rt, &joined, 133) == Some(513));
     Ok(())
 }
 

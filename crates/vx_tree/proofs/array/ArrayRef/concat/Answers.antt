@@ -1,9 +1,12 @@
 use Rattle.std.proofs.Common.{◌≡◌, ◌<◌, length, true, ap, sym, subst, ◌∙◌, arith}
+use Rattle.std.specs.List.{All}
+use Rattle.vx_base.specs.DTypes.{dtype_meaning, is_nullable}
+use Rattle.vx_base.specs.Kinds.{integers}
 use Rattle.vx_tree.specs.Meaning.{kind_of}
 use Rattle.vx_base.specs.Refusals.{Refuses}
 use Rattle.vx_tree.specs.Joined.{AreJoinable}
 use Rattle.vx_tree.specs.Concatenated.{are_alike}
-use Rattle.vx_tree.proofs.Concatenated.{given_none, join_fault-concat, first_kind, first_plain, kinds_of_first, ok_rows, ok_kind, ok_plain, ok_state, ok_flag, plain_count, plain_joinable}
+use Rattle.vx_tree.proofs.Concatenated.{alike_kinds, rows_joined, numbers_concatenated, given_none, join_fault-concat, first_kind, first_plain, kinds_of_first, ok_rows, ok_kind, ok_plain, ok_state, ok_flag, plain_count, plain_joinable}
 use Rattle.vx_tree.proofs.array.ArrayRef.concat.Goals as goal
 
 pub join_like-requires-clause-plain : goal.join_like-requires-clause-plain
@@ -61,8 +64,46 @@ returns-clause-refuses c =
     let alike : are_alike (kind_of t) ts ≡ true = sym (ap (λ k. are_alike k ts) c.dtype.ensures) ∙ sym c.are_alike.ensures ∙ c.if-not-are_alike.false in
     let some : 0 < length ps = omega (arith, plain_count ts ps c.in_ok-plain.ensures.ok, item.3.0) in
     let k = kind_of c.index.result.now in
-    let short = c.in_ok-joined_len.ensures.tests in
+    let short = c.in_ok-len.ensures.tests in
     let none = given_none ts t item.3.0 item.1 alike short c.in_ok-plain.ensures.refuses in
     let same = first_kind ts ps t c.index.result.now c.in_ok-plain.ensures.ok alike some c.index.ensures in
     let joinable : AreJoinable k ps = plain_joinable k ts ps c.in_ok-plain.ensures.ok (kinds_of_first ts ps t c.index.result.now c.in_ok-plain.ensures.ok alike some c.index.ensures) (rw c.deref.ensures.value at c.all_formed.ensures) in
     subst (Refuses c.join_like.result) (join_fault-concat ts ps t k c.in_ok-plain.ensures.ok joinable same item.3.0 item.1 short none) (rw c.deref-2.ensures.value at c.join_like.ensures.refuses)
+
+pub concat_numbers-requires-clause-kind : goal.concat_numbers-requires-clause-kind
+concat_numbers-requires-clause-kind c =
+    let ts = c.args.arrays.now in
+    let t = c.in-Some.first.now in
+    let alike : are_alike (kind_of t) ts ≡ true = sym (ap (λ k. are_alike k ts) c.dtype.ensures) ∙ sym c.are_alike.ensures ∙ c.if-not-are_alike.false in
+    let kind : kind_of t ≡ integers c.in-Primitive.ptype (is_nullable c.in-Primitive.nullability) = sym c.dtype-2.ensures ∙ ap dtype_meaning c.in-Primitive.is in
+    subst (λ k. All (λ u. kind_of u ≡ k) ts) kind (alike_kinds (kind_of t) ts alike)
+
+pub returns-in-Primitive-clause-rows : goal.returns-in-Primitive-clause-rows
+returns-in-Primitive-clause-rows c =
+    rows_joined (integers c.in-Primitive.ptype (is_nullable c.in-Primitive.nullability)) c.args.arrays.now c.in_ok-concat_numbers.field-0 c.in_ok-concat_numbers.ensures
+
+pub returns-in-Primitive-clause-kind : goal.returns-in-Primitive-clause-kind
+returns-in-Primitive-clause-kind c =
+    let ts = c.args.arrays.now in
+    let t = c.in-Some.first.now in
+    let alike : are_alike (kind_of t) ts ≡ true = sym (ap (λ k. are_alike k ts) c.dtype.ensures) ∙ sym c.are_alike.ensures ∙ c.if-not-are_alike.false in
+    let kind : kind_of t ≡ integers c.in-Primitive.ptype (is_nullable c.in-Primitive.nullability) = sym c.dtype-2.ensures ∙ ap dtype_meaning c.in-Primitive.is in
+    λ i d l. alike_kinds (kind_of t) ts alike i d l ∙ kind ∙ sym c.in_ok-concat_numbers.ensures.kind
+
+pub returns-in-Primitive-clause-plain : goal.returns-in-Primitive-clause-plain
+returns-in-Primitive-clause-plain c = c.in_ok-concat_numbers.ensures.plain
+
+pub returns-in-Primitive-clause-state : goal.returns-in-Primitive-clause-state
+returns-in-Primitive-clause-state c = c.in_ok-concat_numbers.ensures.state c.in-Some.ensures.item.3.0
+
+pub returns-in-Primitive-clause-flag : goal.returns-in-Primitive-clause-flag
+returns-in-Primitive-clause-flag c = c.in_ok-concat_numbers.ensures.flag
+
+pub returns-in-Primitive-clause-refuses : goal.returns-in-Primitive-clause-refuses
+returns-in-Primitive-clause-refuses c =
+    let ts = c.args.arrays.now in
+    let t = c.in-Some.first.now in
+    let item = c.in-Some.ensures.item in
+    let alike : are_alike (kind_of t) ts ≡ true = sym (ap (λ k. are_alike k ts) c.dtype.ensures) ∙ sym c.are_alike.ensures ∙ c.if-not-are_alike.false in
+    let kind : kind_of t ≡ integers c.in-Primitive.ptype (is_nullable c.in-Primitive.nullability) = sym c.dtype-2.ensures ∙ ap dtype_meaning c.in-Primitive.is in
+    numbers_concatenated ts t c.in-Primitive.ptype (is_nullable c.in-Primitive.nullability) kind item.3.0 item.1 alike c.in_ok-len.ensures.tests

@@ -1,0 +1,139 @@
+// Numbers of arrays, one array after another, each written once.
+
+ghost use Rattle.std.specs.Prelude.{◌≡◌, ◌<◌, ◌/◌, false, length};
+ghost use Rattle.std.specs.List.{All};
+ghost use Rattle.vx_base.specs.DTypes.{is_nullable};
+ghost use Rattle.vx_base.specs.Integers.{byte_width, Holds};
+ghost use Rattle.vx_base.specs.Kinds.{integers};
+ghost use Rattle.vx_base.specs.Refusals.{Gives};
+ghost use Rattle.vx_tree.specs.Tree.{dictionary};
+ghost use Rattle.vx_tree.specs.Meaning.{tree_len, kind_of, row_at};
+ghost use Rattle.vx_tree.specs.Formed.{IsDictionary};
+ghost use Rattle.vx_tree.specs.Joined.{joined_len, joined_row, IsJoined};
+ghost use Rattle.vx_tree.specs.JoinedNumbers.{AreOfType, HoldNumbers, ArePicked, AreRepeated, AreAppended};
+
+use crate::array::{ArrayRef, Layout};
+use crate::join::joined_validity;
+use std::alloc::Global;
+use vx_base::{
+    ByteBuffer, Nullability, PType, Selection, VortexError, extend_with_numbers, put_int,
+};
+
+impl ArrayRef {
+    // The rows of arrays of numbers of one type, one array after another, in plain layout. Asks
+    // that they have so many rows in all.
+    pub(crate) fn concat_numbers(
+        alloc: Global,
+        ptype: PType,
+        nullability: Nullability,
+        arrays: &[ArrayRef],
+        len: usize,
+    ) -> Result<ArrayRef, VortexError>
+        requires kind { All (λ t. kind_of t ≡ integers ptype (is_nullable nullability)) arrays.now }
+        requires len { len ≡ joined_len arrays.now }
+        ensures { Gives result (IsJoined (integers ptype (is_nullable nullability)) arrays.now) }
+    {
+        let validity = joined_validity(alloc, arrays, nullability)?;
+        let size = len.saturating_mul(ptype.byte_width());
+        let bytes = ByteBuffer::from_vec(alloc, joined_numbers(alloc, ptype, arrays, size)?)?;
+        ArrayRef::primitive(alloc, ptype, bytes, validity)
+    }
+
+    // Appends the bytes of a number for each row: that of the row, where it is not null.
+    fn append_numbers(
+        &self,
+        alloc: Global,
+        ptype: PType,
+        joined: &mut Vec<u8>,
+    ) -> Result<(), VortexError>
+        requires { AreOfType ptype self.now }
+        ensures { Gives result (λ _. AreAppended (HoldNumbers ptype (tree_len self.now) (row_at self.now)) joined.old.items joined.new.items) }
+    {
+        match self.layout() {
+            Layout::Primitive { bytes, .. } => {
+                joined.extend_from_slice(bytes.as_slice())?;
+                Ok(())
+            }
+            Layout::Constant { scalar, len } => {
+                let number = scalar.as_int().unwrap_or(0);
+                append_number(ptype, number, *len, joined)
+            }
+            Layout::Dict { codes, values, .. } => values.append_named(alloc, ptype, codes, joined),
+            _ => unreachable!(),
+        }
+    }
+
+    // The same of the values that codes name.
+    fn append_named(
+        &self,
+        alloc: Global,
+        ptype: PType,
+        codes: &ArrayRef,
+        joined: &mut Vec<u8>,
+    ) -> Result<(), VortexError>
+        requires kind { AreOfType ptype self.now }
+        requires codes { IsDictionary codes.now self.now false }
+        ensures { Gives result (λ _. AreAppended (HoldNumbers ptype (tree_len codes.now) (row_at (dictionary codes.now self.now false)))
+            joined.old.items joined.new.items) }
+    {
+        if self.is_empty() {
+            return append_number(ptype, 0, codes.len(), joined);
+        }
+        let values = self.canonical(alloc)?;
+        values.known();
+        let Layout::Primitive { bytes, .. } = values.layout() else {
+            unreachable!();
+        };
+        let positions = codes.code_positions(alloc, self.len())?;
+        append_picked(ptype, bytes.as_slice(), &positions.selection(), joined)?;
+        Ok(())
+    }
+}
+
+// The bytes of the numbers of arrays, one array after another.
+fn joined_numbers(
+    alloc: Global,
+    ptype: PType,
+    arrays: &[ArrayRef],
+    size: usize,
+) -> Result<Vec<u8>, VortexError>
+    requires { All (AreOfType ptype) arrays.now }
+    ensures { Gives result (λ bytes. HoldNumbers ptype (joined_len arrays.now) (joined_row arrays.now) bytes.items) }
+{
+    let mut joined = Vec::with_capacity(alloc, size)?;
+    for array in arrays {
+        array.append_numbers(alloc, ptype, &mut joined)?;
+    }
+    Ok(joined)
+}
+
+// Appends a number, `len` times. Asks that the type has it.
+fn append_number(
+    ptype: PType,
+    number: i128,
+    len: usize,
+    joined: &mut Vec<u8>,
+) -> Result<(), VortexError>
+    requires { Holds ptype number }
+    ensures { Gives result (λ _. AreAppended (AreRepeated ptype number len) joined.old.items joined.new.items) }
+{
+    let mut bytes = [0u8; 8];
+    let bytes = &mut bytes[..ptype.byte_width()];
+    put_int(number, ptype, bytes);
+    append_picked(ptype, bytes, &Selection::repeated(0, len), joined)?;
+    Ok(())
+}
+
+// Appends the numbers that are picked. Asks that each position has a number.
+fn append_picked(
+    ptype: PType,
+    bytes: &[u8],
+    selection: &Selection,
+    joined: &mut Vec<u8>,
+) -> Result<(), VortexError>
+    requires { All (λ k. k < length bytes.now / byte_width ptype) selection.now }
+    ensures { Gives result (λ _. AreAppended (ArePicked ptype bytes.now selection.now) joined.old.items joined.new.items) }
+{
+    extend_with_numbers(joined, ptype, bytes, selection)?;
+    Ok(())
+}
