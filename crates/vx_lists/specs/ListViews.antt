@@ -4,7 +4,7 @@ use Rattle.vx_base.specs.declared.ptypes.PType.{PType}
 use Rattle.vx_base.specs.declared.ptypes.PType.TheVariants.{U8, U16, U32, U64, I8, I16, I32, I64}
 use Rattle.vx_base.specs.Rows.{Row, count_in, list_in}
 use Rattle.vx_base.specs.Kinds.{integers, integer_type}
-use Rattle.vx_tree.specs.Tree.{Tree, bools, primitive, constant, dictionary, fixed_list, list_view, structure, view_array, Valid}
+use Rattle.vx_tree.specs.Tree.{Tree, bools, primitive, fixed_list, list_view, structure, view_array, Valid}
 use Rattle.vx_tree.specs.Tree.{non_nullable}
 pub use Rattle.vx_tree.specs.Layouts.{is_list_view}
 use Rattle.vx_tree.specs.Meaning.{tree_len, kind_of, rows, valid_mask}
@@ -16,55 +16,31 @@ use Rattle.vx_lists.specs.ListLayout.{ListLayout, layout, canonical, valid_sizes
 -- ---- the parts of a list view; another layout has none
 
 abbrev pub elements_of : Tree → Tree
-elements_of (bools bits v) = bools bits v
-elements_of (primitive t bs v) = primitive t bs v
-elements_of (constant k r n) = constant k r n
-elements_of (dictionary c v f) = dictionary c v f
 elements_of (fixed_list e k v n) = e
 elements_of (list_view e o s v f) = e
-elements_of (structure ns ts v n) = structure ns ts v n
-elements_of (view_array vs bs u v) = view_array vs bs u v
+elements_of t = t
 
 abbrev pub offsets_of : Tree → Tree
-offsets_of (bools bits v) = bools bits v
-offsets_of (primitive t bs v) = primitive t bs v
-offsets_of (constant k r n) = constant k r n
-offsets_of (dictionary c v f) = dictionary c v f
-offsets_of (fixed_list e k v n) = fixed_list e k v n
 offsets_of (list_view e o s v f) = o
-offsets_of (structure ns ts v n) = structure ns ts v n
-offsets_of (view_array vs bs u v) = view_array vs bs u v
+offsets_of t = t
 
 abbrev pub sizes_of : Tree → Tree
-sizes_of (bools bits v) = bools bits v
-sizes_of (primitive t bs v) = primitive t bs v
-sizes_of (constant k r n) = constant k r n
-sizes_of (dictionary c v f) = dictionary c v f
-sizes_of (fixed_list e k v n) = fixed_list e k v n
 sizes_of (list_view e o s v f) = s
-sizes_of (structure ns ts v n) = structure ns ts v n
-sizes_of (view_array vs bs u v) = view_array vs bs u v
+sizes_of t = t
 
 abbrev pub validity_of : Tree → Valid
 validity_of (bools bits v) = v
 validity_of (primitive t bs v) = v
-validity_of (constant k r n) = non_nullable
-validity_of (dictionary c v f) = non_nullable
 validity_of (fixed_list e k v n) = v
 validity_of (list_view e o s v f) = v
 validity_of (structure ns ts v n) = v
 validity_of (view_array vs bs u v) = v
+validity_of _ = non_nullable
 
 -- whether the lists are known to be consecutive
 abbrev pub flag_of : Tree → Bool
-flag_of (bools bits v) = false
-flag_of (primitive t bs v) = false
-flag_of (constant k r n) = false
-flag_of (dictionary c v f) = false
-flag_of (fixed_list e k v n) = false
 flag_of (list_view e o s v f) = f
-flag_of (structure ns ts v n) = false
-flag_of (view_array vs bs u v) = false
+flag_of _ = false
 
 -- the same list view under a flag
 abbrev pub with_flag : Bool → Tree → Tree
