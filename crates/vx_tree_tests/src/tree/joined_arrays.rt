@@ -3,10 +3,10 @@
 use super::fixed_size_lists::{expect_elements, pairs};
 use super::records::{expect_pair, records};
 use super::views::{LONG, is_null, is_text, texts};
-use super::{booleans, dictionary, expect_bool, expect_list, indices, lists, number, numbers};
+use super::{booleans, dictionary, expect_bool, expect_list, indices, lists, number};
 use std::alloc::Global;
 use vx_base::{DType, Nullability, PType, Scalar, VortexError};
-use vx_tree::{ArrayRef, Layout, Validity};
+use vx_tree::{ArrayRef, Layout};
 
 // The rows of two arrays.
 fn both(alloc: Global, first: ArrayRef, second: ArrayRef) -> Result<ArrayRef, VortexError> {
@@ -56,20 +56,15 @@ fn numbers_of_each_layout(rt: HostRuntime) -> Result<(), VortexError> {
 }
 
 #[test]
-fn numbers_of_two_bytes(rt: HostRuntime) -> Result<(), VortexError> {
+fn constants_of_two_bytes(rt: HostRuntime) -> Result<(), VortexError> {
     let alloc = rt.alloc();
-    let plain = numbers(alloc, PType::I16, &[254, 255, 1, 2], Validity::NonNullable)?;
     let scalar = Scalar::int(-300, PType::I16, Nullability::NonNullable);
-    let constant = ArrayRef::constant(alloc, scalar, 130)?;
-    let codes = numbers(alloc, PType::U8, &[1, 0], Validity::NonNullable)?;
-    let values = plain.try_clone(alloc)?;
-    let named = ArrayRef::dictionary(alloc, codes, values, false)?;
-    let arrays = vec![in alloc; constant, named, plain]?;
-    let joined = ArrayRef::concat(alloc, &arrays)?;
-    assert!(rt; joined.len() == 134 && !joined.dtype().is_nullable());
-    assert!(rt; number(&rt, &joined, 0) == Some(-300) && number(&rt, &joined, 129) == Some(-300));
-    assert!(rt; number(&rt, &joined, 130) == Some(513) && number(&rt, &joined, 131) == Some(-2));
-    assert!(rt; number(&rt, &joined, 132) == Some(-2) && number(&rt, &joined, 133) == Some(513));
+    let first = ArrayRef::constant(alloc, scalar, 130)?;
+    let scalar = Scalar::int(513, PType::I16, Nullability::NonNullable);
+    let joined = both(alloc, first, ArrayRef::constant(alloc, scalar, 2)?)?;
+    assert!(rt; joined.len() == 132 && !joined.dtype().is_nullable());
+    assert_eq!(rt; number(&rt, &joined, 129), Some(-300));
+    assert_eq!(rt; number(&rt, &joined, 131), Some(513));
     Ok(())
 }
 
