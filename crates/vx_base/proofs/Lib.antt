@@ -15,6 +15,7 @@ pub mod Filling
 pub mod Refused
 pub mod Repeated
 pub mod Blocks
+pub mod Chunks
 pub mod FirstFaults
 pub mod Runs
 pub mod SizedLists

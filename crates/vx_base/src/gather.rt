@@ -1,6 +1,6 @@
 // Numbers, booleans and items of the rows that are picked.
 
-ghost use Rattle.std.specs.Prelude.{◌≡◌, ◌<◌, ◌≤◌, ◌*◌, ◌/◌, ◌+◌, ◌++◌, length, map, replicate, slice_index_or, slice_range, unsigned_abs, IfOk};
+ghost use Rattle.std.specs.Prelude.{◌≡◌, ◌<◌, ◌≤◌, ◌*◌, ◌/◌, ◌+◌, ◌^◌, ◌++◌, length, map, replicate, slice_index_or, slice_range, unsigned_abs, IfOk};
 ghost use Rattle.vx_base.specs.Refusals.{Gives};
 ghost use Rattle.std.specs.List.{All, flat_map};
 ghost use Rattle.vx_base.specs.Bits.{unpacked};
@@ -19,8 +19,11 @@ use crate::ptypes::PType;
 use crate::selection::{Picks, Selection};
 use std::alloc::Global;
 
-// How many numbers a block has.
-const BLOCK: usize = 128;
+// How many numbers are read before they are written.
+const BLOCK: usize = 512;
+
+// How many times a number that is repeated is written at once.
+const REPEATS: usize = 128;
 
 /// The bytes of the numbers that are picked, in their order. Asks that each position has a number.
 /// Fails only for want of memory.
@@ -66,6 +69,7 @@ fn extend_width<const WIDTH: usize>(
     bytes: &[u8],
     selection: &Selection,
 ) -> Result<(), VortexError>
+    requires some { 0 < WIDTH }
     requires width { WIDTH ≤ 8 }
     requires within { All (λ k. k * WIDTH + WIDTH ≤ length bytes.now) selection.now }
     ensures { Gives result (λ _. picked.new.items ≡ picked.old.items
@@ -101,6 +105,7 @@ fn extend_at_numbers<const WIDTH: usize, T: NativePType>(
     bytes: &[u8],
     places: &[u8],
 ) -> Result<(), VortexError>
+    requires some { 0 < WIDTH }
     requires width { WIDTH ≤ 8 }
     requires within { All (λ k. k * WIDTH + WIDTH ≤ length bytes.now) (map unsigned_abs (numbers T.PTYPE places.now)) }
     ensures { Gives result (λ _. picked.new.items ≡ picked.old.items
@@ -115,6 +120,7 @@ fn extend_at<const WIDTH: usize, P: Places>(
     bytes: &[u8],
     places: P,
 ) -> Result<(), VortexError>
+    requires some { 0 < WIDTH }
     requires width { WIDTH ≤ 32 }
     requires within { All (λ k. k * WIDTH + WIDTH ≤ length bytes.now) (P.positions places) }
     ensures { Gives result (λ _. picked.new.items ≡ picked.old.items
@@ -139,14 +145,15 @@ fn read_numbers_at<const WIDTH: usize, P: Places>(
     start: usize,
     out: &mut [[u8; WIDTH]],
 )
+    requires some { 0 < WIDTH }
+    requires counted { length (P.positions places) < 2 ^ 64 }
     requires within { All (λ k. k * WIDTH + WIDTH ≤ length bytes.now) (P.positions places) }
     requires room { start + length out.old ≤ length (P.positions places) }
     ensures { out.new ≡ map (bytes_of_position WIDTH bytes.now) (slice_range (P.positions places) start (start + length out.old)) }
 {
-    let _ = places.count();
+    let (numbers, _) = bytes.as_chunks::<WIDTH>();
     for i in 0..out.len() {
-        let k = places.at(start + i);
-        out[i].copy_from_slice(&bytes[k * WIDTH..k * WIDTH + WIDTH]);
+        out[i] = numbers[places.at(start + i)];
     }
 }
 
@@ -167,11 +174,11 @@ fn extend_repeated<const WIDTH: usize>(
     }
     let mut number = [0u8; WIDTH];
     number.copy_from_slice(&bytes[position * WIDTH..position * WIDTH + WIDTH]);
-    let block = [number; BLOCK];
-    for _ in 0..len / BLOCK {
+    let block = [number; REPEATS];
+    for _ in 0..len / REPEATS {
         picked.extend_from_slice(block.as_flattened())?;
     }
-    picked.extend_from_slice(block[..len % BLOCK].as_flattened())?;
+    picked.extend_from_slice(block[..len % REPEATS].as_flattened())?;
     Ok(())
 }
 
