@@ -2,7 +2,7 @@ use Rattle.std.proofs.lemmas.Result.{err_from_is_err_and}
 use Rattle.vx_base.specs.Refusals.{refusal_of}
 use Rattle.vx_tree.specs.Tree.{primitive, non_nullable}
 use Rattle.vx_tree.proofs.Positions.{fault_found}
-use Rattle.vx_tree.proofs.indices.checks.check_typed.Goals as goal
+use Rattle.vx_tree.proofs.indices.checks.check_each.Goals as goal
 
 pub returns-in_err-number_position : goal.returns-in_err-number_position
 returns-in_err-number_position g c =
