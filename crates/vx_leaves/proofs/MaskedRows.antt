@@ -9,7 +9,9 @@ use Rattle.vx_base.specs.Bits.{bool_at}
 use Rattle.vx_base.specs.Rows.{Row, null, boolean, whole}
 use Rattle.vx_base.specs.Selections.{number_of_position}
 use Rattle.vx_base.specs.declared.ptypes.PType.{PType}
-use Rattle.vx_tree.specs.Tree.{Tree, Valid, bools, primitive, non_nullable}
+use Rattle.vx_tree.proofs.Masks.{bits_are_truths}
+use Rattle.vx_tree.specs.Formed.{ValidFits}
+use Rattle.vx_tree.specs.Tree.{Tree, Valid, bools, primitive, non_nullable, by_array}
 use Rattle.vx_tree.specs.Meaning.{tree_len, row_at, rows, valid_mask, is_valid_at}
 use Rattle.vx_tree.specs.Operations.{masked}
 use Rattle.vx_leaves.specs.Leaves.{IsPrimitive}
@@ -59,3 +61,7 @@ rows-bools bits v =
 
 pub rows-bools-all : (bits : List Bool) → rows (bools bits non_nullable) ≡ map boolean bits
 rows-bools-all bits = sym (fill_by_all (λ i. boolean (bool_at bits i)) (map boolean bits) (length bits) null (length-map bits boolean) (λ i inside. get_or-map boolean bits i false null inside))
+
+-- the bits of plain truth values tell which rows are valid
+pub told_by_bits : (t : Tree) (bits : List Bool) (v : Valid) (n : ℕ) → t ≡ bools bits v → ValidFits (by_array t) n → bits ≡ valid_mask (by_array t) n
+told_by_bits t bits v n e fits = bits_are_truths t bits v e fits.kind ∙ ap (valid_mask (by_array t)) fits.len

@@ -1,15 +1,18 @@
 -- Values laid over the rows where a mask is true, a row after another.
-use Rattle.std.proofs.Common.{ℕ, ◌+◌, ◌*◌, ◌/◌, ◌<◌, ◌≤◌, ◌≡◌, Bool, true, false, cond, List, [], ◌∷◌, ◌++◌, length, take, drop, count_by, refl, sym, ◌∙◌, ap, zero-add, arith}
+use Rattle.std.proofs.Common.{ℕ, ◌+◌, ◌*◌, ◌/◌, ◌<◌, ◌≤◌, ◌≡◌, Bool, true, false, cond, List, [], ◌∷◌, ◌++◌, length, take, drop, count_by, replicate, refl, sym, ◌∙◌, ap, zero-add, arith}
 use mir.Val.{bool_byte}
 use Rattle.std.specs.Prelude.{ℤ, pos, slice_range}
-use Rattle.std.proofs.Math.Nat.{mul-le-mul_right}
+use Rattle.std.proofs.lemmas.Bool.{false≢true}
 use Rattle.std.proofs.lemmas.Nat.{le-div}
 use Rattle.std.proofs.lemmas.Grind.{get_or_after_one}
 use Rattle.std.proofs.lemmas.List.{take_more}
 use Rattle.std.proofs.lemmas.List.Sums.{sum_by-cons, sum_by_more, sum_by_more_le, count_by-le-length}
 use Rattle.vx_base.specs.Bits.{bool_at}
+use Rattle.vx_base.specs.Booleans.{IsMixed}
 use Rattle.vx_base.specs.Integers.{byte_width, number_of, number_nth, numbers}
 use Rattle.vx_base.specs.declared.ptypes.PType.{PType}
+use Rattle.vx_base.proofs.MaskCounts.{all_true_from_count, all_false_from_count}
+use Rattle.vx_base.proofs.Unmixed.{count_none}
 use Rattle.vx_base.proofs.NumberLists.{width_pos, length_numbers, number_read}
 use Rattle.vx_leaves.specs.Spread.{spread}
 
@@ -38,14 +41,6 @@ count_more mask i h = sum_by_more (λ b. cond b 1 0) mask i false h
 pub count_small : (mask : List Bool) (i : ℕ) → i < length mask → count_by (λ b. b) (take i mask) + cond (bool_at mask i) 1 0 ≤ length mask
 count_small mask i h = omega (arith, sum_by_more_le (λ b. cond b 1 0) mask i false h, count_by-le-length (λ (b : Bool). b) mask)
 
--- the next value is there at a valid row
-pub value_room : (mask : List Bool) (i width len : ℕ) (b : Bool) → i < length mask → b ≡ bool_at mask i → count_by (λ x. x) mask * width ≤ len → b ≡ true → count_by (λ x. x) (take i mask) * width + width ≤ len
-value_room mask i width len b h b_is enough valid =
-    let one : ◌≡◌ {A = ℕ} (cond (bool_at mask i) 1 0) 1 = ap (λ x. cond x 1 0) (sym b_is ∙ valid) in
-    let within : count_by (λ x. x) (take i mask) + 1 ≤ count_by (λ x. x) mask = omega (arith, one, sum_by_more_le (λ x. cond x 1 0) mask i false h) in
-    let scaled : (count_by (λ x. x) (take i mask) + 1) * width ≤ count_by (λ x. x) mask * width = mul-le-mul_right width within in
-    omega arith
-
 -- a value is read from its bytes
 pub value_read : (t : PType) (bs : List ℕ) (i width : ℕ) (z : ℤ) → width ≡ byte_width t → i * byte_width t + byte_width t ≤ length bs → z ≡ number_of t (slice_range bs (i * width) (i * width + width)) → z ≡ number_nth (numbers t bs) i
 value_read t bs i width z wide room e =
@@ -61,3 +56,11 @@ number_is b m n k zs z e p q = e ∙ ap (λ x. cond x (number_nth zs n) (pos 0))
 pub next_is : (b m : Bool) (n k : ℕ) → n ≡ k → b ≡ m → n + bool_byte b ≡ k + cond m 1 0
 next_is true m n k p q = let one : ◌≡◌ {A = ℕ} 1 (cond m 1 0) = ap (λ x. cond x 1 0) q in omega arith
 next_is false m n k p q = let none : ◌≡◌ {A = ℕ} 0 (cond m 1 0) = ap (λ x. cond x 1 0) q in omega arith
+
+-- ---- masks without both values
+
+-- a mask whose truth values are all alike is one of them, however often
+pub all_alike : (mask : List Bool) (b : Bool) (n : ℕ) → (b ≡ true → count_by (λ x. x) mask ≡ length mask) → (count_by (λ x. x) mask ≡ length mask → b ≡ true) → ¬ (IsMixed mask) → n ≡ length mask → replicate n b ≡ mask
+all_alike mask true n all back unmixed e = ap (λ m. replicate m true) e ∙ sym (all_true_from_count mask (all refl))
+all_alike mask false n all back unmixed e =
+    ap (λ m. replicate m false) e ∙ sym (all_false_from_count mask (count_none mask (λ full. false≢true (back full)) unmixed))

@@ -1,6 +1,6 @@
 // What an array of truth values tells of its parts, and its truth values as a mask.
 
-ghost use Rattle.std.specs.Prelude.{◌≡◌, true, false, length, IfOk, MatchOption};
+ghost use Rattle.std.specs.Prelude.{◌≡◌, ℕ, true, false, length, IfOk, IfSome, MatchOption};
 ghost use Rattle.vx_base.specs.Bits.{both};
 ghost use Rattle.vx_base.specs.DTypes.{is_nullable};
 ghost use Rattle.vx_base.specs.Refusals.{Gives, Refuses};
@@ -14,7 +14,7 @@ ghost use Rattle.vx_leaves.specs.Leaves.{bits_in, validity_in, null_fault};
 use crate::bool_array::BoolArray;
 use std::alloc::Global;
 use vx_base::{BitBuffer, BitBufferView, Mask, Nullability, VortexError};
-use vx_tree::{ArrayRef, TypedArray, Validity};
+use vx_tree::{ArrayRef, Layout, TypedArray, Validity};
 
 /// The children of an array of truth values.
 #[derive(Drop)]
@@ -95,6 +95,10 @@ impl BoolArrayExt for BoolArray {
 
     fn to_mask_fill_null_false(&self, alloc: Global) -> Result<Mask, VortexError> {
         let parts = self.parts();
+        if let Some(valid) = bits_that_tell(parts.validity) {
+            let both = parts.bits.and(alloc, valid)?;
+            return Mask::from_buffer(alloc, both);
+        }
         let valid = valid_rows(alloc, parts.validity, parts.bits.len())?;
         true_and_valid(alloc, parts.bits, &valid)
     }
@@ -117,6 +121,20 @@ fn are_all_valid(alloc: Global, validity: &Validity, len: usize) -> Result<bool,
     ensures { Gives result (λ b. b ≡ has_no_nulls (valid_of validity.now) len) }
 {
     validity.execute_no_nulls(alloc, len)
+}
+
+// The bits that tell which rows are valid, where a plain array of truth values does.
+fn bits_that_tell(validity: &Validity) -> Option<&BitBuffer>
+    ensures { (n : ℕ) → ValidFits (valid_of validity.now) n
+        → IfSome result (λ b. b.now.bits ≡ valid_mask (valid_of validity.now) n) }
+{
+    let Validity::Array(array) = validity else {
+        return None;
+    };
+    match array.layout() {
+        Layout::Bool { bits, .. } => Some(bits),
+        _ => None,
+    }
 }
 
 // Which of the rows are valid.

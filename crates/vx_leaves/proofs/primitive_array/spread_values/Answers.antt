@@ -17,8 +17,8 @@ returns-then-found-needed-clause-refuses c =
     = rw (c.true_count.ensures, c.in_ok-mask.ensures.mask, c.byte_width.ensures, c.len-found.ensures.value) at c.if-found-needed.true in
     inr (short_is c.args.ptype c.args.bytes (valid_of c.args.validity) c.args.n_rows c.requires.state less)
 
-pub spread_numbers-requires-clause-fits : goal.spread_numbers-requires-clause-fits
-spread_numbers-requires-clause-fits c =
+pub spread_numbers-requires : goal.spread_numbers-requires
+spread_numbers-requires c =
     rw (c.in_ok-mask.ensures.mask, length-valid_mask (valid_of c.args.validity) c.args.n_rows) c.requires.counted
 
 pub primitive_array-requires-clause-whole : goal.primitive_array-requires-clause-whole
