@@ -8,8 +8,8 @@ use Rattle.std.proofs.lemmas.List.{take-append-drop, take_all, drop_more, length
 use Rattle.std.proofs.lemmas.List.Elements.{All-tail}
 use Rattle.vx_base.proofs.ListParts.{length_part}
 use Rattle.vx_base.proofs.NumberLists.{width_pos, whole, length_numbers, numbers_none, numbers_part, numbers_between}
-use Rattle.vx_base.specs.Integers.{byte_width, numbers}
-use Rattle.vx_base.specs.Selections.{number_of_position, bytes_of_position}
+use Rattle.vx_base.specs.Integers.{byte_width, numbers, number_nth}
+use Rattle.vx_base.specs.Selections.{bytes_of_position}
 use Rattle.vx_base.specs.declared.ptypes.PType.{PType}
 
 -- the first of two lists, and the second
@@ -72,7 +72,7 @@ length_gathered t bs (p ∷ ps) all =
 
 -- what was picked byte by byte is what was picked number by number
 pub numbers_gathered : (t : PType) (bs : List ℕ) (ps : List ℕ) → All (HasNumber t bs) ps
-    → numbers t (flat_map (bytes_of_position (byte_width t) bs) ps) ≡ map (number_of_position (numbers t bs)) ps
+    → numbers t (flat_map (bytes_of_position (byte_width t) bs) ps) ≡ map (number_nth (numbers t bs)) ps
 numbers_gathered t bs [] all = numbers_none t
 numbers_gathered t bs (p ∷ ps) all =
     let rest = All-tail (HasNumber t bs) p ps all in

@@ -1,5 +1,5 @@
 -- Numbers of a type that are positions, which are never negative.
-use Rattle.std.proofs.Common.{ℕ, suc, ◌^◌, ◌*◌, ◌<◌, ◌≡◌, List, [], ◌∷◌, length, take, drop, map, true, refl, sym, ◌∙◌, ap, subst, arith, to_z, of_z}
+use Rattle.std.proofs.Common.{ℕ, suc, ◌^◌, ◌*◌, ◌<◌, ◌≡◌, List, [], ◌∷◌, take, drop, map, true, refl, sym, ◌∙◌, ap, subst, arith, to_z, of_z}
 use Rattle.std.specs.Prelude.{ℤ, pos, negsuc, ◌≤ℤ◌, ◌<ℤ◌, unsigned_abs}
 use Rattle.std.specs.Int.{w128}
 use Rattle.std.specs.List.{All}

@@ -1,18 +1,10 @@
 -- Rows that are picked by runs of them.
-use Rattle.std.specs.Prelude.{◌-◌, ◌+◌, ◌*◌, ℕ, ℤ, pos, Bool, false, List, slice_range, slice_index_or}
+use Rattle.std.specs.Prelude.{◌-◌, ◌+◌, ◌*◌, ℕ, List, slice_range, slice_index_or}
 use Rattle.std.specs.List.{range_with_len}
 
 -- the positions of a run, from its start up to its end
 abbrev pub run_positions : ℕ × ℕ → List ℕ
 run_positions run = range_with_len run.0 (run.1 - run.0)
-
--- the number at a position
-abbrev pub number_of_position : List ℤ → ℕ → ℤ
-number_of_position numbers k = slice_index_or numbers k (pos 0)
-
--- the boolean at a position
-abbrev pub bit_of_position : List Bool → ℕ → Bool
-bit_of_position bits k = slice_index_or bits k false
 
 -- the item at a position, d where there is none
 abbrev pub item_of_position : {X : Type 0} → X → List X → ℕ → X

@@ -3,9 +3,9 @@
 ghost use Rattle.std.specs.Prelude.{◌≡◌, ◌<◌, ◌≤◌, ◌*◌, ◌/◌, ◌+◌, ◌^◌, ◌++◌, length, map, replicate, slice_index_or, slice_range, unsigned_abs, IfOk};
 ghost use Rattle.vx_base.specs.Refusals.{Gives};
 ghost use Rattle.std.specs.List.{All, flat_map};
-ghost use Rattle.vx_base.specs.Bits.{unpacked};
-ghost use Rattle.vx_base.specs.Integers.{byte_width, numbers};
-ghost use Rattle.vx_base.specs.Selections.{run_positions, list_positions, number_of_position, bit_of_position, item_of_position, bytes_of_position};
+ghost use Rattle.vx_base.specs.Bits.{unpacked, bool_at};
+ghost use Rattle.vx_base.specs.Integers.{byte_width, numbers, number_nth};
+ghost use Rattle.vx_base.specs.Selections.{run_positions, list_positions, item_of_position, bytes_of_position};
 
 use crate::bit_buffer::{BitBuffer, byte_of};
 use crate::bit_buffer_mut::{BitBufferMut, put_bit};
@@ -34,7 +34,7 @@ pub fn gather_numbers(
     selection: &Selection,
 ) -> Result<ByteBuffer, VortexError>
     requires { All (λ k. k < length bytes.now / byte_width ptype) selection.now }
-    ensures ok { Gives result (λ b. numbers ptype b ≡ map (number_of_position (numbers ptype bytes.now)) selection.now) }
+    ensures ok { Gives result (λ b. numbers ptype b ≡ map (number_nth (numbers ptype bytes.now)) selection.now) }
     ensures len { IfOk result (λ b. length b ≡ length selection.now * byte_width ptype) }
 {
     let mut picked = Vec::new(alloc);
@@ -296,7 +296,7 @@ pub fn gather_bits(
     selection: &Selection,
 ) -> Result<BitBuffer, VortexError>
     requires { All (λ k. k < length bits.now.bits) selection.now }
-    ensures bits { Gives result (λ b. b.bits ≡ map (bit_of_position bits.now.bits) selection.now) }
+    ensures bits { Gives result (λ b. b.bits ≡ map (bool_at bits.now.bits) selection.now) }
     ensures offset { IfOk result (λ b. b.offset ≡ 0) }
 {
     let len = selection.len();
@@ -328,7 +328,7 @@ fn bits_at_numbers<T: NativePType>(
 ) -> Result<BitBuffer, VortexError>
     requires { All (λ k. k < length bits.now.bits) (map unsigned_abs (numbers T.PTYPE places.now)) }
     ensures bits { Gives result (λ b. b.bits
-        ≡ map (bit_of_position bits.now.bits) (map unsigned_abs (numbers T.PTYPE places.now))) }
+        ≡ map (bool_at bits.now.bits) (map unsigned_abs (numbers T.PTYPE places.now))) }
     ensures offset { IfOk result (λ b. b.offset ≡ 0) }
 {
     bits_at::<Numbered<T>>(alloc, bits, Numbered::new(places))
@@ -337,7 +337,7 @@ fn bits_at_numbers<T: NativePType>(
 // One boolean at a time.
 fn bits_at<P: Places>(alloc: Global, bits: &BitBuffer, places: P) -> Result<BitBuffer, VortexError>
     requires { All (λ k. k < length bits.now.bits) (P.positions places) }
-    ensures bits { Gives result (λ b. b.bits ≡ map (bit_of_position bits.now.bits) (P.positions places)) }
+    ensures bits { Gives result (λ b. b.bits ≡ map (bool_at bits.now.bits) (P.positions places)) }
     ensures offset { IfOk result (λ b. b.offset ≡ 0) }
 {
     let len = places.count();
@@ -352,7 +352,7 @@ fn put_bits_at<P: Places>(bits: &BitBuffer, places: P, out: &mut [u8])
     requires within { All (λ k. k < length bits.now.bits) (P.positions places) }
     requires room { length (P.positions places) ≤ 8 * length out.old }
     ensures len { length out.new ≡ length out.old }
-    ensures bits { unpacked out.new 0 (length (P.positions places)) ≡ map (bit_of_position bits.now.bits) (P.positions places) }
+    ensures bits { unpacked out.new 0 (length (P.positions places)) ≡ map (bool_at bits.now.bits) (P.positions places) }
 {
     let len = places.count();
     let whole = len / 8;
@@ -379,7 +379,7 @@ fn put_bits_at<P: Places>(bits: &BitBuffer, places: P, out: &mut [u8])
 fn bit_at<P: Places>(bits: &BitBuffer, places: P, i: usize) -> bool
     requires within { All (λ k. k < length bits.now.bits) (P.positions places) }
     requires place { i < length (P.positions places) }
-    ensures { result ≡ bit_of_position bits.now.bits (slice_index_or (P.positions places) i 0) }
+    ensures { result ≡ bool_at bits.now.bits (slice_index_or (P.positions places) i 0) }
 {
     bits.value(places.at(i))
 }
@@ -393,7 +393,7 @@ fn bits_repeated(
     len: usize,
 ) -> Result<BitBuffer, VortexError>
     requires { All (λ k. k < length bits.now.bits) (replicate len position) }
-    ensures bits { Gives result (λ b. b.bits ≡ map (bit_of_position bits.now.bits) (replicate len position)) }
+    ensures bits { Gives result (λ b. b.bits ≡ map (bool_at bits.now.bits) (replicate len position)) }
     ensures offset { IfOk result (λ b. b.offset ≡ 0) }
 {
     if len == 0 {
@@ -410,7 +410,7 @@ fn bits_of_runs(
     capacity: usize,
 ) -> Result<BitBuffer, VortexError>
     requires { All (λ k. k < length bits.now.bits) (flat_map run_positions runs.now) }
-    ensures bits { Gives result (λ b. b.bits ≡ map (bit_of_position bits.now.bits) (flat_map run_positions runs.now)) }
+    ensures bits { Gives result (λ b. b.bits ≡ map (bool_at bits.now.bits) (flat_map run_positions runs.now)) }
     ensures offset { IfOk result (λ b. b.offset ≡ 0) }
 {
     let mut picked = BitBufferMut::with_capacity(alloc, capacity)?;
@@ -430,7 +430,7 @@ fn bits_of_lists_at_numbers<T: NativePType>(
     capacity: usize,
 ) -> Result<BitBuffer, VortexError>
     requires { All (λ k. k < length bits.now.bits) (flat_map (list_positions size) (map unsigned_abs (numbers T.PTYPE places.now))) }
-    ensures bits { Gives result (λ b. b.bits ≡ map (bit_of_position bits.now.bits)
+    ensures bits { Gives result (λ b. b.bits ≡ map (bool_at bits.now.bits)
         (flat_map (list_positions size) (map unsigned_abs (numbers T.PTYPE places.now)))) }
     ensures offset { IfOk result (λ b. b.offset ≡ 0) }
 {
@@ -446,7 +446,7 @@ fn bits_of_lists<P: Places>(
     capacity: usize,
 ) -> Result<BitBuffer, VortexError>
     requires { All (λ k. k < length bits.now.bits) (flat_map (list_positions size) (P.positions lists)) }
-    ensures bits { Gives result (λ b. b.bits ≡ map (bit_of_position bits.now.bits) (flat_map (list_positions size) (P.positions lists))) }
+    ensures bits { Gives result (λ b. b.bits ≡ map (bool_at bits.now.bits) (flat_map (list_positions size) (P.positions lists))) }
     ensures offset { IfOk result (λ b. b.offset ≡ 0) }
 {
     let _ = bits.len();
@@ -466,7 +466,7 @@ fn append_run(
     end: usize,
 ) -> Result<(), VortexError>
     requires { All (λ k. k < length bits.now.bits) (run_positions (start, end)) }
-    ensures { Gives result (λ _. picked.new ≡ picked.old ++ map (bit_of_position bits.now.bits) (run_positions (start, end))) }
+    ensures { Gives result (λ _. picked.new ≡ picked.old ++ map (bool_at bits.now.bits) (run_positions (start, end))) }
 {
     if start < end {
         picked.append_slice(bits, start, end)?;

@@ -4,10 +4,9 @@ use Rattle.std.specs.Prelude.{ℤ, pos}
 use Rattle.std.specs.List.{range_with_len}
 use Rattle.std.proofs.lemmas.List.{length-map, get_or-map}
 use Rattle.std.proofs.lemmas.List.FromFn.{fill_by_all}
-use Rattle.vx_base.specs.Integers.{numbers}
+use Rattle.vx_base.specs.Integers.{numbers, number_nth}
 use Rattle.vx_base.specs.Bits.{bool_at}
 use Rattle.vx_base.specs.Rows.{Row, null, boolean, whole}
-use Rattle.vx_base.specs.Selections.{number_of_position}
 use Rattle.vx_base.specs.declared.ptypes.PType.{PType}
 use Rattle.vx_tree.proofs.Masks.{bits_are_truths}
 use Rattle.vx_tree.specs.Formed.{ValidFits}
@@ -32,14 +31,14 @@ rows-primitive : (t : PType) (bs : List ℕ) (v : Valid) → rows (primitive t b
 rows-primitive t bs v =
     let zs : List ℤ = numbers t bs in
     let len : length (map whole zs) ≡ length zs = length-map zs whole in
-    let under = rows_under_mask v (λ i. whole (number_of_position zs i)) (map whole zs) (λ i inside. get_or-map whole zs i (pos 0) null (omega (arith, len))) in
+    let under = rows_under_mask v (λ i. whole (number_nth zs i)) (map whole zs) (λ i inside. get_or-map whole zs i (pos 0) null (omega (arith, len))) in
     ap (λ n. map (row_at (primitive t bs v)) (range_with_len 0 n)) (sym len) ∙ under ∙ ap (λ n. masked (valid_mask v n) (map whole zs)) len
 
 pub IsPrimitive-len : (t : PType) (zs : List ℤ) (v : Valid) (a : Tree) → IsPrimitive t zs v a → tree_len a ≡ length zs
 IsPrimitive-len t zs v a is = ap tree_len is.tree ∙ ap length is.same
 
-pub IsPrimitive-each : (t : PType) (zs : List ℤ) (v : Valid) (a : Tree) (i : ℕ) → IsPrimitive t zs v a → row_at a i ≡ cond (is_valid_at v i) (whole (number_of_position zs i)) null
-IsPrimitive-each t zs v a i is = ap (λ x. row_at x i) is.tree ∙ ap (λ ns. cond (is_valid_at v i) (whole (number_of_position ns i)) null) is.same
+pub IsPrimitive-each : (t : PType) (zs : List ℤ) (v : Valid) (a : Tree) (i : ℕ) → IsPrimitive t zs v a → row_at a i ≡ cond (is_valid_at v i) (whole (number_nth zs i)) null
+IsPrimitive-each t zs v a i is = ap (λ x. row_at x i) is.tree ∙ ap (λ ns. cond (is_valid_at v i) (whole (number_nth ns i)) null) is.same
 
 pub IsPrimitive-masked : (t : PType) (zs : List ℤ) (v : Valid) (a : Tree) → IsPrimitive t zs v a → rows a ≡ masked (valid_mask v (length zs)) (map whole zs)
 IsPrimitive-masked t zs v a is = ap rows is.tree ∙ rows-primitive t is.bytes v ∙ ap (λ ns. masked (valid_mask v (length ns)) (map whole ns)) is.same
@@ -48,7 +47,7 @@ pub IsPrimitive-all : (t : PType) (zs : List ℤ) (a : Tree) → IsPrimitive t z
 IsPrimitive-all t zs a is =
     let ns : List ℤ = numbers t is.bytes in
     ap rows is.tree
-    ∙ sym (fill_by_all (λ i. whole (number_of_position ns i)) (map whole ns) (length ns) null (length-map ns whole) (λ i inside. get_or-map whole ns i (pos 0) null inside))
+    ∙ sym (fill_by_all (λ i. whole (number_nth ns i)) (map whole ns) (length ns) null (length-map ns whole) (λ i inside. get_or-map whole ns i (pos 0) null inside))
     ∙ ap (map whole) is.same
 
 -- ---- truth values

@@ -3,7 +3,7 @@
 ghost use Rattle.std.specs.Prelude.{◌≡◌, ℕ, ℤ, Bool, List, length, map, if◌then◌else◌};
 ghost use Rattle.vx_base.specs.Bits.{bool_at};
 ghost use Rattle.vx_base.specs.Rows.{null, boolean, whole};
-ghost use Rattle.vx_base.specs.Selections.{number_of_position};
+ghost use Rattle.vx_base.specs.Integers.{number_nth};
 ghost use Rattle.vx_base.specs.declared.ptypes.PType.{PType};
 ghost use Rattle.vx_tree.specs.Meaning.{tree_len, row_at, rows, valid_mask, is_valid_at};
 ghost use Rattle.vx_tree.specs.Operations.{masked};
@@ -17,7 +17,7 @@ pub fn rows_of_numbers()
         IsPrimitive t numbers v a → tree_len a ≡ length numbers }
     ensures each { (t : PType) (numbers : List ℤ) (v : Valid) (a : Tree) (i : ℕ) →
         IsPrimitive t numbers v a → row_at a i
-        ≡ (if is_valid_at v i then whole (number_of_position numbers i) else null) }
+        ≡ (if is_valid_at v i then whole (number_nth numbers i) else null) }
     ensures masked { (t : PType) (numbers : List ℤ) (v : Valid) (a : Tree) →
         IsPrimitive t numbers v a → rows a
         ≡ masked (valid_mask v (length numbers)) (map whole numbers) }

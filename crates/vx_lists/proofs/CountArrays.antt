@@ -6,12 +6,11 @@ use Rattle.std.proofs.lemmas.List.{length-map, get_or-map}
 use Rattle.std.proofs.lemmas.List.Elements.{All-push}
 use Rattle.std.proofs.lemmas.List.FromFn.{fill_by_all, map-range_with_len_more}
 use Rattle.std.proofs.lemmas.Simd.{map-map}
-use Rattle.vx_base.specs.Integers.{byte_width, numbers, Holds}
+use Rattle.vx_base.specs.Integers.{byte_width, numbers, Holds, number_nth}
 use Rattle.vx_base.specs.Rows.{null, whole as whole_row, count_in}
 use Rattle.vx_base.specs.Kinds.{Kind, booleans, integers, texts, binaries, lists, fixed_lists, records, is_integers, is_plain_integers, integer_type}
 use Rattle.vx_base.specs.declared.ptypes.PType.{PType}
 use Rattle.vx_tree.specs.Tree.{Tree, primitive, Valid, non_nullable, all_valid, all_invalid, by_array}
-use Rattle.vx_base.specs.Selections.{number_of_position}
 use Rattle.vx_tree.specs.Meaning.{tree_len, kind_of, row_at, rows}
 use Rattle.vx_tree.specs.Formed.{IsCounts, WellFormed}
 use Rattle.vx_lists.specs.CountBytes.{HoldCounts}
@@ -37,9 +36,9 @@ map-count_in-whole (n ∷ counts) = ap (λ rest. n ∷ rest) (map-count_in-whole
 
 rows-by_numbers : (t : PType) (bs : List ℕ) → rows (primitive t bs non_nullable) ≡ map whole_row (numbers t bs)
 rows-by_numbers t bs =
-    let each : (k : ℕ) → k < length (numbers t bs) → get_or (map whole_row (numbers t bs)) k null ≡ whole_row (number_of_position (numbers t bs) k) =
+    let each : (k : ℕ) → k < length (numbers t bs) → get_or (map whole_row (numbers t bs)) k null ≡ whole_row (number_nth (numbers t bs) k) =
     λ k inside. get_or-map whole_row (numbers t bs) k (pos 0) null inside in
-    sym (fill_by_all (λ k. whole_row (number_of_position (numbers t bs) k)) (map whole_row (numbers t bs)) (length (numbers t bs)) null (length-map (numbers t bs) whole_row) each)
+    sym (fill_by_all (λ k. whole_row (number_nth (numbers t bs) k)) (map whole_row (numbers t bs)) (length (numbers t bs)) null (length-map (numbers t bs) whole_row) each)
 
 pub counts_in-primitive : (t : PType) (bs : List ℕ) (counts : List ℕ) → numbers t bs ≡ map pos counts → counts_in (primitive t bs non_nullable) ≡ counts
 counts_in-primitive t bs counts same = ap (map count_in) (rows-by_numbers t bs ∙ ap (map whole_row) same) ∙ map-count_in-whole counts
@@ -54,8 +53,8 @@ count_array_of_numbers t bs counts same = record {
     kind = refl;
     counts = λ i inside.
         let inside_counts : i < length counts = omega (arith, ap length same, length-map counts pos) in
-        let number : number_of_position (numbers t bs) i ≡ pos (get_or counts i 0) = ap (λ zs. number_of_position zs i) same ∙ get_or-map pos counts i 0 (pos 0) inside_counts in
-        is_count (number_of_position (numbers t bs) i) (get_or counts i 0) number;
+        let number : number_nth (numbers t bs) i ≡ pos (get_or counts i 0) = ap (λ zs. number_nth zs i) same ∙ get_or-map pos counts i 0 (pos 0) inside_counts in
+        is_count (number_nth (numbers t bs) i) (get_or counts i 0) number;
   };
   counts_are = counts_in-primitive t bs counts same;
 }
@@ -78,7 +77,7 @@ pub number_bytes_hold : (a : Tree) (t : PType) (bs : List ℕ) (v : Valid) → a
 number_bytes_hold a t bs v parts formed are_counts =
     let same : a ≡ primitive t bs non_nullable = parts ∙ ap (primitive t bs) (plain_numbers t bs v (ap (λ x. is_plain_integers (kind_of x)) (sym parts) ∙ are_counts.kind)) in
     let counts : IsCounts (primitive t bs non_nullable) = subst IsCounts same are_counts in
-    let each : (k : ℕ) → k < length (numbers t bs) → get_or (numbers t bs) k (pos 0) ≡ pos (count_in (row_at (primitive t bs non_nullable) k)) = λ k inside. counted (number_of_position (numbers t bs) k) (count_in (row_at (primitive t bs non_nullable) k)) (counts.counts k inside) in
+    let each : (k : ℕ) → k < length (numbers t bs) → get_or (numbers t bs) k (pos 0) ≡ pos (count_in (row_at (primitive t bs non_nullable) k)) = λ k inside. counted (number_nth (numbers t bs) k) (count_in (row_at (primitive t bs non_nullable) k)) (counts.counts k inside) in
     let are : numbers t bs ≡ map pos (counts_in (primitive t bs non_nullable)) =
     fill_by_all (λ k. pos (count_in (row_at (primitive t bs non_nullable) k))) (numbers t bs) (length (numbers t bs)) (pos 0) refl each
     ∙ sym (map-map pos (λ k. count_in (row_at (primitive t bs non_nullable) k)) (range_with_len 0 (length (numbers t bs))))

@@ -4,7 +4,7 @@ use Rattle.std.specs.Prelude.{pos, IsTrue, if◌then◌else◌, ◌||◌, slice_
 use Rattle.std.proofs.Math.Nat.{mul-le-mul_right}
 use Rattle.std.proofs.lemmas.List.{get_or-drop}
 use Rattle.vx_base.specs.declared.ptypes.PType.{PType}
-use Rattle.vx_base.specs.Integers.{byte_width, numbers, Holds}
+use Rattle.vx_base.specs.Integers.{byte_width, numbers, Holds, number_nth}
 use Rattle.vx_base.specs.Rows.{Row, null, boolean, whole, bytes, text, items, record_of, position_in, count_in}
 use Rattle.vx_base.specs.Kinds.{Kind, booleans, integers, texts, binaries, lists, fixed_lists, records, is_nullable_kind, or_nullable, Fits, AllFit, FieldsFit, IsShort, row_count}
 use Rattle.vx_base.proofs.NumberBytes.{holds-number_of}
@@ -15,7 +15,6 @@ use Rattle.vx_views.specs.Sound.{IsSoundView}
 use Rattle.vx_views.proofs.SoundViews.{value-bytes, value-short}
 use Rattle.vx_tree.specs.Tree.{bools, primitive, constant, dictionary, fixed_list, list_view, structure, view_array, Trees, no_trees, tree, Valid, non_nullable, all_valid, all_invalid, by_array}
 use Rattle.vx_tree.specs.Meaning.{tree_len, kind_of, kinds_of, row_at, fields_at, rows_range, picked, is_valid_at, nullable, is_texts, value_row}
-use Rattle.vx_base.specs.Selections.{number_of_position}
 use Rattle.vx_tree.specs.Formed.{AllLen, column_count, IsCode, value_kind}
 use Rattle.vx_tree.specs.Fitting.{ColumnsFormed, RowsFit}
 
@@ -122,7 +121,7 @@ bytes_taken (suc n) (b ∷ bs) h (suc i) = bytes_taken n bs (λ j. h (suc j)) i
 bytes_dropped : (n : ℕ) (bs : List ℕ) → AreBytes bs → AreBytes (drop n bs)
 bytes_dropped n bs h i = rw (get_or-drop n bs i 0) (h (n + i))
 
-number_fits : (t : PType) (bs : List ℕ) (i : ℕ) → AreBytes bs → i < length (numbers t bs) → Holds t (number_of_position (numbers t bs) i)
+number_fits : (t : PType) (bs : List ℕ) (i : ℕ) → AreBytes bs → i < length (numbers t bs) → Holds t (number_nth (numbers t bs) i)
 number_fits t bs i h l =
     let part : AreBytes (take (byte_width t) (drop (i * byte_width t) bs)) = bytes_taken (byte_width t) (drop (i * byte_width t) bs) (bytes_dropped (i * byte_width t) bs h) in
     rw (get_numbers t bs i (pos 0) (rw (length_numbers t bs) at l)) (holds-number_of t (take (byte_width t) (drop (i * byte_width t) bs)) part)

@@ -6,10 +6,9 @@ use Rattle.std.proofs.Math.Nat.{mul-le-mul_right, add-mul}
 use Rattle.std.proofs.lemmas.Bool.{cases_lt}
 use Rattle.std.proofs.lemmas.List.{length-append, get_or_append_left, get_or-append_right, same_lists, drop-append-le, take-append-le, length-drop, drop_at, drop-drop}
 use Rattle.vx_base.specs.Bits.{bool_at}
-use Rattle.vx_base.specs.Integers.{byte_width, numbers, number_at, number_of}
+use Rattle.vx_base.specs.Integers.{byte_width, numbers, number_at, number_of, number_nth}
 use Rattle.vx_base.specs.Rows.{Row, null, boolean, whole, is_present}
 use Rattle.vx_base.specs.Kinds.{Kind, booleans, integers}
-use Rattle.vx_base.specs.Selections.{number_of_position}
 use Rattle.vx_base.specs.declared.ptypes.PType.{PType}
 use Rattle.vx_base.proofs.NumberLists.{whole as whole_numbers, length_numbers, get_numbers, numbers_none}
 use Rattle.vx_tree.specs.Tree.{Tree, bools, primitive, constant, dictionary, fixed_list, list_view, structure, view_array, Valid}
@@ -143,9 +142,9 @@ primitives_joined p ts v bs h e valid =
         state = valid.state;
         flag = refl;
         rows = λ i l.
-            rows_of_content (λ u j. whole (number_of_position (numbers p (bytes_in u)) j)) (primitive p bs v) ts (λ k d m. (h k d m).content) i l
-            (is_valid_at v i) (whole (number_of_position (numbers p bs) i)) (valid.bits i l)
-            (ap (λ zs. whole (number_of_position zs i)) same ∙ joined_item (λ t. numbers p (bytes_in t)) whole (pos 0) null ts hold i l) refl;
+            rows_of_content (λ u j. whole (number_nth (numbers p (bytes_in u)) j)) (primitive p bs v) ts (λ k d m. (h k d m).content) i l
+            (is_valid_at v i) (whole (number_nth (numbers p bs) i)) (valid.bits i l)
+            (ap (λ zs. whole (number_nth zs i)) same ∙ joined_item (λ t. numbers p (bytes_in t)) whole (pos 0) null ts hold i l) refl;
       },
       (rw long valid.fits, ap length e ∙ numbers_joined_len p ts h ∙ ap (λ k. k * byte_width p) (sym long)),
     )
@@ -171,7 +170,7 @@ numbers_of_type q p bs v e w =
     rw (sym e) (record {
       layout = refl;
       bytes = w;
-      content = λ j l. shown (is_valid_at v j) (whole (number_of_position (numbers q bs) j)) refl;
+      content = λ j l. shown (is_valid_at v j) (whole (number_nth (numbers q bs) j)) refl;
     })
 
 abbrev type_in : Kind → PType → PType

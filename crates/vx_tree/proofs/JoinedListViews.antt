@@ -10,8 +10,7 @@ use Rattle.std.proofs.lemmas.Slice.{take-put_mid}
 use borrow.Rule.Slice.PartMut.{put_mid}
 use Rattle.std.proofs.lemmas.List.{length-append, length-map, length-take, take_all, take_at, take-append-le, map-append, get_or_append_left, get_or-append_right, get_or-map, get_or_default, take_more, append-nil, at_drop_more}
 use Rattle.std.proofs.lemmas.List.FromFn.{fill_by_all, length-map-range_with_len, get_or-map-range_with_len}
-use Rattle.vx_base.specs.Integers.{numbers, Holds}
-use Rattle.vx_base.specs.Selections.{number_of_position}
+use Rattle.vx_base.specs.Integers.{numbers, Holds, number_nth}
 use Rattle.vx_base.specs.Rows.{Row, null, whole, items, count_in}
 use Rattle.vx_base.specs.declared.ptypes.PType.{PType}
 use Rattle.vx_base.specs.Kinds.{lists}
@@ -32,10 +31,10 @@ number_in_row : (b : Bool) (z : ℤ) (k : ℕ) → (if b then whole z else null)
 number_in_row true z k e = cc
 number_in_row false z k e = cc
 
-pub number-count : (t : Tree) (p : PType) (bs : List ℕ) (v : Valid) → t ≡ primitive p bs v → IsCounts t → (i : ℕ) → i < length (numbers p bs) → number_of_position (numbers p bs) i ≡ pos (count_in (row_at t i))
+pub number-count : (t : Tree) (p : PType) (bs : List ℕ) (v : Valid) → t ≡ primitive p bs v → IsCounts t → (i : ℕ) → i < length (numbers p bs) → number_nth (numbers p bs) i ≡ pos (count_in (row_at t i))
 number-count t p bs v e h i l =
-    let row : row_at t i ≡ (if is_valid_at v i then whole (number_of_position (numbers p bs) i) else null) = ap (λ u. row_at u i) e in
-    number_in_row (is_valid_at v i) (number_of_position (numbers p bs) i) (count_in (row_at t i)) (sym row ∙ h.counts i (rw e l))
+    let row : row_at t i ≡ (if is_valid_at v i then whole (number_nth (numbers p bs) i) else null) = ap (λ u. row_at u i) e in
+    number_in_row (is_valid_at v i) (number_nth (numbers p bs) i) (count_in (row_at t i)) (sym row ∙ h.counts i (rw e l))
 
 pub counts_not_negative : (t : Tree) (p : PType) (bs : List ℕ) (v : Valid) → t ≡ primitive p bs v → IsCounts t → All (λ z. pos 0 ≤ℤ z) (numbers p bs)
 counts_not_negative t p bs v e h = λ i d l.
@@ -245,5 +244,5 @@ counts_written ns bs t e same =
       len = long;
       kind = refl;
       plain = tt;
-      rows = λ i l. ap whole (ap (λ zs. number_of_position zs i) same ∙ get_or-map pos ns i 0 (pos 0) l);
+      rows = λ i l. ap whole (ap (λ zs. number_nth zs i) same ∙ get_or-map pos ns i 0 (pos 0) l);
     })

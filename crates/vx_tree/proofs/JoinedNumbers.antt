@@ -7,11 +7,10 @@ use Rattle.std.proofs.lemmas.Bool.{cases_lt}
 use Rattle.std.proofs.lemmas.List.{take_more, take_all, length-append, get_or_append_left, get_or-append_right, get_or-map, get_or-replicate, length-replicate}
 use Rattle.std.proofs.Math.Nat.{add-mul}
 use Rattle.vx_base.specs.declared.ptypes.PType.{PType}
-use Rattle.vx_base.specs.Integers.{byte_width, bytes_of, numbers, Holds}
+use Rattle.vx_base.specs.Integers.{byte_width, bytes_of, numbers, Holds, number_nth}
 use Rattle.vx_base.specs.Kinds.{Kind, booleans, integers, texts, binaries, lists, fixed_lists, records, is_integers, is_nullable_kind, or_nullable, is_integers-or_nullable, Fits}
 use Rattle.vx_base.specs.Refusals.{Refusal, or_else}
 use Rattle.vx_base.specs.Rows.{Row, null, boolean, whole, bytes, text, items, record_of, is_present, number_in, position_in}
-use Rattle.vx_base.specs.Selections.{number_of_position}
 use Rattle.vx_base.proofs.Defaults.{default_fits}
 use Rattle.vx_base.proofs.FirstFaults.{or_else-second}
 use Rattle.vx_base.proofs.NumberLists.{whole as whole_numbers, length_numbers, numbers_none, length-bytes_of, numbers_push}
@@ -65,11 +64,11 @@ numbers_both p n m f g h bs cs a b first second =
       len = length-append bs cs ∙ ap (λ k. k + length cs) a.len ∙ ap (λ k. n * byte_width p + k) b.len ∙ sym (add-mul n m (byte_width p));
       each = λ i l. elim (cases_lt i n) [
         | inl here ↦
-            shown_same (h i) (f i) (whole (number_of_position (numbers p (bs ++ cs)) i)) (whole (number_of_position (numbers p bs) i)) (first i here)
-            (ap whole (ap (λ zs. number_of_position zs i) same ∙ get_or_append_left (numbers p bs) (numbers p cs) (pos 0) i (omega (arith, long)))) (a.each i here)
+            shown_same (h i) (f i) (whole (number_nth (numbers p (bs ++ cs)) i)) (whole (number_nth (numbers p bs) i)) (first i here)
+            (ap whole (ap (λ zs. number_nth zs i) same ∙ get_or_append_left (numbers p bs) (numbers p cs) (pos 0) i (omega (arith, long)))) (a.each i here)
         | inr later ↦
-            shown_same (h i) (g (i - n)) (whole (number_of_position (numbers p (bs ++ cs)) i)) (whole (number_of_position (numbers p cs) (i - n))) (second i later l)
-            (ap whole (ap (λ zs. number_of_position zs i) same ∙ get_or-append_right (numbers p bs) (numbers p cs) n i (pos 0) long later)) (b.each (i - n) (omega arith))
+            shown_same (h i) (g (i - n)) (whole (number_nth (numbers p (bs ++ cs)) i)) (whole (number_nth (numbers p cs) (i - n))) (second i later l)
+            (ap whole (ap (λ zs. number_nth zs i) same ∙ get_or-append_right (numbers p bs) (numbers p cs) n i (pos 0) long later)) (b.each (i - n) (omega arith))
       ];
     }
   where
@@ -107,7 +106,7 @@ numbers_are_joined p n ts v bs h valid =
         plain = valid.plain;
         state = valid.state;
         flag = refl;
-        rows = λ i l. ap (λ (b : Bool). if b then whole (number_of_position (numbers p bs) i) else null) (valid.bits i l) ∙ sym (h.each i l);
+        rows = λ i l. ap (λ (b : Bool). if b then whole (number_nth (numbers p bs) i) else null) (valid.bits i l) ∙ sym (h.each i l);
       },
       (rw long valid.fits, h.len ∙ ap (λ k. k * byte_width p) (sym long)),
     )
@@ -127,7 +126,7 @@ primitive_held : (q p : PType) (bs : List ℕ) (v : Valid) → q ≡ p → lengt
 primitive_held q p bs v e w =
     rw (sym e) (record {
       len = w;
-      each = λ i l. shown (is_valid_at v i) (whole (number_of_position (numbers q bs) i)) refl;
+      each = λ i l. shown (is_valid_at v i) (whole (number_nth (numbers q bs) i)) refl;
     })
 
 pub plain_held : (t : Tree) (p q : PType) (bs : List ℕ) (v : Valid) → t ≡ primitive q bs v → WellFormed (primitive q bs v) → AreOfType p t → HoldNumbers p (tree_len t) (row_at t) bs
@@ -154,7 +153,7 @@ repeated_held : (p : PType) (z : ℤ) (n : ℕ) (f : ℕ → Row) (cs : List ℕ
 repeated_held p z n f cs h each =
     record {
       len = h.len;
-      each = λ i l. shown_same (f i) (f i) (whole (number_of_position (numbers p cs) i)) (whole z) refl (ap whole (ap (λ zs. number_of_position zs i) h.numbers ∙ get_or-replicate n i z (pos 0) l)) (each i l);
+      each = λ i l. shown_same (f i) (f i) (whole (number_nth (numbers p cs) i)) (whole z) refl (ap whole (ap (λ zs. number_nth zs i) h.numbers ∙ get_or-replicate n i z (pos 0) l)) (each i l);
     }
 
 pub constant_held : (t : Tree) (p : PType) (k : Kind) (r : Row) (n : ℕ) (cs : List ℕ) → t ≡ constant k r n → Fits k r → AreOfType p t → AreRepeated p (unwrap_or (number_in r) (pos 0)) n cs → HoldNumbers p (tree_len t) (row_at t) cs
@@ -169,11 +168,11 @@ bytes_counted p z bs e =
     let long : length bs ≡ 1 * byte_width p = ap length e ∙ length-bytes_of p z ∙ omega arith in
     ap (λ (k : ℕ). k / byte_width p) long ∙ whole_numbers p 1
 
-number_alone : (p : PType) (z : ℤ) (bs : List ℕ) → bs ≡ bytes_of p z → Holds p z → number_of_position (numbers p bs) 0 ≡ z
+number_alone : (p : PType) (z : ℤ) (bs : List ℕ) → bs ≡ bytes_of p z → Holds p z → number_nth (numbers p bs) 0 ≡ z
 number_alone p z bs e h =
     let none : 0 ≡ 0 * byte_width p = omega arith in
     let one : numbers p (bytes_of p z) ≡ z ∷ [] = numbers_push p [] 0 z none h ∙ ap (λ zs. zs ++ z ∷ []) (numbers_none p) in
-    ap (λ xs. number_of_position (numbers p xs) 0) e ∙ ap (λ zs. number_of_position zs 0) one
+    ap (λ xs. number_nth (numbers p xs) 0) e ∙ ap (λ zs. number_nth zs 0) one
 
 pub repeated_within : (p : PType) (z : ℤ) (n : ℕ) (bs ps : List ℕ) → bs ≡ bytes_of p z → ps ≡ replicate n 0 → All (λ k. k < length bs / byte_width p) ps
 repeated_within p z n bs ps e same = λ i d l.
@@ -187,7 +186,7 @@ repeated_picked p z n bs ps cs holds e same h =
     record {
       len = h.len ∙ ap (λ k. k * byte_width p) (ap length same ∙ length-replicate {A = ℕ} n 0);
       numbers =
-          h.numbers ∙ ap (map (number_of_position (numbers p bs))) same ∙ map_repeated (number_of_position (numbers p bs)) 0 n ∙ ap (replicate n) (number_alone p z bs e holds);
+          h.numbers ∙ ap (map (number_nth (numbers p bs))) same ∙ map_repeated (number_nth (numbers p bs)) 0 n ∙ ap (replicate n) (number_alone p z bs e holds);
     }
 
 -- values that codes name
@@ -204,11 +203,11 @@ named_held p c v w bs ps cs h are e at_codes here =
       each = λ i l.
           let inside : i < length ps = rw at_codes.len l in
           let q = at_codes.each i l in
-          named_row (row_at v) (λ j. whole (number_of_position (numbers p bs) j)) (tree_len v) (position_in (row_at c i)) (slice_index ps i) (whole (number_of_position (numbers p cs) i)) q.told q.within
+          named_row (row_at v) (λ j. whole (number_nth (numbers p bs) j)) (tree_len v) (position_in (row_at c i)) (slice_index ps i) (whole (number_nth (numbers p cs) i)) q.told q.within
           (λ j m.
-          shown_same (row_at v j) (row_at w j) (whole (number_of_position (numbers p bs) j)) (whole (number_of_position (numbers p (bytes_in w)) j)) (sym (h.rows j m)) (ap (λ xs. whole (number_of_position (numbers p xs) j)) e)
+          shown_same (row_at v j) (row_at w j) (whole (number_nth (numbers p bs) j)) (whole (number_nth (numbers p (bytes_in w)) j)) (sym (h.rows j m)) (ap (λ xs. whole (number_nth (numbers p xs) j)) e)
           (are.content j (rw h.len m)))
-          (ap whole (ap (λ zs. number_of_position zs i) here.numbers ∙ get_or-map (number_of_position (numbers p bs)) ps i 0 (pos 0) inside));
+          (ap whole (ap (λ zs. number_nth zs i) here.numbers ∙ get_or-map (number_nth (numbers p bs)) ps i 0 (pos 0) inside));
     }
 
 pub named_within : (p : PType) (v w : Tree) (bs : List ℕ) → HasRowsOf v w → AreNumbers p w → bs ≡ bytes_in w → length bs / byte_width p ≡ tree_len v

@@ -4,10 +4,9 @@ use Rattle.std.specs.Prelude.{ℤ, pos, negsuc, map, nat_lt, slice_index, unsign
 use Rattle.std.proofs.lemmas.Bool.{ltb-true}
 use Rattle.std.proofs.lemmas.List.{length-map, get_or-map}
 use Rattle.vx_base.specs.declared.ptypes.PType.{PType}
-use Rattle.vx_base.specs.Integers.{numbers}
+use Rattle.vx_base.specs.Integers.{numbers, number_nth}
 use Rattle.vx_base.specs.Refusals.{out_of_bounds}
 use Rattle.vx_base.specs.Rows.{whole}
-use Rattle.vx_base.specs.Selections.{number_of_position}
 use Rattle.vx_base.proofs.FirstFaults.{first_fault-none_at}
 use Rattle.vx_tree.specs.Tree.{Tree, primitive, non_nullable, all_valid}
 use Rattle.vx_tree.specs.Meaning.{tree_len, row_at}
@@ -31,7 +30,7 @@ numbers_named t p bs len h none =
     record {
       len = length-map (numbers p bs) unsigned_abs ∙ sym h.len;
       each = λ i l.
-          let z = number_of_position (numbers p bs) i in
+          let z = number_nth (numbers p bs) i in
           let faultless : index_fault len i (whole z) ≡ None = sym (ap (index_fault len i) (h.rows i l)) ∙ first_fault-none_at (λ j. index_fault len j (row_at t j)) (tree_len t) i none l in
           let same = get_or-map unsigned_abs (numbers p bs) i (pos 0) 0 (rw h.len at l) in
           subst (λ r. IsPosition len r (slice_index (map unsigned_abs (numbers p bs)) i)) (sym (h.rows i l)) (subst (IsPosition len (whole z)) (sym same) (position_named len i z faultless));

@@ -6,13 +6,12 @@ use Rattle.std.proofs.lemmas.List.FromFn.{length-map-range_with_len, get_or-map-
 use Rattle.std.specs.Prelude.{ℤ, pos, ◌||◌, ◌&&◌, if◌then◌else◌}
 use Rattle.vx_base.specs.declared.ptypes.PType.{PType}
 use Rattle.vx_base.specs.declared.ptypes.PType.TheVariants.{U8}
-use Rattle.vx_base.specs.Integers.{numbers}
+use Rattle.vx_base.specs.Integers.{numbers, number_nth}
 use Rattle.vx_base.specs.Rows.{Row, null, whole, truth_of}
 use Rattle.vx_base.specs.Bits.{bool_at, both}
 use Rattle.vx_base.specs.Kinds.{booleans, integers, lists, fixed_lists}
 use Rattle.vx_tree.specs.Tree.{Tree, bools, primitive, fixed_list, list_view, Valid, non_nullable, by_array}
 use Rattle.vx_tree.specs.Meaning.{row_at, tree_len, kind_of, is_valid_at, nullable}
-use Rattle.vx_base.specs.Selections.{number_of_position}
 use Rattle.vx_tree.specs.Shapes.{State, bool_shape, primitive_shape, fixed_list_shape, list_view_shape, never_null, none_null, every_null, told, state_of, is_nullable_state, taken_state}
 use Rattle.vx_tree.specs.Formed.{ValidFits, IsMask}
 use Rattle.vx_tree.specs.Operations.{IsNulled, IsValidNulled, IsNulls, IsValidNulls, IsZeroes, IsZeroCodes}
@@ -180,7 +179,7 @@ zeroes_made t p bs n a e =
       len = ap length e ∙ length-map (replicate n 0) pos ∙ length-replicate {A = ℕ} n 0;
       plain = tt;
       kind = refl;
-      rows = λ i l. ap whole (ap (λ (zs : List ℤ). number_of_position zs i) e ∙ get_or-map pos (replicate n 0) i 0 (pos 0) (rw (length-replicate {A = ℕ} n 0) l) ∙ ap pos (get_or-replicate n i 0 0 l));
+      rows = λ i l. ap whole (ap (λ (zs : List ℤ). number_nth zs i) e ∙ get_or-map pos (replicate n 0) i 0 (pos 0) (rw (length-replicate {A = ℕ} n 0) l) ∙ ap pos (get_or-replicate n i 0 0 l));
     })
 
 pub zero_codes_made : (t : Tree) (bs : List ℕ) (u : Valid) (n : ℕ) → t ≡ primitive U8 bs u → numbers U8 bs ≡ map pos (replicate n 0) → IsZeroCodes n u t

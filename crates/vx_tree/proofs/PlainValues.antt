@@ -9,11 +9,10 @@ use Rattle.vx_base.specs.declared.scalar_value.ScalarValue.{ScalarValue}
 use Rattle.vx_base.specs.declared.scalar_value.ScalarValue.TheVariants as value
 use Rattle.vx_base.specs.declared.ptypes.PType.{PType}
 use Rattle.vx_base.specs.Bits.{bool_at}
-use Rattle.vx_base.specs.Integers.{numbers}
+use Rattle.vx_base.specs.Integers.{numbers, number_nth}
 use Rattle.vx_base.specs.Kinds.{Kind, booleans, integers, texts, binaries, lists, fixed_lists, records, Fits, is_nullable_kind, is_integers, integer_type}
 use Rattle.vx_base.specs.Rows.{Row, null, boolean, whole, is_present}
 use Rattle.vx_base.specs.Defaults.{is_even}
-use Rattle.vx_base.specs.Selections.{number_of_position}
 use Rattle.vx_base.specs.ValueRows.{value_row, option_row, named, row_under}
 use Rattle.vx_tree.specs.Tree.{Tree, bools, primitive, constant, Valid, non_nullable, all_valid, all_invalid, by_array}
 use Rattle.vx_tree.specs.Meaning.{row_at, is_valid_at, nullable}
@@ -131,8 +130,8 @@ numbers_made t k p bs v vs kind e a same = subst (λ x. ArePlainValues x vs t) (
           extent = refl;
           flag = refl;
           rows = λ i l fits.
-              let number : number_of_position (numbers p bs) i ≡ number_or_zero (slice_index_or vs i None) = ap (λ (zs : List ℤ). number_of_position zs i) same ∙ get_or-map number_or_zero vs i None (pos 0) l in
-              row_of_value (integers p m) vs i (whole (number_of_position (numbers p bs) i)) l (λ x here h. ap whole (number ∙ ap number_or_zero here) ∙ number_row p m x h) refl (λ h. h) fits;
+              let number : number_nth (numbers p bs) i ≡ number_or_zero (slice_index_or vs i None) = ap (λ (zs : List ℤ). number_nth zs i) same ∙ get_or-map number_or_zero vs i None (pos 0) l in
+              row_of_value (integers p m) vs i (whole (number_nth (numbers p bs) i)) l (λ x here h. ap whole (number ∙ ap number_or_zero here) ∙ number_row p m x h) refl (λ h. h) fits;
         })
 
 -- ---- one value, over and over

@@ -8,7 +8,7 @@ use Rattle.std.proofs.lemmas.List.{get_or-replicate, get_or-set_same, get_or-set
 use borrow.Author.Count.{below_more}
 use Rattle.vx_base.specs.declared.ptypes.PType.{PType}
 use Rattle.vx_base.specs.declared.ptypes.PType.TheVariants.{U8, U16, U32, U64, I8, I16, I32, I64}
-use Rattle.vx_base.specs.Integers.{Holds, numbers}
+use Rattle.vx_base.specs.Integers.{Holds, numbers, number_nth}
 use Rattle.vx_base.specs.Bits.{bool_at}
 use Rattle.vx_base.specs.Refusals.{Refusal, first_fault}
 use Rattle.vx_base.specs.Rows.{null, whole}
@@ -16,7 +16,6 @@ use Rattle.vx_base.proofs.MaskCounts.{all_true_from_count}
 use Rattle.vx_base.proofs.FirstFaults.{first_fault-next, first_fault-found, first_fault-same}
 use Rattle.vx_tree.specs.Tree.{Tree, primitive, Valid, non_nullable}
 use Rattle.vx_tree.specs.Meaning.{tree_len, row_at, is_valid_at, valid_mask}
-use Rattle.vx_base.specs.Selections.{number_of_position}
 use Rattle.vx_tree.specs.Faults.{index_fault, indices_fault}
 use Rattle.vx_tree.specs.Operations.{IsPosition, ArePositions, masked_numbers}
 
@@ -92,7 +91,7 @@ indices_fault-same len t u h =
 -- numbers are those under the mask of their validity
 pub under_mask : (t : Tree) (p : PType) (bs : List ℕ) (v : Valid) (mask : List Bool) → t ≡ primitive p bs v → mask ≡ valid_mask v (tree_len t) → AreSame t (masked_numbers p bs mask)
 under_mask t p bs v mask e m =
-    rw e (record { len = refl; rows = λ i l. ap (λ b. if b then whole (number_of_position (numbers p bs) i) else null) (sym (bit i (rw e l))) })
+    rw e (record { len = refl; rows = λ i l. ap (λ b. if b then whole (number_nth (numbers p bs) i) else null) (sym (bit i (rw e l))) })
   where
     bit : (i : ℕ) → i < tree_len t → bool_at mask i ≡ is_valid_at v i
     bit i l = ap (λ bits. bool_at bits i) m ∙ get_or-map-range_with_len (is_valid_at v) 0 (tree_len t) i i false l (zero-add i)
@@ -105,7 +104,7 @@ mask_long v mask n m = ap length m ∙ length-map-range_with_len (is_valid_at v)
 pub masked_plain : (p : PType) (bs : List ℕ) (mask : List Bool) → length mask ≡ length (numbers p bs) → count_by (λ b. b) mask ≡ length mask → AreSame (masked_numbers p bs mask) (primitive p bs non_nullable)
 masked_plain p bs mask long counted = record {
   len = refl;
-  rows = λ i l. ap (λ b. if b then whole (number_of_position (numbers p bs) i) else null) (bit i l);
+  rows = λ i l. ap (λ b. if b then whole (number_nth (numbers p bs) i) else null) (bit i l);
 }
   where
     bit : (i : ℕ) → i < length (numbers p bs) → bool_at mask i ≡ true

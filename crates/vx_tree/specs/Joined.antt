@@ -1,11 +1,10 @@
 -- Arrays that are joined, one after another.
 use Rattle.std.specs.Prelude.{◌≡◌, ◌<◌, ◌≤◌, ◌++◌, ◌+◌, ◌-◌, ◌*◌, ℕ, pos, zero, suc, Bool, true, false, slice_index}
 use Rattle.std.specs.Prelude.{List, [], ◌∷◌, length, map, replicate, nat_lt, if◌then◌else◌, Option, None, slice_index_or}
-use Rattle.vx_base.specs.Integers.{byte_width, numbers}
+use Rattle.vx_base.specs.Integers.{byte_width, numbers, number_nth}
 use Rattle.vx_base.specs.Kinds.{Kind, integers, texts, binaries, lists, fixed_lists, records, Kinds, no_kinds, kind}
 use Rattle.vx_base.specs.Booleans.{count_fault}
 use Rattle.vx_base.specs.Refusals.{Refusal, or_else}
-use Rattle.vx_base.specs.Selections.{number_of_position}
 use Rattle.vx_base.specs.declared.ptypes.PType.{PType}
 use Rattle.vx_base.specs.declared.ptypes.PType.TheVariants.{U64}
 use Rattle.vx_base.specs.Rows.{Row, null, whole, items, record_of, is_present, count_in}
@@ -91,7 +90,7 @@ pub record AreNumbers (p : PType) (t : Tree) : Type 0 where
   pub layout : is_primitive t ≡ true
   pub bytes : length (bytes_in t) ≡ tree_len t * byte_width p
   pub content : (j : ℕ) → j < tree_len t
-      → row_at t j ≡ (if is_present (row_at t j) then whole (number_of_position (numbers p (bytes_in t)) j) else null)
+      → row_at t j ≡ (if is_present (row_at t j) then whole (number_nth (numbers p (bytes_in t)) j) else null)
 
 -- the elements of an array of lists
 abbrev pub elements_in : Tree → Tree

@@ -2,9 +2,8 @@
 use Rattle.std.specs.Prelude.{◌*◌, ℕ, zero, suc, Bool, true, false, List, [], ◌∷◌, length, map, if◌then◌else◌, Option}
 use Rattle.std.specs.Prelude.{Some, None, slice_index_or}
 use Rattle.std.specs.List.{range_with_len}
-use Rattle.vx_base.specs.Integers.{numbers}
+use Rattle.vx_base.specs.Integers.{numbers, number_nth}
 use Rattle.vx_base.specs.Bits.{bool_at}
-use Rattle.vx_base.specs.Selections.{number_of_position}
 use Rattle.vx_base.specs.Rows.{Row, null, boolean, whole, bytes, text, items, record_of, Rows, no_rows, row, Fields}
 use Rattle.vx_base.specs.Rows.{no_fields, field, truth_of, position_in, count_in}
 use Rattle.vx_base.specs.Kinds.{Kind, booleans, integers, texts, lists, fixed_lists, records, Kinds, no_kinds, kind}
@@ -77,7 +76,7 @@ value_row false value = bytes value
 abbrev mutual
   pub row_at : Tree → ℕ → Row
   row_at (bools bits v) i = if is_valid_at v i then boolean (bool_at bits i) else null
-  row_at (primitive t bs v) i = if is_valid_at v i then whole (number_of_position (numbers t bs) i) else null
+  row_at (primitive t bs v) i = if is_valid_at v i then whole (number_nth (numbers t bs) i) else null
   row_at (constant k r n) i = r
   row_at (dictionary c v f) i = picked (row_at v) (position_in (row_at c i))
   row_at (fixed_list e k v n) i = if is_valid_at v i then items (rows_range (row_at e) (i * k) k) else null

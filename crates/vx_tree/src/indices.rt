@@ -2,12 +2,11 @@
 
 ghost use Rattle.std.specs.Prelude.{◌≡◌, ◌<◌, ◌≤ℤ◌, ◌*◌, ◌-◌, ◌^◌, ℕ, pos, true, length, IfOk, IfSome, slice_index_or};
 ghost use Rattle.vx_base.specs.Refusals.{Gives, Refuses, Tests};
-ghost use Rattle.vx_base.specs.Integers.{numbers};
+ghost use Rattle.vx_base.specs.Integers.{numbers, number_nth};
 ghost use Rattle.vx_base.specs.Rows.{whole};
 ghost use Rattle.vx_base.specs.Kinds.{is_integers};
 ghost use Rattle.vx_tree.specs.Tree.{primitive, non_nullable};
 ghost use Rattle.vx_tree.specs.Meaning.{tree_len, kind_of, row_at};
-ghost use Rattle.vx_base.specs.Selections.{number_of_position};
 ghost use Rattle.vx_tree.specs.Formed.{IsCode};
 ghost use Rattle.vx_tree.specs.Faults.{indices_fault, index_fault};
 ghost use Rattle.vx_tree.specs.Named.{HasNumbers};
@@ -238,8 +237,8 @@ pub(crate) fn number_position(
     len: usize,
 ) -> Result<usize, VortexError>
     requires { row < length (numbers ptype bytes.now) }
-    ensures ok { IfOk result (IsPosition len (whole (number_of_position (numbers ptype bytes.now) row))) }
-    ensures tests { Tests result (index_fault len row (whole (number_of_position (numbers ptype bytes.now) row))) }
+    ensures ok { IfOk result (IsPosition len (whole (number_nth (numbers ptype bytes.now) row))) }
+    ensures tests { Tests result (index_fault len row (whole (number_nth (numbers ptype bytes.now) row))) }
 {
     position_of(int_at(bytes, ptype, row), row, len)
 }

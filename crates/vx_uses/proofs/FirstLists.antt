@@ -6,7 +6,7 @@ use Rattle.vx_base.specs.Rows.{Row, null, items, whole, count_in, list_in}
 use Rattle.vx_base.specs.declared.ptypes.PType.TheVariants.{I32, U32}
 use Rattle.vx_base.specs.Kinds.{Kind, integers, lists, is_integers}
 use Rattle.vx_tree.specs.Tree.{Tree, bools, primitive, constant, dictionary, fixed_list, list_view, structure, view_array, non_nullable}
-use Rattle.vx_base.specs.Selections.{number_of_position}
+use Rattle.vx_base.specs.Integers.{number_nth}
 use Rattle.vx_tree.specs.Meaning.{tree_len, kind_of, row_at, rows, rows_range}
 use Rattle.vx_leaves.specs.Leaves.{IsPrimitive}
 use Rattle.vx_lists.specs.ListLayout.{items_of, size_of, starts_from}
@@ -29,7 +29,7 @@ counts (n ∷ ns) = whole (pos n) ∷ counts ns
 -- the lists of these sizes from these offsets on, as rows
 abbrev lists_over : List ℤ → List ℤ → List ℤ → List (Option (List Row))
 lists_over es os ss =
-    map list_in (map (λ i. items (rows_range (λ k. whole (number_of_position es k)) (count_in (whole (number_of_position os i))) (count_in (whole (number_of_position ss i))))) (range_with_len 0 (length os)))
+    map list_in (map (λ i. items (rows_range (λ k. whole (number_nth es k)) (count_in (whole (number_nth os i))) (count_in (whole (number_nth ss i))))) (range_with_len 0 (length os)))
 
 -- the kind of the items of lists
 abbrev item_kind : Kind → Kind

@@ -1,5 +1,5 @@
 -- What a call that builds views is refused for, given what its parts found.
-use Rattle.std.proofs.Common.{◌≡◌, Result, Ok, Err, IfErr, IfOk, IfSome, IfNone, drop, slice_range, length-take, length-drop, unsigned_abs, ℕ, ℤ, zero, suc, ◌+◌, ◌-◌, ◌^◌, ◌<◌, ◌≤◌, true, false, List, [], ◌∷◌, length, take, get_or, sum, if◌then◌else◌, nat_le, Option, Some, None, IsSome, inl, inr, refl, ◌∙◌, ap, ⊎_elim, ◌⊎◌, arith}
+use Rattle.std.proofs.Common.{◌≡◌, Result, Ok, Err, IfOk, IfSome, IfNone, drop, slice_range, length-take, length-drop, unsigned_abs, ℕ, ℤ, zero, suc, ◌+◌, ◌-◌, ◌^◌, ◌<◌, ◌≤◌, List, [], ◌∷◌, length, take, get_or, sum, if◌then◌else◌, nat_le, Option, Some, None, inl, inr, refl, ap, ⊎_elim, ◌⊎◌, arith}
 use Rattle.std.specs.List.{All}
 use Rattle.std.specs.Result.{IsErrAnd}
 use Rattle.std.proofs.lemmas.Bool.{cases_lt, le-leb, lt-leb, leb-true}
@@ -8,7 +8,8 @@ use Rattle.vx_base.specs.declared.errors.VortexError.TheVariants.{Memory, LimitT
 use Rattle.vx_base.specs.Refusals.{Refusal, or_else, refusal_of, IsMemoryOr, Names, Refuses, limit_too_large, overflow, value_too_long}
 use Rattle.vx_views.specs.declared.view.TheConstants.{MAX_BUFFER_LEN}
 use Rattle.vx_views.specs.Cut.{ArePieces, IsCut, IsMaximalCut}
-use Rattle.vx_views.specs.BuildFaults.{limit_fault, numbering_fault, number_at, lengths_of, differences, too_long_at, lengths_fault, offsets_fault, IsPieceCount}
+use Rattle.vx_views.specs.BuildFaults.{limit_fault, numbering_fault, lengths_of, differences, too_long_at, lengths_fault, offsets_fault, IsPieceCount}
+use Rattle.vx_base.specs.Integers.{number_nth}
 use Rattle.vx_views.specs.Places.{AreBuilt}
 use Rattle.vx_views.proofs.OffsetFacts.{AreFaultlessOffsets-none}
 use Rattle.std.proofs.lemmas.List.Sums.{sum_by-take-le}
@@ -124,7 +125,7 @@ pub short_differences : (limit heap_len : ℕ) (offsets : List ℤ) → offsets_
 short_differences limit heap_len offsets e k h =
     let k_in : k < length (differences offsets) = omega (arith, length-lengths_of (differences offsets)) in
     let here = first_fault-none_at (too_long_at limit (differences offsets)) (length (differences offsets)) k (AreFaultlessOffsets-none limit heap_len offsets e).short k_in in
-    omega (arith, length_at (differences offsets) k k_in, leb-true (unsigned_abs (number_at (differences offsets) k)) limit (if-none (nat_le (unsigned_abs (number_at (differences offsets) k)) limit) (value_too_long k) here))
+    omega (arith, length_at (differences offsets) k k_in, leb-true (unsigned_abs (number_nth (differences offsets) k)) limit (if-none (nat_le (unsigned_abs (number_nth (differences offsets) k)) limit) (value_too_long k) here))
 
 -- the same of what a cut found
 pub made-weaker : {A E : Type 0} (P Q : A → Type 0) (r : Result (Option A) E) → ((x : A) → P x → Q x) → IfOk r (λ o. IfSome o P) → IfOk r (λ o. IfSome o Q)

@@ -1,5 +1,5 @@
 -- The first faulty view: what a check that goes row by row knows, and what a view without a fault is.
-use Rattle.std.proofs.Common.{◌≡◌, ℕ, ◌+◌, ◌<◌, ◌≤◌, ◌⊎◌, ◌↔◌, Bool, true, false, cond, ◌∙◌, sym, ap, subst, refl, inl, inr, List, [], length, get_or, take, add-one, arith, le-leb, lt-ltb, le-ltb}
+use Rattle.std.proofs.Common.{◌≡◌, ℕ, ◌+◌, ◌<◌, ◌≤◌, ◌⊎◌, ◌↔◌, Bool, true, false, cond, ◌∙◌, sym, ap, subst, refl, inl, inr, List, [], length, get_or, take, arith, le-leb, lt-ltb, le-ltb}
 use Rattle.std.specs.Prelude.{Option, Some, None, IsUtf8, bytes_eq, count_by}
 use Rattle.std.specs.Str.{is_utf8}
 use Rattle.std.proofs.lemmas.Bool.{cases_lt, cases_Bool, lt-leb, leb-false}

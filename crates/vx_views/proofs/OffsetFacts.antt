@@ -6,7 +6,8 @@ use Rattle.std.proofs.lemmas.Bool.Decides.{nat_tests}
 use Rattle.std.proofs.lemmas.Int.{ints}
 use Rattle.std.proofs.lemmas.List.{take_all}
 use Rattle.vx_base.specs.Refusals.{or_else, negative, lengths_not_exact, falling_offsets, empty_input, out_of_bounds}
-use Rattle.vx_views.specs.BuildFaults.{number_at, lengths_of, differences, first_offset, last_offset, negative_at, falling_at, sum_fault, past_heap_fault, no_offset_fault, first_negative, first_falling, first_too_long, lengths_fault, offsets_fault, IsUsedRange, AreRising}
+use Rattle.vx_views.specs.BuildFaults.{lengths_of, differences, first_offset, last_offset, negative_at, falling_at, sum_fault, past_heap_fault, no_offset_fault, first_negative, first_falling, first_too_long, lengths_fault, offsets_fault, IsUsedRange, AreRising}
+use Rattle.vx_base.specs.Integers.{number_nth}
 use Rattle.vx_views.proofs.Differences.{length_differences, number_at_differences}
 use Rattle.vx_views.proofs.CutOpen.{sum_more}
 use Rattle.vx_base.proofs.FirstFaults.{or_else-none, or_else-second, first_fault-none_at, first_fault-of_none}
@@ -30,10 +31,10 @@ difference_abs a b m n e f h = grind (arith, ints)
 
 -- ---- rows without a fault
 
-pub negative_at-none : (numbers : List ℤ) (k : ℕ) → is_negative (number_at numbers k) ≡ false → negative_at numbers k ≡ None
+pub negative_at-none : (numbers : List ℤ) (k : ℕ) → is_negative (number_nth numbers k) ≡ false → negative_at numbers k ≡ None
 negative_at-none numbers k e = ap (λ b. if b then Some (negative k) else None) e
 
-pub falling_at-none : (offsets : List ℤ) (k : ℕ) → int_lt (number_at offsets k) (number_at offsets (k - 1)) ≡ false → falling_at offsets k ≡ None
+pub falling_at-none : (offsets : List ℤ) (k : ℕ) → int_lt (number_nth offsets k) (number_nth offsets (k - 1)) ≡ false → falling_at offsets k ≡ None
 falling_at-none offsets k e = ap (λ b. if b then Some (falling_offsets k) else None) e
 
 int_lt-same : (z : ℤ) → int_lt z z ≡ false
@@ -41,31 +42,31 @@ int_lt-same (pos n) = lt-leb (suc n) n (omega arith)
 int_lt-same (negsuc n) = lt-leb (suc n) n (omega arith)
 
 pub falling_at-first : (offsets : List ℤ) → falling_at offsets 0 ≡ None
-falling_at-first offsets = falling_at-none offsets 0 (int_lt-same (number_at offsets 0))
+falling_at-first offsets = falling_at-none offsets 0 (int_lt-same (number_nth offsets 0))
 
 -- ---- offsets in order
 
 -- no offset is negative, and none is less than the one before it
 pub record AreOrdered (offsets : List ℤ) : Type 0 where
-  pub natural : (k : ℕ) → k < length offsets → is_negative (number_at offsets k) ≡ false
-  pub rising : (k : ℕ) → k + 1 < length offsets → int_lt (number_at offsets (k + 1)) (number_at offsets k) ≡ false
+  pub natural : (k : ℕ) → k < length offsets → is_negative (number_nth offsets k) ≡ false
+  pub rising : (k : ℕ) → k + 1 < length offsets → int_lt (number_nth offsets (k + 1)) (number_nth offsets k) ≡ false
 
-difference_at : (offsets : List ℤ) → AreOrdered offsets → (k : ℕ) → k + 1 < length offsets → get_or (lengths_of (differences offsets)) k 0 + unsigned_abs (number_at offsets k) ≡ unsigned_abs (number_at offsets (k + 1))
+difference_at : (offsets : List ℤ) → AreOrdered offsets → (k : ℕ) → k + 1 < length offsets → get_or (lengths_of (differences offsets)) k 0 + unsigned_abs (number_nth offsets k) ≡ unsigned_abs (number_nth offsets (k + 1))
 difference_at offsets ordered k h =
     let k_in : k < length (differences offsets) = omega (arith, length_differences offsets) in
-    let len : get_or (lengths_of (differences offsets)) k 0 ≡ unsigned_abs (number_at offsets (k + 1) -ℤ number_at offsets k) = length_at (differences offsets) k k_in ∙ ap unsigned_abs (number_at_differences offsets k h) in
-    let low = sym (not_negative (number_at offsets k) (ordered.natural k (omega arith))) in
-    let high = sym (not_negative (number_at offsets (k + 1)) (ordered.natural (k + 1) h)) in
-    omega (arith, len, difference_abs (number_at offsets k) (number_at offsets (k + 1)) (unsigned_abs (number_at offsets k)) (unsigned_abs (number_at offsets (k + 1))) low high (ordered.rising k h))
+    let len : get_or (lengths_of (differences offsets)) k 0 ≡ unsigned_abs (number_nth offsets (k + 1) -ℤ number_nth offsets k) = length_at (differences offsets) k k_in ∙ ap unsigned_abs (number_at_differences offsets k h) in
+    let low = sym (not_negative (number_nth offsets k) (ordered.natural k (omega arith))) in
+    let high = sym (not_negative (number_nth offsets (k + 1)) (ordered.natural (k + 1) h)) in
+    omega (arith, len, difference_abs (number_nth offsets k) (number_nth offsets (k + 1)) (unsigned_abs (number_nth offsets k)) (unsigned_abs (number_nth offsets (k + 1))) low high (ordered.rising k h))
 
 -- the first differences sum up to how far an offset is from the first
-pub sum_differences-part : (offsets : List ℤ) → AreOrdered offsets → (k : ℕ) → k < length offsets → sum (take k (lengths_of (differences offsets))) + first_offset offsets ≡ unsigned_abs (number_at offsets k)
+pub sum_differences-part : (offsets : List ℤ) → AreOrdered offsets → (k : ℕ) → k < length offsets → sum (take k (lengths_of (differences offsets))) + first_offset offsets ≡ unsigned_abs (number_nth offsets k)
 sum_differences-part offsets ordered zero h = omega arith
 sum_differences-part offsets ordered (suc k) h =
     let before = sum_differences-part offsets ordered k (omega arith) in
     let k_in : k < length (lengths_of (differences offsets)) = omega (arith, length_differences offsets, length-lengths_of (differences offsets)) in
-    let next : sum (take (k + 1) (lengths_of (differences offsets))) + first_offset offsets ≡ unsigned_abs (number_at offsets (k + 1)) = omega (arith, sum_more (lengths_of (differences offsets)) k k_in, difference_at offsets ordered k (omega arith)) in
-    subst (λ n. sum (take n (lengths_of (differences offsets))) + first_offset offsets ≡ unsigned_abs (number_at offsets n)) (add-one k) next
+    let next : sum (take (k + 1) (lengths_of (differences offsets))) + first_offset offsets ≡ unsigned_abs (number_nth offsets (k + 1)) = omega (arith, sum_more (lengths_of (differences offsets)) k k_in, difference_at offsets ordered k (omega arith)) in
+    subst (λ n. sum (take n (lengths_of (differences offsets))) + first_offset offsets ≡ unsigned_abs (number_nth offsets n)) (add-one k) next
 
 pub sum_differences : (offsets : List ℤ) → AreOrdered offsets → 0 < length offsets → sum (lengths_of (differences offsets)) + first_offset offsets ≡ last_offset offsets
 sum_differences offsets ordered some =
@@ -74,11 +75,11 @@ sum_differences offsets ordered some =
 
 AreOrdered-none : (offsets : List ℤ) → first_negative offsets ≡ None → first_falling offsets ≡ None → AreOrdered offsets
 AreOrdered-none offsets natural rising = record {
-  natural = λ k h. if-some (is_negative (number_at offsets k)) (negative k) (first_fault-none_at (negative_at offsets) (length offsets) k natural h);
+  natural = λ k h. if-some (is_negative (number_nth offsets k)) (negative k) (first_fault-none_at (negative_at offsets) (length offsets) k natural h);
   rising = λ k h.
       let here : falling_at offsets (k + 1) ≡ None = first_fault-none_at (falling_at offsets) (length offsets) (k + 1) rising h in
       let back : k + 1 - 1 ≡ k = omega arith in
-      ap (λ j. int_lt (number_at offsets (k + 1)) (number_at offsets j)) (sym back) ∙ if-some (int_lt (number_at offsets (k + 1)) (number_at offsets (k + 1 - 1))) (falling_offsets (k + 1)) here;
+      ap (λ j. int_lt (number_nth offsets (k + 1)) (number_nth offsets j)) (sym back) ∙ if-some (int_lt (number_nth offsets (k + 1)) (number_nth offsets (k + 1 - 1))) (falling_offsets (k + 1)) here;
 }
 
 -- the differences of offsets in order are no less than 0
@@ -87,7 +88,7 @@ differences-natural offsets ordered =
     first_fault-of_none (negative_at (differences offsets)) (length (differences offsets))
     (λ k h. negative_at-none (differences offsets) k
     (ap is_negative (number_at_differences offsets k (omega (arith, length_differences offsets)))
-    ∙ difference_negative (number_at offsets k) (number_at offsets (k + 1))
+    ∙ difference_negative (number_nth offsets k) (number_nth offsets (k + 1))
     ∙ ordered.rising k (omega (arith, length_differences offsets))))
 
 -- what it says of offsets that they have no fault
@@ -124,12 +125,12 @@ lengths_fault-sound limit heap_len offsets first last range e =
     (or_else-second _ _ None (ap (λ b. if b then None else Some lengths_not_exact) (eq-eqb (sum (lengths_of (differences offsets))) (last - first) exact)) sound.short)
 
 -- and the other way round
-natural_from : (offsets : List ℤ) → is_negative (number_at offsets 0) ≡ false → ((k : ℕ) → k + 1 < length offsets → is_negative (number_at offsets (k + 1) -ℤ number_at offsets k) ≡ false) → (k : ℕ) → k < length offsets → is_negative (number_at offsets k) ≡ false
+natural_from : (offsets : List ℤ) → is_negative (number_nth offsets 0) ≡ false → ((k : ℕ) → k + 1 < length offsets → is_negative (number_nth offsets (k + 1) -ℤ number_nth offsets k) ≡ false) → (k : ℕ) → k < length offsets → is_negative (number_nth offsets k) ≡ false
 natural_from offsets first rises zero h = first
 natural_from offsets first rises (suc k) h =
     let before = natural_from offsets first rises k (omega arith) in
     let here : k + 1 < length offsets = omega arith in
-    subst (λ n. is_negative (number_at offsets n) ≡ false) (add-one k) (sum_natural (number_at offsets k) (number_at offsets (k + 1)) before (rises k here))
+    subst (λ n. is_negative (number_nth offsets n) ≡ false) (add-one k) (sum_natural (number_nth offsets k) (number_nth offsets (k + 1)) before (rises k here))
   where
     sum_natural : (a b : ℤ) → is_negative a ≡ false → is_negative (b -ℤ a) ≡ false → is_negative b ≡ false
     sum_natural a b e f = grind (arith, ints)
@@ -138,9 +139,9 @@ pub offsets_fault-sound : (limit heap_len : ℕ) (offsets : List ℤ) (first las
 offsets_fault-sound limit heap_len offsets first last range e =
     let a = or_else-none (first_negative (differences offsets)) (or_else (sum_fault (last - first) (differences offsets)) (first_too_long limit (differences offsets))) e in
     let b = or_else-none (sum_fault (last - first) (differences offsets)) (first_too_long limit (differences offsets)) a.1 in
-    let rises : (k : ℕ) → k + 1 < length offsets → is_negative (number_at offsets (k + 1) -ℤ number_at offsets k) ≡ false =
-    λ k h. ap is_negative (sym (number_at_differences offsets k h)) ∙ if-some (is_negative (number_at (differences offsets) k)) (negative k) (first_fault-none_at (negative_at (differences offsets)) (length (differences offsets)) k a.0 (omega (arith, length_differences offsets))) in
-    let natural = natural_from offsets (natural_is (number_at offsets 0) first range.first_is) rises in
+    let rises : (k : ℕ) → k + 1 < length offsets → is_negative (number_nth offsets (k + 1) -ℤ number_nth offsets k) ≡ false =
+    λ k h. ap is_negative (sym (number_at_differences offsets k h)) ∙ if-some (is_negative (number_nth (differences offsets) k)) (negative k) (first_fault-none_at (negative_at (differences offsets)) (length (differences offsets)) k a.0 (omega (arith, length_differences offsets))) in
+    let natural = natural_from offsets (natural_is (number_nth offsets 0) first range.first_is) rises in
     let no_negative : first_negative offsets ≡ None = first_fault-of_none (negative_at offsets) (length offsets) (λ k h. negative_at-none offsets k (natural k h)) in
     let no_falling : first_falling offsets ≡ None = first_fault-of_none (falling_at offsets) (length offsets) (falls_not rises) in
     let some : (length offsets == 0) ≡ false = not_none (length offsets) range.some in
@@ -151,12 +152,12 @@ offsets_fault-sound limit heap_len offsets first last range e =
     not_none : (n : ℕ) → 0 < n → (n == 0) ≡ false
     not_none n h = grind (arith, nat_tests)
 
-    falls_not : ((k : ℕ) → k + 1 < length offsets → is_negative (number_at offsets (k + 1) -ℤ number_at offsets k) ≡ false) → (k : ℕ) → k < length offsets → falling_at offsets k ≡ None
+    falls_not : ((k : ℕ) → k + 1 < length offsets → is_negative (number_nth offsets (k + 1) -ℤ number_nth offsets k) ≡ false) → (k : ℕ) → k < length offsets → falling_at offsets k ≡ None
     falls_not rises zero h = falling_at-first offsets
     falls_not rises (suc k) h =
         let here : falling_at offsets (k + 1) ≡ None = falling_at-none offsets (k + 1)
-        (ap (λ j. int_lt (number_at offsets (k + 1)) (number_at offsets j)) (let back : k + 1 - 1 ≡ k = omega arith in back)
-        ∙ sym (difference_negative (number_at offsets k) (number_at offsets (k + 1)))
+        (ap (λ j. int_lt (number_nth offsets (k + 1)) (number_nth offsets j)) (let back : k + 1 - 1 ≡ k = omega arith in back)
+        ∙ sym (difference_negative (number_nth offsets k) (number_nth offsets (k + 1)))
         ∙ rises k (omega arith)) in
         subst (λ n. falling_at offsets n ≡ None) (add-one k) here
 
@@ -167,8 +168,8 @@ no_used_range limit heap_len offsets e =
     let some = sound.some in
     record {
       some = some;
-      first_is = sym (not_negative (number_at offsets 0) (sound.ordered.natural 0 some));
-      last_is = sym (not_negative (number_at offsets (length offsets - 1)) (sound.ordered.natural (length offsets - 1) (omega arith)));
+      first_is = sym (not_negative (number_nth offsets 0) (sound.ordered.natural 0 some));
+      last_is = sym (not_negative (number_nth offsets (length offsets - 1)) (sound.ordered.natural (length offsets - 1) (omega arith)));
       in_order = omega (arith, sum_differences offsets sound.ordered some);
       within = sound.within;
     }
@@ -178,9 +179,9 @@ pub refuses : (heap_len : ℕ) (offsets : List ℤ) (found : Option (ℕ × ℕ)
 refuses heap_len offsets None h = λ limit e. h (no_used_range limit heap_len offsets e)
 refuses heap_len offsets (Some r) h = tt
 
-pub not_natural : (offsets : List ℤ) (k n : ℕ) → number_at offsets k ≡ pos n → IsTrue (is_negative (number_at offsets k)) → ⊥
+pub not_natural : (offsets : List ℤ) (k n : ℕ) → number_nth offsets k ≡ pos n → IsTrue (is_negative (number_nth offsets k)) → ⊥
 not_natural offsets k n is below =
-    let both : false ≡ true = sym (natural_is (number_at offsets k) n is) ∙ below in
+    let both : false ≡ true = sym (natural_is (number_nth offsets k) n is) ∙ below in
     cc
 
 -- ---- the faults of offsets in their order
@@ -208,12 +209,12 @@ pub differences-none : (offsets : List ℤ) → first_negative offsets ≡ None 
 differences-none offsets a b = differences-natural offsets (AreOrdered-none offsets a b)
 
 -- offsets that begin at 0 or above and never fall are never negative
-pub rising-natural : (offsets : List ℤ) → pos 0 ≤ℤ number_at offsets 0 → AreRising offsets → (k : ℕ) → k < length offsets → pos 0 ≤ℤ number_at offsets k
+pub rising-natural : (offsets : List ℤ) → pos 0 ≤ℤ number_nth offsets 0 → AreRising offsets → (k : ℕ) → k < length offsets → pos 0 ≤ℤ number_nth offsets k
 rising-natural offsets first rising zero h = first
 rising-natural offsets first rising (suc k) h =
     let before = rising-natural offsets first rising k (omega arith) in
-    let next : pos 0 ≤ℤ number_at offsets (k + 1) = ordered (number_at offsets k) (number_at offsets (k + 1)) before (rising k (omega arith)) in
-    subst (λ n. pos 0 ≤ℤ number_at offsets n) (add-one k) next
+    let next : pos 0 ≤ℤ number_nth offsets (k + 1) = ordered (number_nth offsets k) (number_nth offsets (k + 1)) before (rising k (omega arith)) in
+    subst (λ n. pos 0 ≤ℤ number_nth offsets n) (add-one k) next
   where
     ordered : (a b : ℤ) → pos 0 ≤ℤ a → a ≤ℤ b → pos 0 ≤ℤ b
     ordered a b p q = omega (arith, ints)

@@ -1,10 +1,8 @@
 -- The length and the bytes of the value that a view reads.
-use Rattle.std.proofs.Common.{◌≡◌, ℕ, ◌+◌, ◌-◌, ◌^◌, ◌<◌, ◌≤◌, cond, List, [], length, get_or, take, drop, slice_range, length-take, length-drop, ◌∙◌, subst, ⊎_elim, arith}
+use Rattle.std.proofs.Common.{◌≡◌, ℕ, ◌+◌, ◌-◌, ◌^◌, ◌<◌, ◌≤◌, List, [], length, get_or, drop, slice_range, length-take, length-drop, ⊎_elim, arith}
 use Rattle.std.proofs.lemmas.Bool.{cases_lt}
-use Rattle.std.proofs.lemmas.List.{length-take-le}
-use Rattle.std.specs.Int.{w32, from_le_bytes}
 use Rattle.vx_base.proofs.NumberBytes.{below_4}
-use Rattle.vx_views.specs.Views.{AreBytes, IsView, Resolves, number_le, view_size, view_block, view_offset, view_value, buffer_at, held_value}
+use Rattle.vx_views.specs.Views.{AreBytes, IsView, Resolves, number_le, view_size, view_block, view_offset, view_value, buffer_at}
 use Rattle.vx_views.specs.declared.view.TheConstants.{MAX_INLINED_SIZE}
 use Rattle.vx_views.proofs.Padding.{bytes-take, bytes-drop}
 use Rattle.vx_views.proofs.Places.{value_of_inlined, value_of_ref, bytes_of_held}

@@ -1,16 +1,13 @@
 -- What a call that builds views is refused for, the first fault first. Lengths and offsets are integers of any type.
 use Rattle.std.specs.Prelude.{◌≡◌, ℕ, ℤ, pos, ◌-ℤ◌, ◌+◌, ◌-◌, ◌^◌, List, length, map, drop, sum, if◌then◌else◌, ◌==◌, nat_le, int_lt, ◌≤ℤ◌}
-use Rattle.std.specs.Prelude.{◌<◌, ◌≤◌, Option, Some, None, slice_index_or, slice_range, unsigned_abs}
+use Rattle.std.specs.Prelude.{◌<◌, ◌≤◌, Option, Some, None, slice_range, unsigned_abs}
 use Rattle.std.specs.Int.{is_negative}
 use Rattle.std.specs.List.{zip}
+use Rattle.vx_base.specs.Integers.{number_nth}
 use Rattle.vx_base.specs.Refusals.{Refusal, limit_too_large, negative, lengths_not_exact, value_too_long, overflow, empty_input}
 use Rattle.vx_base.specs.Refusals.{falling_offsets, out_of_bounds, or_else, first_fault}
 use Rattle.vx_views.specs.Cut.{IsMaximalCut}
 use Rattle.vx_views.specs.declared.view.TheConstants.{MAX_BUFFER_LEN}
-
--- the integer of a row
-abbrev pub number_at : List ℤ → ℕ → ℤ
-number_at numbers row = slice_index_or numbers row (pos 0)
 
 -- integers, none of them negative, as lengths
 abbrev pub lengths_of : List ℤ → List ℕ
@@ -25,10 +22,10 @@ abbrev pub lengths_between : List ℤ → List ℕ
 lengths_between offsets = lengths_of (differences offsets)
 
 abbrev pub first_offset : List ℤ → ℕ
-first_offset offsets = unsigned_abs (number_at offsets 0)
+first_offset offsets = unsigned_abs (number_nth offsets 0)
 
 abbrev pub last_offset : List ℤ → ℕ
-last_offset offsets = unsigned_abs (number_at offsets (length offsets - 1))
+last_offset offsets = unsigned_abs (number_nth offsets (length offsets - 1))
 
 -- the part of a heap from the first offset to the last
 abbrev pub used_part : List ℕ → List ℤ → List ℕ
@@ -36,7 +33,7 @@ used_part heap offsets = slice_range heap (first_offset offsets) (last_offset of
 
 -- the bytes of a heap between the offset of a row and the next one
 abbrev pub bytes_between : List ℕ → List ℤ → ℕ → List ℕ
-bytes_between heap offsets row = slice_range heap (unsigned_abs (number_at offsets row)) (unsigned_abs (number_at offsets (row + 1)))
+bytes_between heap offsets row = slice_range heap (unsigned_abs (number_nth offsets row)) (unsigned_abs (number_nth offsets (row + 1)))
 
 -- ---- one fault each
 
@@ -46,7 +43,7 @@ limit_fault limit = if nat_le limit MAX_BUFFER_LEN then None else Some limit_too
 
 -- the integer of the row is negative
 abbrev pub negative_at : List ℤ → ℕ → Option Refusal
-negative_at numbers row = if is_negative (number_at numbers row) then Some (negative row) else None
+negative_at numbers row = if is_negative (number_nth numbers row) then Some (negative row) else None
 
 -- the lengths are not those of a heap of so many bytes
 abbrev pub sum_fault : ℕ → List ℤ → Option Refusal
@@ -54,7 +51,7 @@ sum_fault heap_len numbers = if sum (lengths_of numbers) == heap_len then None e
 
 -- the value of the row is longer than the limit
 abbrev pub too_long_at : ℕ → List ℤ → ℕ → Option Refusal
-too_long_at limit numbers row = if nat_le (unsigned_abs (number_at numbers row)) limit then None else Some (value_too_long row)
+too_long_at limit numbers row = if nat_le (unsigned_abs (number_nth numbers row)) limit then None else Some (value_too_long row)
 
 -- the number of the last of so many pieces, numbered from `start` on, passes u32
 abbrev pub numbering_fault : ℕ → ℕ → Option Refusal
@@ -66,7 +63,7 @@ no_offset_fault offsets = if length offsets == 0 then Some empty_input else None
 
 -- the offset of the row is less than the one before it
 abbrev pub falling_at : List ℤ → ℕ → Option Refusal
-falling_at offsets row = if int_lt (number_at offsets row) (number_at offsets (row - 1)) then Some (falling_offsets row) else None
+falling_at offsets row = if int_lt (number_nth offsets row) (number_nth offsets (row - 1)) then Some (falling_offsets row) else None
 
 -- the last offset lies past a heap of so many bytes
 abbrev pub past_heap_fault : ℕ → List ℤ → Option Refusal
@@ -111,12 +108,12 @@ IsPieceCount limit lens pieces = (ends : List ℕ) → IsMaximalCut limit lens e
 
 -- no offset is less than the one before it
 abbrev pub AreRising : List ℤ → Type 0
-AreRising offsets = (row : ℕ) → row + 1 < length offsets → number_at offsets row ≤ℤ number_at offsets (row + 1)
+AreRising offsets = (row : ℕ) → row + 1 < length offsets → number_nth offsets row ≤ℤ number_nth offsets (row + 1)
 
 -- the part of a heap of so many bytes that offsets use, from the first to the last
 pub record IsUsedRange (heap_len : ℕ) (offsets : List ℤ) (first last : ℕ) : Type 0 where
   pub some : 0 < length offsets
-  pub first_is : number_at offsets 0 ≡ pos first
-  pub last_is : number_at offsets (length offsets - 1) ≡ pos last
+  pub first_is : number_nth offsets 0 ≡ pos first
+  pub last_is : number_nth offsets (length offsets - 1) ≡ pos last
   pub in_order : first ≤ last
   pub within : last ≤ heap_len

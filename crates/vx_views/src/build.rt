@@ -4,7 +4,8 @@ ghost use Rattle.std.specs.Prelude.{◌≡◌, ◌≤◌, ◌<◌, ◌+◌, ◌^
 ghost use Rattle.vx_base.specs.Refusals.{Gives, Refuses};
 ghost use Rattle.vx_views.specs.Cut.{IsCut};
 ghost use Rattle.vx_views.specs.Places.{AreBuilt, ReadBack, value_at};
-ghost use Rattle.vx_views.specs.BuildFaults.{number_at, lengths_of, lengths_between, differences, used_part, bytes_between, lengths_fault};
+ghost use Rattle.vx_views.specs.BuildFaults.{lengths_of, lengths_between, differences, used_part, bytes_between, lengths_fault};
+ghost use Rattle.vx_base.specs.Integers.{number_nth};
 ghost use Rattle.vx_views.specs.BuildFaults.{offsets_fault, build_fault, build_from_offsets_fault, IsPieceCount, AreRising};
 
 use crate::length_checks::{check_lengths, check_offsets, used_range};
@@ -191,7 +192,7 @@ pub fn offsets_to_lengths<P: NativePType>(
     alloc: Global,
     offsets: &[P],
 ) -> Result<Buffer<P>, VortexError>
-    requires natural { pos 0 ≤ℤ number_at (map P.value offsets.now) 0 }
+    requires natural { pos 0 ≤ℤ number_nth (map P.value offsets.now) 0 }
     requires rising { AreRising (map P.value offsets.now) }
     ensures { Gives result (λ lengths. map P.value lengths
         ≡ differences (map P.value offsets.now)) }

@@ -2,8 +2,8 @@
 
 ghost use Rattle.std.specs.Prelude.{◌≡◌, ◌+◌, ◌<◌, ◌≤ℤ◌, ◌-ℤ◌, ◌^◌, ◌-◌, pos, length, map, IsTrue, IfNone, IfSome};
 ghost use Rattle.std.specs.Int.{is_negative};
-ghost use Rattle.vx_base.specs.Integers.{Holds};
-ghost use Rattle.vx_views.specs.BuildFaults.{number_at, differences};
+ghost use Rattle.vx_base.specs.Integers.{Holds, number_nth};
+ghost use Rattle.vx_views.specs.BuildFaults.{differences};
 
 use vx_base::NativePType;
 
@@ -20,8 +20,8 @@ pub trait Lengths {
     /// The length of the value of a row; none where it is negative.
     fn length_at(&self, row: usize) -> Option<usize>
         requires { row < length (numbers self.now) }
-        ensures negative { IfNone result (IsTrue (is_negative (number_at (numbers self.now) row))) }
-        ensures length { IfSome result (λ n. number_at (numbers self.now) row ≡ pos n) };
+        ensures negative { IfNone result (IsTrue (is_negative (number_nth (numbers self.now) row))) }
+        ensures length { IfSome result (λ n. number_nth (numbers self.now) row ≡ pos n) };
 }
 
 /// One length a row.
@@ -49,10 +49,10 @@ fn as_length(number: i128) -> Option<usize>
 pub fn difference<P: NativePType>(offsets: &[P], row: usize) -> i128
     requires { row + 1 < length offsets.now }
     ensures value { result
-        ≡ number_at (map P.value offsets.now) (row + 1) -ℤ number_at (map P.value offsets.now) row }
+        ≡ number_nth (map P.value offsets.now) (row + 1) -ℤ number_nth (map P.value offsets.now) row }
     ensures bound { result ≤ℤ pos (2 ^ 64 - 1) }
-    ensures holds { pos 0 ≤ℤ number_at (map P.value offsets.now) row →
-        number_at (map P.value offsets.now) row ≤ℤ number_at (map P.value offsets.now) (row + 1) →
+    ensures holds { pos 0 ≤ℤ number_nth (map P.value offsets.now) row →
+        number_nth (map P.value offsets.now) row ≤ℤ number_nth (map P.value offsets.now) (row + 1) →
         Holds P.PTYPE result }
 {
     prove!(row < offsets.len());

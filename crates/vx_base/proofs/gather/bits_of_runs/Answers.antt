@@ -1,7 +1,8 @@
 use Rattle.std.proofs.Common.{◌<◌, ◌++◌, take, get_or, length, map, sym, ap, ◌∙◌}
 use Rattle.std.specs.List.{flat_map}
 use Rattle.std.proofs.lemmas.List.{map-append}
-use Rattle.vx_base.specs.Selections.{run_positions, bit_of_position}
+use Rattle.vx_base.specs.Selections.{run_positions}
+use Rattle.vx_base.specs.Bits.{bool_at}
 use Rattle.vx_base.proofs.Runs.{All-run, runs_more}
 use Rattle.vx_base.proofs.gather.bits_of_runs.Goals as goal
 
@@ -12,6 +13,6 @@ pub loop-run-preserved : goal.loop-run-preserved
 loop-run-preserved c =
     let runs = c.args.runs.now in
     let i = c.loop-run.run-index in
-    let f = bit_of_position c.args.bits.now.bits in
+    let f = bool_at c.args.bits.now.bits in
     c.in_ok-append_run.ensures ∙ ap (λ bs. bs ++ map f (run_positions (get_or runs i (0, 0)))) c.loop-run.invariant
     ∙ sym (ap (map f) (runs_more run_positions runs i (0, 0) c.loop-run-test.true) ∙ map-append f (flat_map run_positions (take i runs)) (run_positions (get_or runs i (0, 0))))

@@ -1,7 +1,7 @@
 use Rattle.std.proofs.Common.{rules, ◌*◌, ◌≡◌, length, map, ap, ◌∙◌}
 use Rattle.std.specs.List.{flat_map}
-use Rattle.vx_base.specs.Integers.{byte_width, numbers}
-use Rattle.vx_base.specs.Selections.{number_of_position, bytes_of_position}
+use Rattle.vx_base.specs.Integers.{byte_width, numbers, number_nth}
+use Rattle.vx_base.specs.Selections.{bytes_of_position}
 use Rattle.vx_base.proofs.Refused.{Gives-weaker, Gives-IfOk}
 use Rattle.vx_base.proofs.Gathered.{numbers_gathered, length_gathered}
 use Rattle.vx_base.proofs.gather.gather_numbers.Goals as goal
@@ -14,7 +14,7 @@ pub returns-clause-ok : goal.returns-clause-ok
 returns-clause-ok c =
     let t = c.args.ptype in
     let bs = c.args.bytes.now in
-    Gives-weaker c.from_vec.result (λ b. b ≡ c.extend_with_numbers.new.picked.items) (λ b. numbers t b ≡ map (number_of_position (numbers t bs)) c.args.selection.now)
+    Gives-weaker c.from_vec.result (λ b. b ≡ c.extend_with_numbers.new.picked.items) (λ b. numbers t b ≡ map (number_nth (numbers t bs)) c.args.selection.now)
     (λ b e. ap (numbers t) (e ∙ picked c) ∙ numbers_gathered t bs c.args.selection.now c.requires) c.from_vec.ensures
 
 pub returns-clause-len : goal.returns-clause-len

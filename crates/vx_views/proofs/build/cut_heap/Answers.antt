@@ -1,5 +1,6 @@
 use Rattle.std.proofs.Common.{◌<◌, ◌≡◌, ◌+◌, ◌-◌, [], ◌∷◌, ◌++◌, length, get_or, ap, ◌∙◌, pos, unsigned_abs, slice_range, arith, rules}
-use Rattle.vx_views.specs.BuildFaults.{lengths_of, negative_at, too_long_at, number_at}
+use Rattle.vx_views.specs.BuildFaults.{lengths_of, negative_at, too_long_at}
+use Rattle.vx_base.specs.Integers.{number_nth}
 use Rattle.vx_views.specs.Views.{view_of}
 use Rattle.vx_views.proofs.CutPlaces.{HasRoom, HasRoom-kept, HasRoom-closed, IsCutting-pushed, AreDone, AreDone-close, AreDone-empty}
 use Rattle.vx_views.proofs.CutStops.{stop-negative, stop-fits_not, stop-number}
@@ -28,7 +29,7 @@ pub loop-row-preserved : goal.loop-row-preserved
 loop-row-preserved g c =
     let row_in : c.loop-row.row < length (g.L.Lengths.numbers c.args.lengths.now) = omega arith in
     let k_in : c.loop-row.row < length (lengths_of (g.L.Lengths.numbers c.args.lengths.now)) = omega (arith, length-lengths_of (g.L.Lengths.numbers c.args.lengths.now)) in
-    let is : number_at (g.L.Lengths.numbers c.args.lengths.now) c.loop-row.row ≡ pos c.in-Some.size = c.in-Some.ensures.length in
+    let is : number_nth (g.L.Lengths.numbers c.args.lengths.now) c.loop-row.row ≡ pos c.in-Some.size = c.in-Some.ensures.length in
     let len : get_or (lengths_of (g.L.Lengths.numbers c.args.lengths.now)) c.loop-row.row 0 ≡ c.in-Some.size = length_at (g.L.Lengths.numbers c.args.lengths.now) c.loop-row.row row_in ∙ ap unsigned_abs is in
     let room : HasRoom c.args.start c.args.limit c.args.heap.now (lengths_of (g.L.Lengths.numbers c.args.lengths.now)) c.loop-row.row c.if-limit-at.buffers.items c.loop-row.views.items c.if-limit-at.number c.if-limit-at.begin =
     elim c.if-limit-at.branch [

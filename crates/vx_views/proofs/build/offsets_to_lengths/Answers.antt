@@ -1,9 +1,9 @@
 use Rattle.std.proofs.Common.{◌≡◌, ◌<◌, ◌+◌, FitsSigned, IfSome, length, map, take, sym, ap, ◌∙◌, subst, arith, rules}
 use Rattle.std.specs.Int.{w128}
 use Rattle.std.proofs.lemmas.List.{length-map, take_all}
-use Rattle.vx_base.specs.Integers.{Holds}
+use Rattle.vx_base.specs.Integers.{Holds, number_nth}
 use Rattle.vx_base.proofs.Refused.{Gives-weaker}
-use Rattle.vx_views.specs.BuildFaults.{number_at, differences}
+use Rattle.vx_views.specs.BuildFaults.{differences}
 use Rattle.vx_views.proofs.Differences.{length_differences, number_at_differences, IfSome-at, made_more}
 use Rattle.vx_views.proofs.NativeRanges.{wide-cast}
 use Rattle.vx_views.proofs.OffsetFacts.{rising-natural}
@@ -24,7 +24,7 @@ loop-row-preserved g c =
     let long : length offsets ≡ length c.args.offsets.now = length-map c.args.offsets.now g.P.Number.value in
     let row_in : c.loop-row.row + 1 < length offsets = omega arith in
     let wide : FitsSigned w128 c.difference.result = search rules in
-    let is : g.P.Number.value c.unwrap.result ≡ number_at (differences offsets) c.loop-row.row =
+    let is : g.P.Number.value c.unwrap.result ≡ number_nth (differences offsets) c.loop-row.row =
     IfSome-at (λ x. g.P.Number.value x ≡ c.difference.result) c.from_i128.result c.unwrap.result c.unwrap.ensures (subst (λ z. IfSome c.from_i128.result (λ x. g.P.Number.value x ≡ z)) (wide-cast c.difference.result wide) c.from_i128.ensures.value)
     ∙ c.difference.ensures.value ∙ sym (number_at_differences offsets c.loop-row.row row_in) in
     made_more g.P.Number.value c.loop-row.lengths.items _ c.unwrap.result (differences offsets) c.loop-row.row (search rules) c.loop-row.invariant (omega (arith, length_differences offsets)) is

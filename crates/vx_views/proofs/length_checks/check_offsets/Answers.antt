@@ -1,4 +1,4 @@
-use Rattle.std.proofs.Common.{◌≡◌, ◌<◌, length, map, refl, sym, subst, arith, rules}
+use Rattle.std.proofs.Common.{◌<◌, length, map, refl, sym, subst, arith, rules}
 use Rattle.std.proofs.lemmas.List.{length-map}
 use Rattle.vx_base.specs.Refusals.{Tests}
 use Rattle.vx_views.proofs.LengthFaults.{last_offset-is}

@@ -1,4 +1,4 @@
-use Rattle.std.proofs.Common.{◌≡◌, ◌-◌, Bool, true, false, int_lt, FitsSigned, map, refl, arith, rules}
+use Rattle.std.proofs.Common.{◌≡◌, true, false, int_lt, FitsSigned, map, refl, arith, rules}
 use Rattle.std.specs.Int.{w128}
 use Rattle.std.proofs.lemmas.List.{length-map}
 use Rattle.vx_views.specs.BuildFaults.{falling_at}
