@@ -14,6 +14,7 @@ pub mod BitWords
 pub mod Filling
 pub mod Refused
 pub mod Repeated
+pub mod Zeroes
 pub mod Blocks
 pub mod Chunks
 pub mod FirstFaults

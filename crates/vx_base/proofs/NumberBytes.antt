@@ -1,9 +1,9 @@
 -- Numbers and their bytes.
-use Rattle.std.proofs.Common.{ℕ, ◌^◌, ◌<◌, ◌≡◌, List, [], ◌∷◌, length, get_or, refl, ◌∙◌, ap, arith}
+use Rattle.std.proofs.Common.{ℕ, ◌^◌, ◌<◌, ◌≡◌, List, [], ◌∷◌, length, get_or, refl, ◌∙◌, ap, rules, arith}
 use Rattle.std.specs.Prelude.{ℤ, pos, negsuc, ◌%◌, FitsSigned}
 use Rattle.std.proofs.Math.Nat.{mod-eq_of_lt}
 use Rattle.num_traits.specs.Ints.{signed-bounds}
-use Rattle.std.specs.Int.{w8, w16, w32, w64, cast_signed, cast_unsigned, from_le_bytes}
+use Rattle.std.specs.Int.{w8, w16, w32, w64, w128, cast_signed, cast_unsigned, from_le_bytes}
 use Rattle.std.proofs.lemmas.Int.{ints, to_z-of_z, of_z-to_z}
 use Rattle.std.proofs.lemmas.Nat.{le_bytes_2, le_bytes_4, le_bytes_8, from_le_bytes-to_le_bytes_2, from_le_bytes-to_le_bytes_4, from_le_bytes-to_le_bytes_8}
 use Rattle.vx_base.specs.Integers.{byte_width, bytes_of, number_of, Holds}
@@ -82,3 +82,14 @@ bytes_of-number_of I8 bs e h = ap (λ (n : ℕ). (n % 256) ∷ []) (of_z-to_z w8
 bytes_of-number_of I16 bs e h = le_bytes_2 bs _ e h (of_z-to_z w16 _ (below_2 bs h))
 bytes_of-number_of I32 bs e h = le_bytes_4 bs _ e h (of_z-to_z w32 _ (below_4 bs h))
 bytes_of-number_of I64 bs e h = le_bytes_8 bs _ e h (of_z-to_z w64 _ (below_8 bs h))
+
+-- a number of an integer type is passed to a function as it is
+pub number_passed : (t : PType) (z : ℤ) → Holds t z → cast_signed w128 (cast_unsigned w128 z) ≡ z
+number_passed U8 z held = to_z-of_z w128 z (search (rules, ints))
+number_passed U16 z held = to_z-of_z w128 z (search (rules, ints))
+number_passed U32 z held = to_z-of_z w128 z (search (rules, ints))
+number_passed U64 z held = to_z-of_z w128 z (search (rules, ints))
+number_passed I8 z held = to_z-of_z w128 z (search (rules, ints))
+number_passed I16 z held = to_z-of_z w128 z (search (rules, ints))
+number_passed I32 z held = to_z-of_z w128 z (search (rules, ints))
+number_passed I64 z held = to_z-of_z w128 z (search (rules, ints))

@@ -1,6 +1,6 @@
 // A shared run of bytes.
 
-ghost use Rattle.std.specs.Prelude.{◌≡◌, ◌≤◌, ◌<◌, ◌^◌, ◌*◌, ◌-◌, ◌↔◌, [], length, slice_range, IsTrue, IfOk};
+ghost use Rattle.std.specs.Prelude.{◌≡◌, ◌≤◌, ◌<◌, ◌^◌, ◌*◌, ◌-◌, ◌↔◌, pos, [], length, map, replicate, slice_range, IsTrue, IfOk};
 ghost use Rattle.vx_base.specs.Refusals.{Gives};
 ghost use Rattle.vx_base.specs.Bytes.{AreBytes};
 ghost use Rattle.vx_base.specs.Integers.{byte_width, numbers};
@@ -107,6 +107,15 @@ fn are_bytes(bytes: &[u8])
     ensures { AreBytes bytes.now }
 {
     let _ = bytes.len();
+}
+
+/// Numbers that are all 0, in memory that is cleared as it is had. Fails only for want of memory.
+pub fn zero_numbers(alloc: Global, ptype: PType, len: usize) -> Result<ByteBuffer, VortexError>
+    ensures zeroes { Gives result (λ b. numbers ptype b ≡ map pos (replicate len 0)) }
+    ensures whole { IfOk result (λ b. length b ≡ len * byte_width ptype) }
+{
+    let bytes = vec![in alloc; 0u8; len.saturating_mul(ptype.byte_width())]?;
+    ByteBuffer::from_vec(alloc, bytes)
 }
 
 /// The bytes of the numbers of `range`, shared: the range counts numbers, not bytes. Asks that it

@@ -1,6 +1,6 @@
 // Numbers, booleans and items of the rows that are picked.
 
-ghost use Rattle.std.specs.Prelude.{◌≡◌, ◌<◌, ◌≤◌, ◌*◌, ◌/◌, ◌+◌, ◌^◌, ◌++◌, length, map, replicate, slice_index_or, slice_range, unsigned_abs, IfOk};
+ghost use Rattle.std.specs.Prelude.{◌≡◌, ◌<◌, ◌≤◌, ◌*◌, ◌/◌, ◌+◌, ◌^◌, ◌++◌, length, map, replicate, slice_index_or, slice_range, unsigned_abs, IfOk, IsTrue, pos};
 ghost use Rattle.vx_base.specs.Refusals.{Gives};
 ghost use Rattle.std.specs.List.{All, flat_map};
 ghost use Rattle.vx_base.specs.Bits.{unpacked, bool_at};
@@ -10,10 +10,11 @@ ghost use Rattle.vx_base.specs.Selections.{run_positions, list_positions, item_o
 use crate::bit_buffer::{BitBuffer, byte_of};
 use crate::bit_buffer_mut::{BitBufferMut, put_bit};
 use crate::buffer::Buffer;
-use crate::byte_buffer::ByteBuffer;
+use crate::byte_buffer::{ByteBuffer, zero_numbers};
 use crate::call_native;
 use crate::errors::VortexError;
 use crate::native::NativePType;
+use crate::numbers::int_at;
 use crate::places::{Listed, Numbered, Places};
 use crate::ptypes::PType;
 use crate::selection::{Picks, Selection};
@@ -37,9 +38,23 @@ pub fn gather_numbers(
     ensures ok { Gives result (λ b. numbers ptype b ≡ map (number_nth (numbers ptype bytes.now)) selection.now) }
     ensures len { IfOk result (λ b. length b ≡ length selection.now * byte_width ptype) }
 {
+    if picks_zeroes(ptype, bytes, selection) {
+        return zero_numbers(alloc, ptype, selection.len());
+    }
     let mut picked = Vec::new(alloc);
     extend_with_numbers(&mut picked, ptype, bytes, selection)?;
     ByteBuffer::from_vec(alloc, picked)
+}
+
+// Whether one 0 is picked again and again: as many are had with no loop.
+fn picks_zeroes(ptype: PType, bytes: &[u8], selection: &Selection) -> bool
+    requires { All (λ k. k < length bytes.now / byte_width ptype) selection.now }
+    ensures { IsTrue result → map (number_nth (numbers ptype bytes.now)) selection.now ≡ map pos (replicate (length selection.now) 0) }
+{
+    match selection.picks() {
+        Picks::Repeated(position, len) => *len > 0 && int_at(bytes, ptype, *position) == 0,
+        _ => false,
+    }
 }
 
 /// Appends the bytes of the numbers that are picked, in their order. Asks that each position has a

@@ -33,7 +33,7 @@ pub use crate::bit_buffer_mut::BitBufferMut;
 pub use crate::bit_buffer_view::{BitBufferMeta, BitBufferView};
 pub use crate::buffer::Buffer;
 pub use crate::buffer_mut::BufferMut;
-pub use crate::byte_buffer::{ByteBuffer, share_buffers, slice_numbers};
+pub use crate::byte_buffer::{ByteBuffer, share_buffers, slice_numbers, zero_numbers};
 pub use crate::counts::{read_counts, write_counts};
 pub use crate::dtypes::{DType, equal_where_same_kind};
 pub use crate::errors::VortexError;
