@@ -11,7 +11,7 @@ use Rattle.vx_base.specs.declared.ptypes.PType.{PType}
 use Rattle.vx_base.specs.declared.ptypes.PType.TheVariants.{U8, U16, U32, U64, I8, I16, I32, I64}
 use Rattle.vx_base.specs.Integers.{byte_width, is_unsigned, least, greatest, Holds}
 use Rattle.std.specs.Int.{w128}
-use Rattle.vx_tree.proofs.Positions.{number_passed}
+use Rattle.vx_base.proofs.NumberBytes.{number_passed}
 use Rattle.vx_leaves.specs.Narrow.{none_negative, none_above, holds_all, narrower, first_that_holds, narrowed_type, IsLeastWidth, NarrowedTypes, IsSpan, covers, first_that_covers, type_between}
 
 -- ---- tests of the order

@@ -14,7 +14,7 @@ use Rattle.vx_tree.specs.Tree.{Tree, list_view, Valid}
 use Rattle.vx_tree.specs.Meaning.{tree_len, kind_of, row_at}
 use Rattle.vx_tree.specs.Formed.{IsCounts, ValidFits, WellFormed}
 use Rattle.vx_tree.specs.Faults.{valid_type_fault, valid_len_fault}
-use Rattle.vx_tree.proofs.Positions.{number_passed}
+use Rattle.vx_base.proofs.NumberBytes.{number_passed}
 use Rattle.vx_tree.proofs.RowLists.{faultless_fits}
 use Rattle.vx_lists.specs.ListViewFaults.{list_row_fault, count_type_fault, whole_at, sizes_len_fault, list_parts_fault, list_rows_fault}
 

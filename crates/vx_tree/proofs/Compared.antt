@@ -1,5 +1,5 @@
 -- Whether two masks are the same.
-use Rattle.std.proofs.Common.{ℕ, ◌<◌, ◌≡◌, ◌≢◌, ◌↔◌, Bool, true, false, List, length, get_or, replicate, refl, sym, ◌∙◌, ap, arith}
+use Rattle.std.proofs.Common.{ℕ, ◌<◌, ◌≡◌, ◌≢◌, ◌↔◌, Bool, true, false, List, length, replicate, refl, sym, ◌∙◌, ap}
 use Rattle.std.specs.Prelude.{IsTrue, count_by}
 use Rattle.std.proofs.lemmas.List.{get_or_default, same_lists}
 use Rattle.vx_base.specs.Bits.{bool_at}

@@ -44,5 +44,4 @@ pub mod JoinedViews
 pub mod JoinedExtents
 pub mod JoinedNumbers
 pub mod Concatenated
-pub mod Zeroes
 pub mod PlainTests

@@ -1,5 +1,5 @@
 -- Booleans that are overwritten at positions.
-use Rattle.std.proofs.Common.{ℕ, zero, suc, ◌+◌, ◌-◌, ◌<◌, ◌≡◌, Bool, true, false, List, [], ◌∷◌, ◌++◌, length, map, take, get_or, set, Option, None, refl, sym, ◌∙◌, ap, subst, zero-add, arith, length-set}
+use Rattle.std.proofs.Common.{ℕ, ◌+◌, ◌-◌, ◌<◌, ◌≡◌, Bool, false, List, [], ◌∷◌, ◌++◌, length, map, take, get_or, set, Option, None, refl, sym, ◌∙◌, ap, subst, arith, length-set}
 use Rattle.std.specs.Prelude.{IsSome, slice_index}
 use Rattle.std.specs.List.{All, range_with_len}
 use borrow.Author.Count.{below_more}

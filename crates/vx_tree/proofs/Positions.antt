@@ -1,14 +1,11 @@
 -- Indices that are read one after another.
-use Rattle.std.proofs.Common.{ℕ, ◌+◌, ◌<◌, ◌≡◌, Bool, true, false, List, length, set, subst, Option, None, refl, sym, ◌∙◌, ap, zero-add, to_z, of_z, rules, arith, length-set}
-use Rattle.std.specs.Prelude.{ℤ, IsSome, count_by, slice_index, if◌then◌else◌}
-use Rattle.std.specs.Int.{w128}
-use Rattle.std.proofs.lemmas.Int.{ints, to_z-of_z}
+use Rattle.std.proofs.Common.{ℕ, ◌+◌, ◌<◌, ◌≡◌, Bool, true, false, List, length, set, subst, Option, None, refl, sym, ◌∙◌, ap, zero-add, arith, length-set}
+use Rattle.std.specs.Prelude.{IsSome, count_by, slice_index, if◌then◌else◌}
 use Rattle.std.proofs.lemmas.List.FromFn.{get_or-map-range_with_len, length-map-range_with_len}
 use Rattle.std.proofs.lemmas.List.{get_or-replicate, get_or-set_same, get_or-set_other}
 use borrow.Author.Count.{below_more}
 use Rattle.vx_base.specs.declared.ptypes.PType.{PType}
-use Rattle.vx_base.specs.declared.ptypes.PType.TheVariants.{U8, U16, U32, U64, I8, I16, I32, I64}
-use Rattle.vx_base.specs.Integers.{Holds, numbers, number_nth}
+use Rattle.vx_base.specs.Integers.{numbers, number_nth}
 use Rattle.vx_base.specs.Bits.{bool_at}
 use Rattle.vx_base.specs.Refusals.{Refusal, first_fault}
 use Rattle.vx_base.specs.Rows.{null, whole}
@@ -18,19 +15,6 @@ use Rattle.vx_tree.specs.Tree.{Tree, primitive, Valid, non_nullable}
 use Rattle.vx_tree.specs.Meaning.{tree_len, row_at, is_valid_at, valid_mask}
 use Rattle.vx_tree.specs.Faults.{index_fault, indices_fault}
 use Rattle.vx_tree.specs.Operations.{IsPosition, ArePositions, masked_numbers}
-
--- ---- one index
-
--- a number of an integer type is passed to a function as it is
-pub number_passed : (t : PType) (z : ℤ) → Holds t z → to_z w128 (of_z w128 z) ≡ z
-number_passed U8 z held = to_z-of_z w128 z (search (rules, ints))
-number_passed U16 z held = to_z-of_z w128 z (search (rules, ints))
-number_passed U32 z held = to_z-of_z w128 z (search (rules, ints))
-number_passed U64 z held = to_z-of_z w128 z (search (rules, ints))
-number_passed I8 z held = to_z-of_z w128 z (search (rules, ints))
-number_passed I16 z held = to_z-of_z w128 z (search (rules, ints))
-number_passed I32 z held = to_z-of_z w128 z (search (rules, ints))
-number_passed I64 z held = to_z-of_z w128 z (search (rules, ints))
 
 -- ---- all of them
 

@@ -7,7 +7,7 @@ use Rattle.vx_base.specs.Rows.{null, position_in}
 use Rattle.vx_base.specs.Kinds.{or_nullable, is_integers}
 use Rattle.vx_tree.specs.Tree.{Tree, Valid}
 use Rattle.vx_tree.specs.Meaning.{row_at, rows, tree_len, kind_of, is_valid_at, nullable, picked}
-use Rattle.vx_tree.specs.Shapes.{state_of, shape_of, nulled_shape}
+use Rattle.vx_tree.specs.Shapes.{state_of, nulled_shape}
 use Rattle.vx_tree.specs.Faults.{take_fault, indices_fault, take_overflow}
 use Rattle.vx_tree.specs.Operations.{IsTakenAt, IsSelected, IsNulled, IsNulls, IsValidityOf, ArePositions, AreBelow, or_zero, positions, picks}
 

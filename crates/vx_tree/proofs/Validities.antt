@@ -1,6 +1,6 @@
 -- What the calls of a validity give.
-use Rattle.std.proofs.Common.{ℕ, zero, suc, ◌+◌, ◌<◌, ◌≡◌, ◌↔◌, Bool, true, false, eqb, List, [], ◌∷◌, length, map, replicate, get_or, set, Option, Some, None, refl, sym, ◌∙◌, ap, subst, zero-add, inl, inr, arith, length-set}
-use Rattle.std.specs.Prelude.{◌&&◌, ◌||◌, ◌==◌, IsTrue, count_by, if◌then◌else◌, slice_index, pos, negsuc}
+use Rattle.std.proofs.Common.{ℕ, ◌+◌, ◌<◌, ◌≡◌, ◌↔◌, Bool, true, false, eqb, List, [], ◌∷◌, length, map, replicate, get_or, set, Some, None, refl, sym, ◌∙◌, ap, subst, zero-add, inl, inr, arith, length-set}
+use Rattle.std.specs.Prelude.{◌&&◌, ◌||◌, IsTrue, count_by, pos, negsuc}
 use Rattle.std.specs.List.{range_with_len}
 use borrow.Author.Count.{below_more}
 use Rattle.std.proofs.lemmas.Bool.{eq-eqb}
@@ -9,17 +9,16 @@ use Rattle.std.proofs.lemmas.List.{get_or-set_same, get_or-set_other, get_or-rep
 use Rattle.std.proofs.lemmas.List.FromFn.{fill_by_all, length-map-range_with_len, get_or-map-range_with_len}
 use Rattle.vx_base.specs.Bits.{bool_at, both}
 use Rattle.vx_base.specs.Kinds.{booleans, is_integers}
-use Rattle.vx_base.specs.Refusals.{Refusal, has_nulls, or_else}
 use Rattle.vx_base.specs.Rows.{Row, null, boolean, whole, bytes, text, items, record_of, truth_of, count_in, is_present, position_in}
 use Rattle.vx_base.proofs.ListParts.{map_range_same}
 use Rattle.vx_base.proofs.MaskCounts.{count-all_true, count-all_false, all_true_from_count, all_false_from_count}
 use Rattle.vx_tree.specs.Tree.{Tree, bools, Valid, non_nullable, all_valid, all_invalid, by_array}
 use Rattle.vx_tree.specs.Meaning.{tree_len, kind_of, row_at, is_valid_at, nullable, valid_mask}
 use Rattle.vx_tree.specs.Shapes.{State, never_null, none_null, every_null, told, state_of, taken_state, tree_state}
-use Rattle.vx_tree.specs.Formed.{ValidFits, IsMask}
+use Rattle.vx_tree.specs.Formed.{ValidFits}
 use Rattle.vx_tree.specs.Faults.{take_fault, indices_fault}
 use Rattle.vx_tree.specs.Operations.{IsSelected, IsValidityOf, IsValidNulled, ArePositions, or_zero}
-use Rattle.vx_tree.specs.Validities.{pair_of, both_pairs, opposite, has_no_nulls, made_nullable, full_valid, valid_from, IsOpposite, IsValidTaken, nullable_state, trivial_cast, trivial_cast_fault, cast_fault, cast_of, IsTrivialCast, BothCommutes, BothAssociates, BothRepeats, BothHasUnit, TrivialCasts}
+use Rattle.vx_tree.specs.Validities.{pair_of, both_pairs, opposite, has_no_nulls, made_nullable, full_valid, valid_from, IsOpposite, IsValidTaken, nullable_state, IsTrivialCast, BothCommutes, BothAssociates, BothRepeats, BothHasUnit, TrivialCasts}
 use Rattle.vx_tree.proofs.Masks.{all_true_mask, all_valid_mask, all_invalid_mask}
 use Rattle.vx_tree.proofs.Positions.{mask_long}
 use Rattle.vx_tree.proofs.Nulled.{valid_both}

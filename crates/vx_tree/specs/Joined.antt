@@ -10,7 +10,7 @@ use Rattle.vx_base.specs.declared.ptypes.PType.TheVariants.{U64}
 use Rattle.vx_base.specs.Rows.{Row, null, whole, items, record_of, is_present, count_in}
 use Rattle.vx_views.specs.Views.{view_size, view_prefix, view_block, view_offset, is_inline, view_value, ref_view, Resolves}
 use Rattle.vx_views.specs.Sound.{IsSoundView}
-use Rattle.vx_tree.specs.Tree.{Tree, bools, primitive, dictionary, fixed_list, list_view, structure, view_array}
+use Rattle.vx_tree.specs.Tree.{Tree, bools, primitive, fixed_list, list_view, structure, view_array}
 use Rattle.vx_tree.specs.Tree.{Trees, no_trees, tree, Valid, non_nullable}
 use Rattle.vx_tree.specs.Meaning.{tree_len, kind_of, row_at, fields_at, rows_range, is_valid_at, nullable, value_row}
 use Rattle.vx_tree.specs.Formed.{ValidFits, IsCounts, AllLen, column_count}

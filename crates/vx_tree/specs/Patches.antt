@@ -5,9 +5,9 @@ use Rattle.std.specs.List.{range_with_len}
 use Rattle.vx_base.specs.Kinds.{is_plain_integers}
 use Rattle.vx_base.specs.Refusals.{Refusal, mismatched_types, nullability_mismatch, patch_out_of_range, or_else, first_fault}
 use Rattle.vx_base.specs.Rows.{Row, whole, count_in}
-use Rattle.vx_tree.specs.Tree.{Tree, Valid, non_nullable, all_valid, all_invalid, by_array}
+use Rattle.vx_tree.specs.Tree.{Tree, Valid, non_nullable, all_valid, all_invalid}
 use Rattle.vx_tree.specs.Meaning.{tree_len, kind_of, row_at, nullable, valid_mask}
-use Rattle.vx_tree.specs.Shapes.{State, told, state_of}
+use Rattle.vx_tree.specs.Shapes.{told, state_of}
 use Rattle.vx_tree.specs.Formed.{ValidFits}
 use Rattle.vx_tree.specs.Faults.{valid_type_fault, validity_fault}
 

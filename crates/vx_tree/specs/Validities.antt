@@ -1,5 +1,5 @@
 -- What the calls of a validity give, and which fault they answer with.
-use Rattle.std.specs.Prelude.{◌≡◌, ◌<◌, ◌==◌, ◌&&◌, ◌||◌, ℕ, Bool, true, false, List, length, map, count_by, Option}
+use Rattle.std.specs.Prelude.{◌≡◌, ◌<◌, ◌==◌, ◌&&◌, ◌||◌, ℕ, Bool, true, false, List, length, count_by, Option}
 use Rattle.std.specs.Prelude.{Some, None, if◌then◌else◌}
 use Rattle.vx_base.specs.Bits.{both}
 use Rattle.vx_base.specs.Kinds.{booleans, is_plain_booleans}
@@ -8,7 +8,7 @@ use Rattle.vx_base.specs.Rows.{count_in, is_present, boolean}
 use Rattle.vx_tree.specs.Tree.{Tree, bools, constant, Valid, non_nullable, all_valid, all_invalid, by_array}
 use Rattle.vx_tree.specs.Meaning.{tree_len, kind_of, row_at, is_valid_at, nullable, valid_mask}
 use Rattle.vx_tree.specs.Shapes.{State, never_null, none_null, every_null, told, state_of, taken_state, tree_state}
-use Rattle.vx_tree.specs.Formed.{ValidFits, IsLenOf}
+use Rattle.vx_tree.specs.Formed.{ValidFits}
 use Rattle.vx_tree.specs.Faults.{length_fault, slice_fault, position_fault, take_fault, valid_type_fault}
 
 -- ---- the pair that a validity means for n rows: whether null may stand, and which rows are valid

@@ -14,9 +14,8 @@ ghost use Rattle.vx_tree.specs.Parts.{valid_of};
 ghost use Rattle.vx_tree.specs.Canonical.{IsBlank, IsBlankPart, AreBlankParts, IsPlainNulls, plain_overflow, fields_overflow};
 
 use crate::array::{ArrayRef, Validity};
-use crate::layouts::primitive::zero_numbers;
 use std::alloc::Global;
-use vx_base::{BitBuffer, Buffer, DType, PType, VortexError};
+use vx_base::{BitBuffer, Buffer, DType, PType, VortexError, zero_numbers};
 use vx_views::BinaryView;
 
 impl ArrayRef {

@@ -19,6 +19,7 @@ use crate::array::{ArrayRef, Layout, Validity};
 use std::alloc::Global;
 use vx_base::{
     ByteBuffer, PType, ScalarValue, Selection, VortexError, gather_numbers, int_at, slice_numbers,
+    zero_numbers,
 };
 
 impl ArrayRef {
@@ -221,19 +222,6 @@ impl ArrayRef {
         let bytes = ByteBuffer::from_vec(alloc, joined_bytes(alloc, arrays, size)?)?;
         ArrayRef::primitive(alloc, ptype, bytes, validity)
     }
-}
-
-// Numbers that are all 0.
-pub(crate) fn zero_numbers(
-    alloc: Global,
-    ptype: PType,
-    len: usize,
-) -> Result<ByteBuffer, VortexError>
-    ensures zeroes { Gives result (λ b. numbers ptype b ≡ map pos (replicate len 0)) }
-    ensures whole { IfOk result (λ b. length b ≡ len * byte_width ptype) }
-{
-    let bytes = vec![in alloc; 0u8; len.saturating_mul(ptype.byte_width())]?;
-    ByteBuffer::from_vec(alloc, bytes)
 }
 
 // The bytes of arrays of numbers, one array after another.

@@ -2,7 +2,7 @@
 
 use vx_base::{
     BitBuffer, PType, Selection, VortexError, extend_with_numbers, gather_bits, gather_items,
-    gather_numbers,
+    gather_numbers, zero_numbers,
 };
 
 #[test]
@@ -19,6 +19,21 @@ fn one_number_picked_again(rt: HostRuntime) -> Result<(), VortexError> {
     let places = Selection::repeated(1, 3);
     let picked = gather_numbers(rt.alloc(), PType::U16, &[1, 0, 0, 2], &places)?;
     assert!(rt; picked.as_slice() == [0, 2, 0, 2, 0, 2].as_slice());
+    Ok(())
+}
+
+#[test]
+fn one_zero_picked_again(rt: HostRuntime) -> Result<(), VortexError> {
+    let places = Selection::repeated(1, 3);
+    let picked = gather_numbers(rt.alloc(), PType::U16, &[1, 0, 0, 0], &places)?;
+    assert!(rt; picked.as_slice() == [0, 0, 0, 0, 0, 0].as_slice());
+    Ok(())
+}
+
+#[test]
+fn numbers_of_zeroes(rt: HostRuntime) -> Result<(), VortexError> {
+    let zeroes = zero_numbers(rt.alloc(), PType::I32, 2)?;
+    assert!(rt; zeroes.as_slice() == [0, 0, 0, 0, 0, 0, 0, 0].as_slice());
     Ok(())
 }
 

@@ -4,7 +4,7 @@ use Rattle.std.specs.Prelude.{pos}
 use Rattle.std.proofs.lemmas.List.{take_more, take_all}
 use Rattle.vx_base.specs.Integers.{byte_width, bytes_of, numbers, number_nth, Holds}
 use Rattle.vx_base.proofs.NumberLists.{numbers_written, numbers_start}
-use Rattle.vx_tree.proofs.Positions.{number_passed}
+use Rattle.vx_base.proofs.NumberBytes.{number_passed}
 use Rattle.vx_leaves.specs.Narrow.{zeroed}
 use Rattle.vx_leaves.proofs.NarrowedRows.{zeroed_at, length-zeroed}
 use Rattle.vx_leaves.proofs.narrow.put_masked.Goals as goal

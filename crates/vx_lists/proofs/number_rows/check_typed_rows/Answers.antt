@@ -5,7 +5,7 @@ use Rattle.vx_tree.specs.Tree.{primitive, non_nullable}
 use Rattle.vx_tree.specs.Meaning.{tree_len}
 use Rattle.vx_base.specs.Refusals.{Names}
 use Rattle.vx_lists.specs.ListViewFaults.{list_row_fault}
-use Rattle.vx_tree.proofs.Positions.{number_passed}
+use Rattle.vx_base.proofs.NumberBytes.{number_passed}
 use Rattle.vx_lists.proofs.ListFaults.{AreChecked-more, AreChecked-fault}
 use Rattle.vx_lists.proofs.number_rows.check_typed_rows.Goals as goal
 

@@ -1,5 +1,4 @@
-use Rattle.std.proofs.Common.{◌≡◌, ◌+◌, ◌*◌, None, take}
-use Rattle.vx_tree.specs.Tree.{depth, trees_depth}
+use Rattle.std.proofs.Common.{◌≡◌, None, take}
 use Rattle.vx_tree.specs.Meaning.{trees_from}
 use Rattle.vx_tree.specs.Faults.{columns_overflow}
 use Rattle.vx_tree.proofs.array.ArrayRef.+can_select.Given as goal

@@ -9,7 +9,7 @@ use Rattle.vx_tree.specs.Formed.{WellFormed, IsDictionary}
 use Rattle.vx_tree.specs.JoinedNumbers.{AreRepeated}
 use Rattle.vx_tree.proofs.CanonicalDictionaries.{dictionary_renamed}
 use Rattle.vx_tree.proofs.JoinedNumbers.{appended_more, plain_held, constant_number, constant_held, type_of_values, flagged_held}
-use Rattle.vx_tree.proofs.Positions.{number_passed}
+use Rattle.vx_base.proofs.NumberBytes.{number_passed}
 use Rattle.vx_tree.proofs.array.ArrayRef.append_numbers.Goals as goal
 
 pub returns-in_ok-extend_from_slice-in-Primitive : goal.returns-in_ok-extend_from_slice-in-Primitive

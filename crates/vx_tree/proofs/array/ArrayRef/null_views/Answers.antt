@@ -1,14 +1,12 @@
-use Rattle.std.proofs.Common.{◌≡◌, length, replicate, [], ap, sym, ◌∙◌}
-use Rattle.std.proofs.lemmas.List.FromFn.{length-map-range_with_len}
+use Rattle.std.proofs.Common.{◌≡◌, replicate, [], ap, sym, ◌∙◌}
 use Rattle.vx_base.specs.DTypes.{dtype_meaning}
 use Rattle.vx_base.specs.Kinds.{or_nullable}
 use Rattle.vx_base.proofs.Refused.{Gives-weaker}
 use Rattle.vx_views.specs.Views.{view_of}
 use Rattle.vx_tree.specs.Tree.{view_array}
 use Rattle.vx_tree.specs.Parts.{tree_of, valid_of}
-use Rattle.vx_tree.specs.Meaning.{is_valid_at, nullable}
+use Rattle.vx_tree.specs.Meaning.{nullable}
 use Rattle.vx_tree.specs.Formed.{WellFormed}
-use Rattle.vx_tree.specs.Operations.{IsValidNulled}
 use Rattle.vx_tree.proofs.ViewArrays.{nulls_formed, views_nulls}
 use Rattle.vx_tree.proofs.array.ArrayRef.null_views.Goals as goal
 

@@ -1,9 +1,8 @@
-use Rattle.std.proofs.Common.{◌≡◌, length, replicate, [], ap, sym, ◌∙◌}
+use Rattle.std.proofs.Common.{◌≡◌, length, ap, sym, ◌∙◌}
 use Rattle.std.proofs.lemmas.List.FromFn.{length-map-range_with_len}
 use Rattle.vx_base.specs.DTypes.{dtype_meaning}
 use Rattle.vx_base.specs.Kinds.{or_nullable}
 use Rattle.vx_base.proofs.Refused.{Gives-weaker}
-use Rattle.vx_views.specs.Views.{view_of}
 use Rattle.vx_tree.specs.Tree.{view_array}
 use Rattle.vx_tree.specs.Parts.{tree_of, valid_of}
 use Rattle.vx_tree.specs.Meaning.{is_valid_at, nullable}

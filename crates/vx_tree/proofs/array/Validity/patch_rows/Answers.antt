@@ -1,6 +1,5 @@
 use Rattle.std.proofs.Common.{◌≡◌, ◌<◌, ℕ, List, length, sym, ◌∙◌, ap, subst}
 use Rattle.std.specs.List.{All}
-use Rattle.vx_tree.specs.Meaning.{tree_len}
 use Rattle.vx_tree.specs.Parts.{valid_of}
 use Rattle.vx_tree.proofs.Positions.{mask_long}
 use Rattle.vx_tree.proofs.Patched.{patched_by, length-patch_positions}

@@ -4,7 +4,7 @@ use Rattle.std.proofs.lemmas.Bool.{false≢true}
 use Rattle.vx_base.proofs.FirstFaults.{first_fault-next}
 use Rattle.vx_base.specs.Integers.{numbers, number_nth}
 use Rattle.vx_base.specs.Rows.{whole}
-use Rattle.vx_tree.proofs.Positions.{number_passed}
+use Rattle.vx_base.proofs.NumberBytes.{number_passed}
 use Rattle.vx_tree.specs.Faults.{index_fault}
 use Rattle.vx_tree.specs.Meaning.{row_at}
 use Rattle.vx_tree.specs.Tree.{primitive, non_nullable}

@@ -1,10 +1,9 @@
-use Rattle.std.proofs.Common.{◌≡◌, ◌<◌, ap, sym, ◌∙◌, subst, arith}
+use Rattle.std.proofs.Common.{◌<◌, ap, sym, ◌∙◌, arith}
 use Rattle.vx_base.proofs.Refused.{Gives-weaker}
-use Rattle.vx_tree.specs.Tree.{Tree, structure}
 use Rattle.vx_tree.specs.Meaning.{trees_from}
 use Rattle.vx_tree.specs.Formed.{column_count}
-use Rattle.vx_tree.specs.Parts.{tree_of, valid_of}
-use Rattle.vx_tree.specs.Joined.{columns_in, column_of}
+use Rattle.vx_tree.specs.Parts.{tree_of}
+use Rattle.vx_tree.specs.Joined.{column_of}
 use Rattle.vx_tree.proofs.JoinedRecords.{column_of_list, count_of_list}
 use Rattle.vx_tree.proofs.layouts.structure.column_of.Goals as goal
 
