@@ -1,5 +1,5 @@
 -- Rebuilt list views are alike exactly where their rows are equal.
-use Rattle.std.proofs.Common.{◌≡◌, List, Option, map, sym, ◌∙◌, ap}
+use Rattle.std.proofs.Common.{◌≡◌, map, sym, ◌∙◌, ap}
 use Rattle.std.specs.Prelude.{◌↔◌}
 use Rattle.vx_base.specs.Rows.{Row, list_in}
 use Rattle.vx_tree.specs.Tree.{Tree}

@@ -1,5 +1,5 @@
 -- A list view over a part of its elements.
-use Rattle.std.proofs.Common.{◌≡◌, ℕ, zero, suc, ◌+◌, ◌-◌, ◌<◌, ◌≤◌, Bool, false, cond, List, length, map, get_or, refl, sym, ◌∙◌, ap, subst, add-zero, zero-add, add-one, arith}
+use Rattle.std.proofs.Common.{◌≡◌, ℕ, zero, suc, ◌+◌, ◌-◌, ◌<◌, ◌≤◌, Bool, false, cond, List, length, map, get_or, refl, sym, ◌∙◌, ap, subst, add-zero, arith}
 use Rattle.std.specs.Prelude.{pos, slice_range}
 use Rattle.std.specs.List.{All, range_with_len}
 use Rattle.std.proofs.lemmas.List.{length-map, get_or-map}

@@ -1,4 +1,4 @@
-use Rattle.std.proofs.Common.{◌≡◌, length, replicate, sym, ◌∙◌}
+use Rattle.std.proofs.Common.{◌≡◌, replicate, ◌∙◌}
 use Rattle.std.proofs.lemmas.Bool.{false≢true}
 use Rattle.vx_base.proofs.Refused.{Gives-weaker}
 use Rattle.vx_leaves.proofs.SpreadRows.{all_alike}

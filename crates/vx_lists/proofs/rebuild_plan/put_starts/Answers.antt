@@ -1,11 +1,9 @@
-use Rattle.std.proofs.Common.{◌≡◌, ◌+◌, ◌*◌, ◌<◌, ◌≤◌, ◌^◌, ℕ, List, length, sum, get_or, refl, sym, ap, ◌∙◌, arith}
-use Rattle.std.specs.Prelude.{pos}
-use Rattle.std.proofs.lemmas.Int.{ints}
+use Rattle.std.proofs.Common.{◌+◌, ◌*◌, ◌<◌, ℕ, List, length, sum, refl, sym, ap, ◌∙◌, arith}
 use Rattle.vx_base.specs.Integers.{byte_width, numbers}
 use Rattle.vx_lists.specs.CountBytes.{counts_of}
 use Rattle.vx_lists.specs.ListLayout.{starts_from}
 use Rattle.vx_lists.proofs.CanonicalRows.{length-starts_from}
-use Rattle.vx_lists.proofs.CountBytes.{length-counts_of, AreWritten-none, AreWritten-more, AreWritten-all}
+use Rattle.vx_lists.proofs.CountBytes.{length-counts_of, AreWritten-none, AreWritten-more}
 use Rattle.vx_lists.proofs.PlannedNumbers.{Holds-below, greatest_small}
 use Rattle.vx_lists.proofs.PlannedRows.{next_start}
 use Rattle.vx_lists.proofs.rebuild_plan.put_starts.Goals as goal

@@ -1,4 +1,4 @@
-use Rattle.std.proofs.Common.{◌≡◌, ◌*◌, ◌<◌, ℕ, List, length, cond, false, get_or, sym, ap, ◌∙◌, arith}
+use Rattle.std.proofs.Common.{◌≡◌, ◌*◌, ◌<◌, ℕ, List, length, cond, get_or, sym, ap, ◌∙◌, arith}
 use Rattle.vx_base.specs.Integers.{byte_width, numbers}
 use Rattle.vx_lists.specs.CountBytes.{counts_of}
 use Rattle.vx_lists.specs.ListLayout.{valid_sizes}

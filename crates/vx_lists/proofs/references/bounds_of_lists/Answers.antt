@@ -1,4 +1,4 @@
-use Rattle.std.proofs.Common.{◌≡◌, ◌+◌, ◌≤◌, min, max, ◌∙◌, ap, subst, arith}
+use Rattle.std.proofs.Common.{◌≡◌, ◌+◌, min, max, ◌∙◌, ap, subst, arith}
 use Rattle.vx_base.specs.Rows.{count_in}
 use Rattle.vx_tree.specs.Meaning.{tree_len, row_at}
 use Rattle.vx_lists.specs.ListReferences.{AreBounds}

@@ -1,4 +1,4 @@
-use Rattle.std.proofs.Common.{◌≡◌, ◌+◌, ◌≤◌, length, get_or, refl, sym, subst, arith}
+use Rattle.std.proofs.Common.{◌≡◌, ◌+◌, length, get_or, refl, sym, subst, arith}
 use Rattle.vx_lists.specs.ListReferences.{AreMarked}
 use Rattle.vx_lists.proofs.ReferencedElements.{AreMarked-none, AreMarked-more}
 use Rattle.vx_lists.proofs.references.mark_lists.Goals as goal

@@ -1,7 +1,7 @@
 use Rattle.std.proofs.Common.{◌≡◌, ◌-◌, ◌≤◌, map, sym, ◌∙◌, ap, subst}
 use Rattle.std.specs.Prelude.{pos}
 use Rattle.std.specs.List.{All}
-use Rattle.vx_base.specs.Integers.{Holds, numbers}
+use Rattle.vx_base.specs.Integers.{Holds}
 use Rattle.vx_base.specs.Kinds.{integer_type}
 use Rattle.vx_tree.specs.Meaning.{kind_of}
 use Rattle.vx_lists.specs.ListViews.{counts_in, IsCountArray}

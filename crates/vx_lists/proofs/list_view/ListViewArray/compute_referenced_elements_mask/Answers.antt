@@ -1,4 +1,4 @@
-use Rattle.std.proofs.Common.{◌≡◌, ◌∙◌, sym, subst}
+use Rattle.std.proofs.Common.{◌∙◌, sym, subst}
 use Rattle.vx_tree.specs.Parts.{valid_of}
 use Rattle.vx_lists.specs.ListReferences.{MarksReferenced}
 use Rattle.vx_lists.proofs.ReferencedElements.{marked_within, marks_referenced}

@@ -1,12 +1,12 @@
-use Rattle.std.proofs.Common.{◌≡◌, ℕ, List, inr, sym, subst, ◌∙◌, ap}
+use Rattle.std.proofs.Common.{◌≡◌, inr, sym, ◌∙◌, ap}
 use Rattle.std.proofs.lemmas.Result.{err_from_is_err_and}
 use Rattle.vx_base.specs.Kinds.{integer_type}
-use Rattle.vx_tree.specs.Meaning.{kind_of, valid_mask}
+use Rattle.vx_tree.specs.Meaning.{kind_of}
 use Rattle.vx_tree.specs.Parts.{valid_of}
-use Rattle.vx_lists.specs.CountBytes.{counts_of, AreCountBytes}
+use Rattle.vx_lists.specs.CountBytes.{counts_of}
 use Rattle.vx_lists.specs.ListLayout.{valid_total}
 use Rattle.vx_lists.specs.ListViewFaults.{total_fault, rebuilt_total_fault}
-use Rattle.vx_lists.specs.ListViews.{counts_in, rebuilt_offset_ptype}
+use Rattle.vx_lists.specs.ListViews.{counts_in}
 use Rattle.vx_lists.proofs.CountBytes.{held_are_counts}
 use Rattle.vx_lists.proofs.ListPlans.{plan_made, total_fault_is}
 use Rattle.vx_lists.proofs.list_view.ListViewArray.plan.Goals as goal

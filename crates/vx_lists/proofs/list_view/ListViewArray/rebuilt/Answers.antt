@@ -1,4 +1,4 @@
-use Rattle.std.proofs.Common.{◌≡◌, sym, subst, ◌∙◌, ap}
+use Rattle.std.proofs.Common.{sym, subst, ◌∙◌, ap}
 use Rattle.vx_tree.specs.Parts.{valid_of}
 use Rattle.vx_tree.specs.Tree.{primitive, non_nullable}
 use Rattle.vx_lists.specs.ListViews.{IsRebuilt}

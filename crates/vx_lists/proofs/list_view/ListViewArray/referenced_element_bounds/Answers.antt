@@ -1,8 +1,6 @@
 use Rattle.std.proofs.Common.{◌≡◌, ◌+◌, ◌-◌, ap, ◌∙◌, arith}
-use Rattle.vx_base.specs.Rows.{count_in}
-use Rattle.vx_tree.specs.Meaning.{tree_len, row_at}
+use Rattle.vx_tree.specs.Meaning.{tree_len}
 use Rattle.vx_tree.specs.Parts.{valid_of}
-use Rattle.vx_lists.specs.ListReferences.{AreBounds}
 use Rattle.vx_lists.proofs.ReferencedElements.{bounds_referenced, bounds_within, bounds_of_flagged}
 use Rattle.vx_lists.proofs.list_view.ListViewArray.referenced_element_bounds.Goals as goal
 
