@@ -54,6 +54,8 @@ pub get_unpacked : (bs : List ℕ) (from len k : ℕ) (d : Bool) → k < len →
 unfolding unpacked
 get_unpacked bs from len k d h = get_or-map-range_with_len (bit_of bs) from len k (from + k) d h refl
 
+pub ruleset unpacked_bits = (length_unpacked, unpacked_none, get_unpacked)
+
 -- the bits up to a place, where each stays
 pub unpacked_kept : (bs cs : List ℕ) (len : ℕ) → ((j : ℕ) → j < len → bit_of cs j ≡ bit_of bs j) → unpacked cs 0 len ≡ unpacked bs 0 len
 unpacked_kept bs cs len h = unpacked-same cs bs 0 0 len (λ j l. rw zero-add (h j l))

@@ -9,7 +9,7 @@ use Rattle.vx_base.specs.Integers.{byte_width, bytes_of, numbers, number_nth, Ho
 use Rattle.vx_base.proofs.NumberLists.{numbers_none, numbers_push}
 use Rattle.vx_base.proofs.Repeated.{map_repeated}
 
-holds-zero : (t : PType) → Holds t (pos 0)
+pub holds-zero : (t : PType) → Holds t (pos 0)
 holds-zero U8 = (omega (arith, ints), omega (arith, ints))
 holds-zero U16 = (omega (arith, ints), omega (arith, ints))
 holds-zero U32 = (omega (arith, ints), omega (arith, ints))

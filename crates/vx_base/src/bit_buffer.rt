@@ -1,5 +1,5 @@
 // A shared run of booleans, packed eight to a byte.
-#![tactic(auto, using(crate::proofs::PackedBits::length_unpacked, crate::proofs::PackedBits::unpacked_none, crate::proofs::PackedBits::get_unpacked))]
+#![tactic(auto, using(crate::proofs::PackedBits::unpacked_bits))]
 
 ghost use Rattle.std.specs.Prelude.{ℕ, ◌&&◌, ◌≡◌, ◌≤◌, ◌<◌, ◌+◌, ◌*◌, ◌/◌, ◌^◌, ◌↔◌, Bool, [], length, take, slice_range, count_by};
 ghost use Rattle.std.specs.Prelude.{slice_index, IsTrue, ◌%◌, true, false, replicate, ◌-◌, ◌==◌, IfOk, ◌++◌, map, bit_and};

@@ -56,7 +56,7 @@ impl<'a> Model for BitBufferView<'a> {
     ghost invariant = { λ v. (v.offset + v.len ≤ 8 * length v.bytes.now) × (v.offset + v.len < 2 ^ 64) };
 }
 
-#[tactic(auto, using(crate::proofs::PackedBits::length_unpacked, crate::proofs::PackedBits::unpacked_none, crate::proofs::PackedBits::get_unpacked))]
+#[tactic(auto, using(crate::proofs::PackedBits::unpacked_bits))]
 impl<'a> BitBufferView<'a> {
     /// The booleans that stand there in these bytes. Asks that the bytes have so many bits, and
     /// that `offset % 8 + len` is below 2^64.

@@ -105,9 +105,7 @@ impl ByteBuffer {
 #[inline]
 fn are_bytes(bytes: &[u8])
     ensures { AreBytes bytes.now }
-{
-    let _ = bytes.len();
-}
+{}
 
 /// Numbers that are all 0, in memory that is cleared as it is had. Fails only for want of memory.
 pub fn zero_numbers(alloc: Global, ptype: PType, len: usize) -> Result<ByteBuffer, VortexError>

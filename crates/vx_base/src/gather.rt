@@ -1,6 +1,7 @@
 // Numbers, booleans and items of the rows that are picked.
 
-ghost use Rattle.std.specs.Prelude.{◌≡◌, ◌<◌, ◌≤◌, ◌*◌, ◌/◌, ◌+◌, ◌^◌, ◌++◌, length, map, replicate, slice_index_or, slice_range, unsigned_abs, IfOk, IsTrue, pos};
+ghost use Rattle.std.specs.Prelude.{◌≡◌, ◌<◌, ◌≤◌, ◌*◌, ◌/◌, ◌+◌, ◌^◌, ◌++◌, IfOk, IsTrue, pos};
+ghost use Rattle.std.specs.Prelude.{length, map, replicate, slice_index_or, slice_range, unsigned_abs};
 ghost use Rattle.vx_base.specs.Refusals.{Gives};
 ghost use Rattle.std.specs.List.{All, flat_map};
 ghost use Rattle.vx_base.specs.Bits.{unpacked, bool_at};
@@ -239,7 +240,8 @@ fn extend_lists_at_numbers<const WIDTH: usize, T: NativePType>(
     places: &[u8],
     size: usize,
 ) -> Result<(), VortexError>
-    requires { All (λ k. k * WIDTH + WIDTH ≤ length bytes.now) (flat_map (list_positions size) (map unsigned_abs (numbers T.PTYPE places.now))) }
+    requires { All (λ k. k * WIDTH + WIDTH ≤ length bytes.now)
+        (flat_map (list_positions size) (map unsigned_abs (numbers T.PTYPE places.now))) }
     ensures { Gives result (λ _. picked.new.items ≡ picked.old.items
         ++ flat_map (bytes_of_position WIDTH bytes.now) (flat_map (list_positions size) (map unsigned_abs (numbers T.PTYPE places.now)))) }
 {
