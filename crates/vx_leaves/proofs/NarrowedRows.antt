@@ -2,11 +2,9 @@
 use Rattle.std.proofs.Common.{ℕ, ◌+◌, ◌*◌, ◌<◌, ◌≤◌, ◌≡◌, zero, suc, Bool, true, false, cond, List, [], ◌∷◌, ◌++◌, length, take, map, replicate, refl, sym, ◌∙◌, ap, subst, arith}
 use Rattle.std.specs.Prelude.{ℤ, pos, count_by}
 use Rattle.std.specs.List.{All, range_with_len}
-use Rattle.std.proofs.lemmas.Int.{ints}
 use Rattle.std.proofs.lemmas.List.{take_more, take_all, length-take-le}
 use Rattle.std.proofs.lemmas.List.Elements.{All-nil, All-cons}
 use Rattle.vx_base.specs.declared.ptypes.PType.{PType}
-use Rattle.vx_base.specs.declared.ptypes.PType.TheVariants.{U8, U16, U32, U64, I8, I16, I32, I64}
 use Rattle.vx_base.specs.Bits.{bool_at}
 use Rattle.vx_base.specs.Integers.{byte_width, number_nth, numbers, Holds}
 use Rattle.vx_base.specs.Kinds.{integers, Fits}
@@ -14,6 +12,7 @@ use Rattle.vx_base.specs.Rows.{Row, null, boolean, whole, bytes, text, items, re
 use Rattle.std.proofs.Math.Nat.{mul-le-mul_right}
 use Rattle.vx_base.proofs.NumberLists.{numbers_room}
 use Rattle.vx_base.proofs.MaskCounts.{count-false, all_true_from_count}
+use Rattle.vx_base.proofs.Zeroes.{holds-zero}
 use Rattle.vx_tree.specs.Tree.{Tree, primitive, Valid}
 use Rattle.vx_tree.specs.Meaning.{tree_len, kind_of, row_at, rows, valid_mask, nullable}
 use Rattle.vx_tree.specs.Operations.{masked}
@@ -94,21 +93,11 @@ zeroed_none (false ∷ mask) (z ∷ zs) e none = ap (λ ys. pos 0 ∷ ys) (zeroe
 
 -- ---- a type has them
 
-Holds-zero : (t : PType) → Holds t (pos 0)
-Holds-zero U8 = (omega (arith, ints), omega (arith, ints))
-Holds-zero U16 = (omega (arith, ints), omega (arith, ints))
-Holds-zero U32 = (omega (arith, ints), omega (arith, ints))
-Holds-zero U64 = (omega (arith, ints), omega (arith, ints))
-Holds-zero I8 = (omega (arith, ints), omega (arith, ints))
-Holds-zero I16 = (omega (arith, ints), omega (arith, ints))
-Holds-zero I32 = (omega (arith, ints), omega (arith, ints))
-Holds-zero I64 = (omega (arith, ints), omega (arith, ints))
-
 pub zeroed_held : (u : PType) (mask : List Bool) (zs : List ℤ) → All (Holds u) (kept mask zs) → All (Holds u) (zeroed mask zs)
 zeroed_held u [] zs all = All-nil (Holds u)
 zeroed_held u (b ∷ mask) [] all = All-nil (Holds u)
 zeroed_held u (true ∷ mask) (z ∷ zs) all = All-cons (Holds u) z (zeroed mask zs) (all 0 (pos 0) (omega arith)) (zeroed_held u mask zs (λ k d inside. all (suc k) d (omega arith)))
-zeroed_held u (false ∷ mask) (z ∷ zs) all = All-cons (Holds u) (pos 0) (zeroed mask zs) (Holds-zero u) (zeroed_held u mask zs all)
+zeroed_held u (false ∷ mask) (z ∷ zs) all = All-cons (Holds u) (pos 0) (zeroed mask zs) (holds-zero u) (zeroed_held u mask zs all)
 
 -- the numbers among rows that fit are of the type
 among_held : (t : PType) (n : Bool) (f : ℕ → Row) (start len : ℕ) → ((i : ℕ) → i < start + len → Fits (integers t n) (f i)) → All (Holds t) (numbers_among (map f (range_with_len start len)))
