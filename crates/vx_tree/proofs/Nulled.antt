@@ -132,6 +132,12 @@ valid_both v u w m n xs ys bits len a b c d e f mine theirs =
           ap (λ bs. bool_at bs i) f ∙ both_at xs ys i same inside ∙ ap (λ b. b && bool_at ys i) (truth_at m xs i d here) ∙ ap (λ b. truth_of (row_at m i) && b) (truth_at n ys i e there);
     })
 
+-- of two arrays it is that of their rows
+pub valid_arrays : (v u w : Valid) (m o : Tree) (len : ℕ) → v ≡ by_array m → u ≡ by_array o → ValidFits v len → IsValidNulled (by_array m) (by_array o) (tree_len m) w → IsValidNulled v u len w
+valid_arrays v u w m o len a b fits h =
+    let mine : IsMask m len = rw a at fits in
+    rw (a, b) (rw mine.len at h)
+
 -- ---- rows of null
 
 pub null_row : (b : Bool) (r : Row) → b ≡ false → (if b then r else null) ≡ null

@@ -80,15 +80,22 @@ length-overwritten bits [] values = refl
 length-overwritten bits (p ∷ ps) [] = refl
 length-overwritten bits (p ∷ ps) (b ∷ values) = length-overwritten (set bits p b) ps values ∙ length-set bits p b
 
-pub patched_by : (v u w : Valid) (n offset : ℕ) (indices : Tree) (bits mask values : List Bool) (ps : List ℕ) → w ≡ by_array (bools bits non_nullable) → bits ≡ overwritten mask ps values
-    → mask ≡ valid_mask v n → ps ≡ patch_positions offset indices → values ≡ valid_mask u (tree_len indices) → IsPatched v n offset indices u w
-patched_by v u w n offset indices bits mask values ps a b m p q =
-    let long : length bits ≡ n = ap length b ∙ length-overwritten mask ps values ∙ mask_long v mask n m in
+pub length-patch_positions : (offset : ℕ) (indices : Tree) → length (patch_positions offset indices) ≡ tree_len indices
+length-patch_positions offset indices = length-map-range_with_len (λ i. count_in (row_at indices i) - offset) 0 (tree_len indices)
+
+pub patched_by : (v u w : Valid) (n offset : ℕ) (indices : Tree) (ps : List ℕ) → w ≡ by_array (bools (overwritten (valid_mask v n) ps (valid_mask u (length ps))) non_nullable) → ps ≡ patch_positions offset indices
+    → IsPatched v n offset indices u w
+patched_by v u w n offset indices ps a p =
+    let mask = valid_mask v n in
+    let values = valid_mask u (length ps) in
+    let bits = overwritten mask ps values in
+    let long : length bits ≡ n = length-overwritten mask ps values ∙ mask_long v mask n refl in
     let same : bits ≡ map (bool_at bits) (range_with_len 0 n) = fill_by_all (bool_at bits) bits n false long (λ i l. refl) in
+    let as_many : length ps ≡ tree_len indices = ap length p ∙ length-patch_positions offset indices in
     rw a (record {
       fits = record { len = long; kind = refl };
       state = refl;
-      mask = sym same ∙ b ∙ ap (λ bs. overwritten bs ps values) m ∙ ap (λ qs. overwritten (valid_mask v n) qs values) p ∙ ap (overwritten (valid_mask v n) (patch_positions offset indices)) q;
+      mask = sym same ∙ ap (λ qs. overwritten mask qs values) p ∙ ap (λ m. overwritten mask (patch_positions offset indices) (valid_mask u m)) as_many;
     })
 
 pub len_of_fits : (v : Valid) (n : ℕ) → ValidFits v n → IsLenOf v n
@@ -102,6 +109,3 @@ pub ruleset patches = (len_of_fits, Names-or_else_first, Names-or_else_second, o
 pub ruleset found = (AreFound-more, AreFound-all, AreFound-below, AreFound-faultless)
 
 pub ruleset written = (overwritten_more, overwritten_all)
-
-pub length-patch_positions : (offset : ℕ) (indices : Tree) → length (patch_positions offset indices) ≡ tree_len indices
-length-patch_positions offset indices = length-map-range_with_len (λ i. count_in (row_at indices i) - offset) 0 (tree_len indices)

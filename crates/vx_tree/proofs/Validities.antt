@@ -21,7 +21,7 @@ use Rattle.vx_tree.specs.Operations.{IsSelected, IsValidityOf, IsValidNulled, Ar
 use Rattle.vx_tree.specs.Validities.{pair_of, both_pairs, opposite, has_no_nulls, made_nullable, full_valid, valid_from, IsOpposite, IsValidTaken, nullable_state, IsTrivialCast, BothCommutes, BothAssociates, BothRepeats, BothHasUnit, TrivialCasts}
 use Rattle.vx_tree.proofs.Masks.{all_true_mask, all_valid_mask, all_invalid_mask}
 use Rattle.vx_tree.proofs.Positions.{mask_long}
-use Rattle.vx_tree.proofs.Nulled.{valid_both}
+use Rattle.vx_tree.proofs.Nulled.{nullable_nulled}
 use Rattle.vx_tree.proofs.Selected.{booleans_can_be_selected}
 use Rattle.vx_tree.proofs.Taken.{take_fault-of, positions_none}
 
@@ -101,13 +101,8 @@ pub pair_all_valid : (u : Valid) (n : ℕ) → pair_of (made_nullable u) n ≡ b
 pair_all_valid u n = pair_joined all_valid u (made_nullable u) n (nullable_made u) (λ i h. valid_made u i)
 
 -- two arrays
-pub arrays_joined : (m o : Tree) (w : Valid) (xs ys bits : List Bool) (n : ℕ) → kind_of m ≡ booleans false → kind_of o ≡ booleans false → tree_len o ≡ tree_len m → w ≡ by_array (bools bits non_nullable)
-    → xs ≡ map (λ i. truth_of (row_at m i)) (range_with_len 0 (tree_len m)) → ys ≡ map (λ i. truth_of (row_at o i)) (range_with_len 0 (tree_len o)) → bits ≡ both xs ys → tree_len m ≡ n
-    → pair_of w n ≡ both_pairs (pair_of (by_array m) n) (pair_of (by_array o) n)
-arrays_joined m o w xs ys bits n k l same a d e f long =
-    let joined : IsValidNulled (by_array m) (by_array o) (tree_len m) w =
-    valid_both (by_array m) (by_array o) w m o xs ys bits (tree_len m) refl refl a d e f (record { len = refl; kind = k }) (record { len = same; kind = l }) in
-    pair_joined (by_array m) (by_array o) w n (ap nullable a) (λ i h. joined.bits i (rw long h))
+pub arrays_joined : (m o : Tree) (w : Valid) (n : ℕ) → IsValidNulled (by_array m) (by_array o) (tree_len m) w → tree_len m ≡ n → pair_of w n ≡ both_pairs (pair_of (by_array m) n) (pair_of (by_array o) n)
+arrays_joined m o w n joined long = pair_joined (by_array m) (by_array o) w n (nullable_nulled (by_array m) (by_array o) w joined.state) (λ i h. joined.bits i (rw long h))
 
 -- ---- the other way
 

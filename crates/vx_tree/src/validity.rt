@@ -24,6 +24,7 @@ mod states;
 
 use crate::array::{ArrayRef, Validity};
 pub(crate) use crate::validity::bits::constant_truth;
+use crate::validity::both::plain_and;
 pub use crate::validity::laws::{
     and_associates, and_commutes, and_has_a_unit, and_repeats, trivial_casts_are_casts,
 };
@@ -207,11 +208,7 @@ impl Validity {
             (Validity::AllInvalid, _) => Ok(Validity::AllInvalid),
             (Validity::Array(_), Validity::AllValid) => self.try_clone(alloc),
             (Validity::Array(_), Validity::AllInvalid) => nowhere_true(alloc, len),
-            (Validity::Array(array), Validity::Array(other)) => {
-                let bits = array.plain_bits(alloc)?;
-                let bits = bits.and(alloc, &other.plain_bits(alloc)?)?;
-                told_by(alloc, bits)
-            }
+            (Validity::Array(array), Validity::Array(other)) => plain_and(alloc, array, other),
         }
     }
 

@@ -180,12 +180,11 @@ fn constant_or_null(
     ensures by_row { Gives result (IsNulled (constant scalar.now.kind scalar.now.row len) (valid_of nulls.now)) }
     ensures one_value { IfOk result HasOneValue }
 {
-    let row = scalar.try_clone(alloc)?;
     if !nulls.is_nullable() {
-        return ArrayRef::constant(alloc, row, len);
+        return ArrayRef::constant(alloc, scalar.try_clone(alloc)?, len);
     }
     let codes = ArrayRef::zero_codes(alloc, len, nulls)?;
-    let values = ArrayRef::constant(alloc, row, 1)?;
+    let values = ArrayRef::constant(alloc, scalar.try_clone(alloc)?, 1)?;
     ArrayRef::dictionary(alloc, codes, values, false)
 }
 

@@ -70,10 +70,8 @@ impl ArrayRef {
         ensures { Gives result (IsJoined (lists (kind_of elements) (nullable (valid_of validity))) arrays.now) }
     {
         elements.known_len();
-        let places = joined_offsets(alloc, arrays, len)?;
-        let offsets = wide_array(alloc, places)?;
-        let counts = joined_sizes(alloc, arrays, len)?;
-        let sizes = wide_array(alloc, counts)?;
+        let offsets = wide_offsets(alloc, arrays, len)?;
+        let sizes = wide_sizes(alloc, arrays, len)?;
         ArrayRef::list_view(alloc, elements, offsets, sizes, validity, false)
     }
 
@@ -385,6 +383,26 @@ fn joined_offsets(alloc: Global, arrays: &[ArrayRef], len: usize) -> Result<Vec<
         base += elements.len();
     }
     Ok(joined)
+}
+
+// The sizes of arrays of lists, one array after another, of which there are `len`.
+fn wide_sizes(alloc: Global, arrays: &[ArrayRef], len: usize) -> Result<ArrayRef, VortexError>
+    requires { All AreLists arrays.now }
+    ensures { Gives result (IsCountsOf (joined_sizes arrays.now)) }
+{
+    let bytes = joined_sizes(alloc, arrays, len)?;
+    wide_array(alloc, bytes)
+}
+
+// The offsets of arrays of lists, one array after another, of which there are `len`, each further
+// by the elements of the arrays before. Asks that the elements can be counted.
+fn wide_offsets(alloc: Global, arrays: &[ArrayRef], len: usize) -> Result<ArrayRef, VortexError>
+    requires lists { All AreLists arrays.now }
+    requires short { joined_len (map elements_in arrays.now) < 2 ^ 64 }
+    ensures { Gives result (IsCountsOf (offsets_from 0 arrays.now)) }
+{
+    let bytes = joined_offsets(alloc, arrays, len)?;
+    wide_array(alloc, bytes)
 }
 
 // Plain numbers of type U64 that these bytes hold, which are counts.

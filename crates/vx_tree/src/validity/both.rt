@@ -4,10 +4,11 @@ ghost use Rattle.std.specs.Prelude.{◌≡◌, ℕ, false, IfOk};
 ghost use Rattle.vx_base.specs.Kinds.{booleans};
 ghost use Rattle.vx_base.specs.Refusals.{Gives, Refuses};
 ghost use Rattle.vx_tree.specs.Tree.{by_array};
-ghost use Rattle.vx_tree.specs.Shapes.{state_of, told};
+ghost use Rattle.vx_tree.specs.Shapes.{state_of};
 ghost use Rattle.vx_tree.specs.Meaning.{tree_len, kind_of};
 ghost use Rattle.vx_tree.specs.Formed.{IsLenOf};
 ghost use Rattle.vx_tree.specs.Parts.{valid_of};
+ghost use Rattle.vx_tree.specs.Operations.{IsValidNulled};
 ghost use Rattle.vx_tree.specs.Validities.{pair_of, both_pairs, both_states, and_fault};
 
 use crate::array::{ArrayRef, Validity};
@@ -75,17 +76,17 @@ fn arrays_and(alloc: Global, array: &ArrayRef, other: &ArrayRef) -> Result<Valid
 }
 
 // The same of two arrays of plain booleans that are as long.
-fn plain_and(alloc: Global, array: &ArrayRef, other: &ArrayRef) -> Result<Validity, VortexError>
+pub(crate) fn plain_and(
+    alloc: Global,
+    array: &ArrayRef,
+    other: &ArrayRef,
+) -> Result<Validity, VortexError>
     requires mine { kind_of array.now ≡ booleans false }
     requires theirs { kind_of other.now ≡ booleans false }
     requires same_len { tree_len other.now ≡ tree_len array.now }
-    ensures pair { Gives result (λ w. (n : ℕ) → IsLenOf (by_array array.now) n → IsLenOf (by_array other.now) n
-        → pair_of (valid_of w) n ≡ both_pairs (pair_of (by_array array.now) n) (pair_of (by_array other.now) n)) }
-    ensures state { IfOk result (λ w. state_of (valid_of w) ≡ told) }
+    ensures { Gives result (λ w. IsValidNulled (by_array array.now) (by_array other.now) (tree_len array.now) (valid_of w)) }
 {
     let mine = array.plain_bits(alloc)?;
     let theirs = other.plain_bits(alloc)?;
-    let bits = mine.and(alloc, &theirs)?;
-    let validity = told_by(alloc, bits)?;
-    Ok(validity)
+    told_by(alloc, mine.and(alloc, &theirs)?)
 }

@@ -47,7 +47,6 @@ impl Validity {
     /// is looked at; else an array. Asks that an array has as many rows as stand beside it. Refuses
     /// `MismatchedTypes` where an array is not one of plain booleans, then `Overflow` where the
     /// rows are 2^64 or more. Two rows of `AllValid` and one of `AllInvalid` are true, true, false.
-    #[tactic(auto, using(crate::proofs::Joins::lens_each))]
     pub fn concat(
         alloc: Global,
         parts: Vec<(Validity, usize)>,
@@ -56,15 +55,7 @@ impl Validity {
         ensures joined { IfOk result (λ o. option_map valid_of o ≡ joined_validity parts.items) }
         ensures refuses { Refuses result (join_fault parts.items) }
     {
-        let Some((first, _)) = parts.first() else {
-            return Ok(None);
-        };
-        if first.are_all(&parts) {
-            return Ok(Some(first.try_clone(alloc)?));
-        }
-        check_types(&parts)?;
-        let bits = joined_bits(alloc, &parts)?;
-        Ok(Some(told_by(alloc, bits)?))
+        joined_parts(alloc, &parts)
     }
 
     /// Valid where the item is true, as `from_buffer` says it. The size hint is not looked at. Asks
@@ -125,6 +116,24 @@ impl fmt::Debug for Validity {
         };
         write!(f, "{name}")
     }
+}
+
+// The rows of validities, one validity after another, nothing of none.
+#[tactic(auto, using(crate::proofs::Joins::lens_each))]
+fn joined_parts(alloc: Global, parts: &[(Validity, usize)]) -> Result<Option<Validity>, VortexError>
+    requires { AreLens parts.now }
+    ensures joined { IfOk result (λ o. option_map valid_of o ≡ joined_validity parts.now) }
+    ensures refuses { Refuses result (join_fault parts.now) }
+{
+    let Some((first, _)) = parts.first() else {
+        return Ok(None);
+    };
+    if first.are_all(parts) {
+        return Ok(Some(first.try_clone(alloc)?));
+    }
+    check_types(parts)?;
+    let bits = joined_bits(alloc, parts)?;
+    Ok(Some(told_by(alloc, bits)?))
 }
 
 // Whether each array is one of plain booleans.

@@ -5,7 +5,8 @@ ghost use Rattle.std.specs.List.{All};
 ghost use Rattle.vx_base.specs.Kinds.{is_plain_integers};
 ghost use Rattle.vx_base.specs.Refusals.{Gives, Refuses, Tests};
 ghost use Rattle.vx_base.specs.Rows.{whole, count_in};
-ghost use Rattle.vx_tree.specs.Meaning.{tree_len, kind_of, row_at};
+ghost use Rattle.vx_tree.specs.Tree.{bools, by_array, non_nullable};
+ghost use Rattle.vx_tree.specs.Meaning.{tree_len, kind_of, row_at, valid_mask};
 ghost use Rattle.vx_tree.specs.Formed.{ValidFits};
 ghost use Rattle.vx_tree.specs.Parts.{valid_of};
 ghost use Rattle.vx_tree.specs.Faults.{valid_type_fault};
@@ -83,11 +84,26 @@ impl Validity {
         self.check_patch_types(indices, patches)?;
         self.check_patch_lens(len, indices, patches)?;
         let positions = indices.patch_positions(alloc, offset, len)?;
-        let mask = self.execute_mask(alloc, len)?;
-        let values = patches.execute_mask(alloc, indices.len())?;
-        let bits = overwrite(alloc, &mask, &positions, &values)?;
-        let validity = told_by(alloc, bits)?;
-        Ok(validity)
+        Ok(self.patched_at(alloc, len, &positions, patches)?)
+    }
+
+    // `len` rows, overwritten one after another at the positions by the rows of the patches.
+    fn patched_at(
+        &self,
+        alloc: Global,
+        len: usize,
+        positions: &[usize],
+        patches: &Validity,
+    ) -> Result<Validity, VortexError>
+        requires mine { ValidFits (valid_of self.now) len }
+        requires theirs { ValidFits (valid_of patches.now) (length positions.now) }
+        requires below { All (λ k. k < len) positions.now }
+        ensures { Gives result (λ w. valid_of w ≡ by_array (bools (overwritten (valid_mask (valid_of self.now) len) positions.now
+            (valid_mask (valid_of patches.now) (length positions.now))) non_nullable)) }
+    {
+        let mask = self.mask(alloc, len)?;
+        let values = patches.mask(alloc, positions.len())?;
+        told_by(alloc, overwrite(alloc, &mask, positions, &values)?)
     }
 
     // Whether the array, where there is one, is one of plain booleans.

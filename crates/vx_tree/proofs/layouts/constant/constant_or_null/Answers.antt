@@ -8,7 +8,7 @@ use Rattle.vx_tree.proofs.layouts.constant.constant_or_null.Goals as goal
 pub returns-clause-by_row : goal.returns-clause-by_row
 returns-clause-by_row c =
     Gives-weaker c.dictionary.result _ _
-    (λ a e. constant_with_nulls a c.in_ok-codes.codes c.in_ok-values.values c.args.scalar.now.kind c.args.scalar.now.row c.args.len (valid_of c.args.nulls.now) (search rules) (rw c.in_ok-row.ensures at c.in_ok-values.ensures) e c.in_ok-codes.ensures)
+    (λ a e. constant_with_nulls a c.in_ok-codes.codes c.in_ok-values.values c.args.scalar.now.kind c.args.scalar.now.row c.args.len (valid_of c.args.nulls.now) (search rules) (rw c.in_ok-try_clone-2.ensures at c.in_ok-values.ensures) e c.in_ok-codes.ensures)
     c.dictionary.ensures
 
 pub dictionary-requires : goal.dictionary-requires
