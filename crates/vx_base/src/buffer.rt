@@ -26,7 +26,6 @@ pub(crate) fn numbers_of<T: NativePType>(alloc: Global, bytes: &[u8]) -> Result<
 
 // The bytes of these numbers, one number after another: a block of them is made, and then written
 // at once.
-#[tactic(auto, using(crate::proofs::Blocks::block_room))]
 fn bytes_of_numbers<T: NativePType>(alloc: Global, items: &[T]) -> Result<Vec<u8>, VortexError>
     ensures ok { Gives result (λ bytes. numbers T.PTYPE bytes.items ≡ map T.value items.now) }
     ensures len { IfOk result (λ bytes. length bytes.items ≡ length items.now * byte_width T.PTYPE) }
