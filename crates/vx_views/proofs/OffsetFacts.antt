@@ -5,12 +5,13 @@ use Rattle.std.proofs.lemmas.Bool.{le-leb, lt-leb, leb-true, eq-eqb}
 use Rattle.std.proofs.lemmas.Bool.Decides.{nat_tests}
 use Rattle.std.proofs.lemmas.Int.{ints}
 use Rattle.std.proofs.lemmas.List.{take_all}
-use Rattle.vx_base.specs.Refusals.{or_else, negative, lengths_not_exact, falling_offsets, empty_input, out_of_bounds}
+use Rattle.vx_base.specs.declared.errors.VortexError.{VortexError}
+use Rattle.vx_base.specs.Refusals.{or_else, Names, negative, lengths_not_exact, falling_offsets, empty_input, out_of_bounds}
 use Rattle.vx_views.specs.BuildFaults.{lengths_of, differences, first_offset, last_offset, negative_at, falling_at, sum_fault, past_heap_fault, no_offset_fault, first_negative, first_falling, first_too_long, lengths_fault, offsets_fault, IsUsedRange, AreRising}
 use Rattle.vx_base.specs.Integers.{number_nth}
 use Rattle.vx_views.proofs.Differences.{length_differences, number_at_differences}
 use Rattle.vx_views.proofs.CutOpen.{sum_more}
-use Rattle.vx_base.proofs.FirstFaults.{or_else-none, or_else-second, first_fault-none_at, first_fault-of_none}
+use Rattle.vx_base.proofs.FirstFaults.{or_else-none, or_else-second, Names-or_else_first, Names-or_else_second, first_fault-none_at, first_fault-of_none}
 use Rattle.vx_views.proofs.FirstFaults.{if-none, if-some}
 use Rattle.vx_views.proofs.NoFaults.{length_at, length-lengths_of}
 
@@ -197,6 +198,21 @@ past_heap-none heap_len offsets h = ap (λ t. if t then None else Some (out_of_b
 
 past_heap-some : (heap_len : ℕ) (offsets : List ℤ) → heap_len < last_offset offsets → past_heap_fault heap_len offsets ≡ Some (out_of_bounds (last_offset offsets))
 past_heap-some heap_len offsets h = ap (λ t. if t then None else Some (out_of_bounds (last_offset offsets))) (lt-leb (last_offset offsets) heap_len h)
+
+-- an error that names the first fault names that of the offsets
+pub offsets_fault-empty : (limit heap_len : ℕ) (offsets : List ℤ) → length offsets ≡ 0 → offsets_fault limit heap_len offsets ≡ Some empty_input
+offsets_fault-empty limit heap_len offsets none = ap (λ (n : ℕ). or_else (if n == 0 then Some empty_input else None) (or_else (first_negative offsets) (or_else (first_falling offsets) (or_else (past_heap_fault heap_len offsets) (first_too_long limit (differences offsets)))))) none
+
+pub Names-offsets_negative : (limit heap_len : ℕ) (offsets : List ℤ) (e : VortexError) → 0 < length offsets → Names (first_negative offsets) e → Names (offsets_fault limit heap_len offsets) e
+Names-offsets_negative limit heap_len offsets e some names =
+    let rest = or_else (first_falling offsets) (or_else (past_heap_fault heap_len offsets) (first_too_long limit (differences offsets))) in
+    Names-or_else_second (no_offset_fault offsets) (or_else (first_negative offsets) rest) e (no_offset-none offsets some) (Names-or_else_first (first_negative offsets) rest e names)
+
+pub Names-offsets_falling : (limit heap_len : ℕ) (offsets : List ℤ) (e : VortexError) → 0 < length offsets → first_negative offsets ≡ None → Names (first_falling offsets) e → Names (offsets_fault limit heap_len offsets) e
+Names-offsets_falling limit heap_len offsets e some natural names =
+    let rest = or_else (past_heap_fault heap_len offsets) (first_too_long limit (differences offsets)) in
+    Names-or_else_second (no_offset_fault offsets) (or_else (first_negative offsets) (or_else (first_falling offsets) rest)) e (no_offset-none offsets some)
+    (Names-or_else_second (first_negative offsets) (or_else (first_falling offsets) rest) e natural (Names-or_else_first (first_falling offsets) rest e names))
 
 pub offsets_fault-past : (limit heap_len : ℕ) (offsets : List ℤ) (n : ℕ) → 0 < length offsets → first_negative offsets ≡ None → first_falling offsets ≡ None → last_offset offsets ≡ n → heap_len < n → offsets_fault limit heap_len offsets ≡ Some (out_of_bounds n)
 offsets_fault-past limit heap_len offsets n some a b is past =
