@@ -199,17 +199,14 @@ past_heap-none heap_len offsets h = ap (λ t. if t then None else Some (out_of_b
 past_heap-some : (heap_len : ℕ) (offsets : List ℤ) → heap_len < last_offset offsets → past_heap_fault heap_len offsets ≡ Some (out_of_bounds (last_offset offsets))
 past_heap-some heap_len offsets h = ap (λ t. if t then None else Some (out_of_bounds (last_offset offsets))) (lt-leb (last_offset offsets) heap_len h)
 
--- an error that names the first fault names that of the offsets
-pub offsets_fault-empty : (limit heap_len : ℕ) (offsets : List ℤ) → length offsets ≡ 0 → offsets_fault limit heap_len offsets ≡ Some empty_input
-offsets_fault-empty limit heap_len offsets none = ap (λ (n : ℕ). or_else (if n == 0 then Some empty_input else None) (or_else (first_negative offsets) (or_else (first_falling offsets) (or_else (past_heap_fault heap_len offsets) (first_too_long limit (differences offsets)))))) none
-
-pub Names-offsets_negative : (limit heap_len : ℕ) (offsets : List ℤ) (e : VortexError) → 0 < length offsets → Names (first_negative offsets) e → Names (offsets_fault limit heap_len offsets) e
-Names-offsets_negative limit heap_len offsets e some names =
+-- an error that names the first of them
+pub Names-negative_offset : (limit heap_len : ℕ) (offsets : List ℤ) (e : VortexError) → 0 < length offsets → Names (first_negative offsets) e → Names (offsets_fault limit heap_len offsets) e
+Names-negative_offset limit heap_len offsets e some names =
     let rest = or_else (first_falling offsets) (or_else (past_heap_fault heap_len offsets) (first_too_long limit (differences offsets))) in
     Names-or_else_second (no_offset_fault offsets) (or_else (first_negative offsets) rest) e (no_offset-none offsets some) (Names-or_else_first (first_negative offsets) rest e names)
 
-pub Names-offsets_falling : (limit heap_len : ℕ) (offsets : List ℤ) (e : VortexError) → 0 < length offsets → first_negative offsets ≡ None → Names (first_falling offsets) e → Names (offsets_fault limit heap_len offsets) e
-Names-offsets_falling limit heap_len offsets e some natural names =
+pub Names-falling_offset : (limit heap_len : ℕ) (offsets : List ℤ) (e : VortexError) → 0 < length offsets → first_negative offsets ≡ None → Names (first_falling offsets) e → Names (offsets_fault limit heap_len offsets) e
+Names-falling_offset limit heap_len offsets e some natural names =
     let rest = or_else (past_heap_fault heap_len offsets) (first_too_long limit (differences offsets)) in
     Names-or_else_second (no_offset_fault offsets) (or_else (first_negative offsets) (or_else (first_falling offsets) rest)) e (no_offset-none offsets some)
     (Names-or_else_second (first_negative offsets) (or_else (first_falling offsets) rest) e natural (Names-or_else_first (first_falling offsets) rest e names))

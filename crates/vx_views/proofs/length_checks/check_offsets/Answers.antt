@@ -6,7 +6,7 @@ use Rattle.vx_base.specs.Refusals.{Tests}
 use Rattle.vx_base.specs.Integers.{number_nth}
 use Rattle.vx_views.proofs.LengthFaults.{is_length, last_offset-is}
 use Rattle.vx_views.proofs.NoFaults.{number_of_item}
-use Rattle.vx_views.proofs.OffsetFacts.{offsets_fault-past, offsets_fault-long, differences-none, Names-offsets_negative, Names-offsets_falling}
+use Rattle.vx_views.proofs.OffsetFacts.{offsets_fault-past, offsets_fault-long, differences-none, Names-negative_offset, Names-falling_offset}
 use Rattle.vx_views.proofs.length_checks.check_offsets.Goals as goal
 
 pub returns-then-heap_len-last : goal.returns-then-heap_len-last
@@ -32,13 +32,13 @@ pub returns-in_err-check_natural : goal.returns-in_err-check_natural
 returns-in_err-check_natural g c =
     let p = err_from_is_err_and c.from_residual.result c.from_residual.ensures.1 in
     let some : 0 < length c.args.offsets.now = search rules in
-    rw (p.1, p.2) (Names-offsets_negative c.args.limit c.args.heap_len (map g.P.Number.value c.args.offsets.now) _ (omega (arith, length-map c.args.offsets.now g.P.Number.value)) c.in_err-check_natural.ensures)
+    rw (p.1, p.2) (Names-negative_offset c.args.limit c.args.heap_len (map g.P.Number.value c.args.offsets.now) _ (omega (arith, length-map c.args.offsets.now g.P.Number.value)) c.in_err-check_natural.ensures)
 
 pub returns-in_err-check_rising : goal.returns-in_err-check_rising
 returns-in_err-check_rising g c =
     let p = err_from_is_err_and c.from_residual-in_err-check_rising.result c.from_residual-in_err-check_rising.ensures.1 in
     let some : 0 < length c.args.offsets.now = search rules in
-    rw (p.1, p.2) (Names-offsets_falling c.args.limit c.args.heap_len (map g.P.Number.value c.args.offsets.now) _ (omega (arith, length-map c.args.offsets.now g.P.Number.value)) c.in_ok-check_natural.ensures c.in_err-check_rising.ensures)
+    rw (p.1, p.2) (Names-falling_offset c.args.limit c.args.heap_len (map g.P.Number.value c.args.offsets.now) _ (omega (arith, length-map c.args.offsets.now g.P.Number.value)) c.in_ok-check_natural.ensures c.in_err-check_rising.ensures)
 
 pub unwrap-last-requires : goal.unwrap-last-requires
 unwrap-last-requires g c =
