@@ -136,12 +136,13 @@ pub record AreValidViews (vs : List (List ℕ)) (w : Valid) (ws : List (List ℕ
   pub len : length ws ≡ length vs
   pub views : (i : ℕ) → i < length vs → slice_index_or ws i [] ≡ (if is_valid_at w i then slice_index_or vs i [] else replicate 16 0)
 
-pub valid_views_made : (vs ws : List (List ℕ)) (w : Valid) (mask : List Bool) → ws ≡ map (valid_view vs mask) (range_with_len 0 (length vs)) → mask ≡ valid_mask w (length vs) → AreValidViews vs w ws
-valid_views_made vs ws w mask e m =
+pub valid_views_made : (vs ws : List (List ℕ)) (w : Valid) → ws ≡ map (valid_view vs (valid_mask w (length vs))) (range_with_len 0 (length vs)) → AreValidViews vs w ws
+valid_views_made vs ws w e =
+    let mask = valid_mask w (length vs) in
     record {
       len = ap length e ∙ length-map-range_with_len (valid_view vs mask) 0 (length vs);
       views = λ i l.
-          let bit : bool_at mask i ≡ is_valid_at w i = ap (λ (bs : List Bool). bool_at bs i) m ∙ get_or-map-range_with_len (is_valid_at w) 0 (length vs) i i false l (zero-add i) in
+          let bit : bool_at mask i ≡ is_valid_at w i = get_or-map-range_with_len (is_valid_at w) 0 (length vs) i i false l (zero-add i) in
           ap (λ (xs : List (List ℕ)). slice_index_or xs i []) e ∙ get_or-map-range_with_len (valid_view vs mask) 0 (length vs) i i [] l (zero-add i)
           ∙ ap (λ (b : Bool). if b then slice_index_or vs i [] else replicate 16 0) bit;
     }

@@ -12,7 +12,7 @@ ghost use Rattle.vx_tree.specs.Tree.{view_array};
 ghost use Rattle.vx_tree.specs.Layouts.{is_view_array};
 ghost use Rattle.vx_base.specs.Rows.{null};
 ghost use Rattle.vx_base.specs.ValueRows.{option_row, row_under};
-ghost use Rattle.vx_tree.specs.Meaning.{tree_len, kind_of, row_at, is_valid_at, nullable, is_texts, value_row};
+ghost use Rattle.vx_tree.specs.Meaning.{tree_len, kind_of, row_at, is_valid_at, nullable, is_texts, valid_mask, value_row};
 ghost use Rattle.vx_tree.specs.Values.{bytes_in};
 ghost use Rattle.vx_tree.specs.Formed.{ValidFits, WellFormed, value_kind};
 ghost use Rattle.vx_tree.specs.Fitting.{AreViews};
@@ -154,15 +154,12 @@ impl ArrayRef {
         else {
             unreachable!();
         };
-        let len = views.len();
-        let validity = validity.nulled(alloc, nulls, len)?;
-        let mask = validity.mask(alloc, len)?;
-        let views = valid_views(alloc, views, &mask)?;
-        let buffers = share_buffers(alloc, buffers)?;
+        let validity = validity.nulled(alloc, nulls, views.len())?;
+        let views = views_under(alloc, views, &validity)?;
         let dtype = dtype
             .try_clone(alloc)?
             .union_nullability(nulls.nullability());
-        ArrayRef::var_bin_view(alloc, views, buffers, dtype, validity)
+        views_over(alloc, views, buffers, &dtype, validity)
     }
 
     pub(crate) fn null_views(
@@ -186,12 +183,11 @@ impl ArrayRef {
             unreachable!();
         };
         let views = Buffer::from_vec(alloc, vec![in alloc; BinaryView::empty_view(); len]?)?;
-        let buffers = share_buffers(alloc, buffers)?;
         let dtype = dtype
             .try_clone(alloc)?
             .union_nullability(nulls.nullability());
         let validity = validity.nulls(alloc, len, nulls)?;
-        ArrayRef::var_bin_view(alloc, views, buffers, dtype, validity)
+        views_over(alloc, views, buffers, &dtype, validity)
     }
 
     pub(crate) fn canonical_views(&self, alloc: Global) -> Result<ArrayRef, VortexError>
@@ -208,10 +204,7 @@ impl ArrayRef {
             unreachable!();
         };
         let validity = validity.canonical(alloc, views.len())?;
-        let views = views.try_clone(alloc)?;
-        let buffers = share_buffers(alloc, buffers)?;
-        let dtype = dtype.try_clone(alloc)?;
-        ArrayRef::var_bin_view(alloc, views, buffers, dtype, validity)
+        views_over(alloc, views.try_clone(alloc)?, buffers, dtype, validity)
     }
 
     /// The bytes of row `i`, a text or a byte list, `None` where it is null: those in the view or
@@ -268,6 +261,36 @@ fn value_of_kind(dtype: &DType, value: ByteBuffer) -> ScalarValue
         DType::List(_, _) | DType::FixedSizeList(_, _, _) => ScalarValue::Bytes(value),
         DType::Struct(_, _) => ScalarValue::Bytes(value),
     }
+}
+
+// Texts or byte lists of these views, over the buffers, which are shared.
+fn views_over(
+    alloc: Global,
+    views: Buffer<BinaryView>,
+    buffers: &[ByteBuffer],
+    dtype: &DType,
+    validity: Validity,
+) -> Result<ArrayRef, VortexError>
+    requires { WellFormed (view_array views buffers.now (dtype_meaning dtype.now) (valid_of validity)) }
+    ensures { Gives result (λ a. a ≡ view_array views buffers.now (dtype_meaning dtype.now) (valid_of validity)) }
+{
+    let dtype = dtype.try_clone(alloc)?;
+    let buffers = share_buffers(alloc, buffers)?;
+    ArrayRef::var_bin_view(alloc, views, buffers, dtype, validity)
+}
+
+// The views where the validity is true, and 16 zero bytes elsewhere.
+fn views_under(
+    alloc: Global,
+    views: &Buffer<BinaryView>,
+    validity: &Validity,
+) -> Result<Buffer<BinaryView>, VortexError>
+    requires { ValidFits (valid_of validity.now) (length views.now) }
+    ensures { Gives result (λ b. b ≡ map (valid_view views.now (valid_mask (valid_of validity.now) (length views.now)))
+        (range_with_len 0 (length views.now))) }
+{
+    let mask = validity.mask(alloc, views.len())?;
+    valid_views(alloc, views, &mask)
 }
 
 // The views where the mask is true, and 16 zero bytes elsewhere.

@@ -10,8 +10,8 @@ use Rattle.vx_tree.specs.Formed.{WellFormed}
 use Rattle.vx_tree.proofs.ViewArrays.{nulls_formed, views_nulls}
 use Rattle.vx_tree.proofs.array.ArrayRef.null_views.Goals as goal
 
-pub var_bin_view-requires : goal.var_bin_view-requires
-var_bin_view-requires c =
+pub views_over-requires : goal.views_over-requires
+views_over-requires c =
     let views = c.in-VarBinView.views in
     let buffers = c.in-VarBinView.buffers.items in
     let k = dtype_meaning c.in-VarBinView.dtype in
@@ -19,11 +19,10 @@ var_bin_view-requires c =
     let u = valid_of c.args.nulls.now in
     let w = valid_of c.in_ok-validity.validity in
     let same = sym c.layout.ensures.parts ∙ ap tree_of c.in-VarBinView.is in
-    let shared : c.in_ok-buffers.buffers.items ≡ buffers = c.in_ok-buffers.ensures ∙ c.deref.ensures.value in
     let kind : dtype_meaning c.union_nullability-dtype.result ≡ or_nullable (nullable u) k = rw (c.nullability.ensures, c.in_ok-try_clone.ensures) at c.union_nullability-dtype.ensures in
     let zeroes : c.in_ok-views.views ≡ replicate c.args.len (view_of [] 0 0) = c.in_ok-views.ensures ∙ c.in_ok-vec.ensures.items_if_clones_equal (λ y h. h) ∙ ap (replicate c.args.len) c.empty_view.ensures in
     let formed : WellFormed (view_array views buffers k v) = rw c.in-VarBinView.is at c.layout.ensures.formed in
-    rw (shared, kind) (nulls_formed views buffers c.in_ok-views.views k v u w c.args.len formed zeroes c.in_ok-validity.ensures)
+    rw (c.deref.ensures.value, kind) (nulls_formed views buffers c.in_ok-views.views k v u w c.args.len formed zeroes c.in_ok-validity.ensures)
 
 pub returns : goal.returns
 returns c =
@@ -34,7 +33,6 @@ returns c =
     let u = valid_of c.args.nulls.now in
     let w = valid_of c.in_ok-validity.validity in
     let same = sym c.layout.ensures.parts ∙ ap tree_of c.in-VarBinView.is in
-    let shared : c.in_ok-buffers.buffers.items ≡ buffers = c.in_ok-buffers.ensures ∙ c.deref.ensures.value in
     let kind : dtype_meaning c.union_nullability-dtype.result ≡ or_nullable (nullable u) k = rw (c.nullability.ensures, c.in_ok-try_clone.ensures) at c.union_nullability-dtype.ensures in
     let zeroes : c.in_ok-views.views ≡ replicate c.args.len (view_of [] 0 0) = c.in_ok-views.ensures ∙ c.in_ok-vec.ensures.items_if_clones_equal (λ y h. h) ∙ ap (replicate c.args.len) c.empty_view.ensures in
-    Gives-weaker c.var_bin_view.result _ _ (λ a e. views_nulls c.args.self.now a views buffers c.in_ok-views.views k v u w c.args.len same (rw (shared, kind) at e) zeroes c.in_ok-validity.ensures) c.var_bin_view.ensures
+    Gives-weaker c.views_over.result _ _ (λ a e. views_nulls c.args.self.now a views buffers c.in_ok-views.views k v u w c.args.len same (rw (c.deref.ensures.value, kind) at e) zeroes c.in_ok-validity.ensures) c.views_over.ensures
