@@ -30,21 +30,9 @@ impl ArrayRef {
         ensures ok { IfOk result (λ ps. ArePositions self.now len ps.items) }
         ensures refuses { Refuses result (indices_fault len self.now) }
     {
-        match self.layout() {
-            Layout::Primitive {
-                ptype,
-                bytes,
-                validity,
-            } => {
-                let mask = validity.execute_mask(alloc, self.len())?;
-                Ok(masked_positions(alloc, *ptype, bytes.as_slice(), &mask, len)?)
-            }
-            _ => {
-                let mut positions = vec![in alloc; 0; self.len()]?;
-                self.fill_positions(len, &mut positions)?;
-                Ok(positions)
-            }
-        }
+        let mut positions = vec![in alloc; 0; self.len()]?;
+        self.fill_positions(alloc, len, &mut positions)?;
+        Ok(positions)
     }
 
     // The same positions, with no list of them where the rows are plain numbers and none is null.
@@ -96,8 +84,33 @@ impl ArrayRef {
         }
     }
 
+    // Writes them, of plain numbers under the mask of their validity.
+    fn fill_positions(
+        &self,
+        alloc: Global,
+        len: usize,
+        out: &mut [usize],
+    ) -> Result<(), VortexError>
+        requires ints { is_integers (kind_of self.now) ≡ true }
+        requires room { length out.old ≡ tree_len self.now }
+        ensures ok { IfOk result (λ _. ArePositions self.now len out.new) }
+        ensures refuses { Refuses result (indices_fault len self.now) }
+    {
+        match self.layout() {
+            Layout::Primitive {
+                ptype,
+                bytes,
+                validity,
+            } => {
+                let mask = validity.execute_mask(alloc, self.len())?;
+                Ok(fill_typed(*ptype, bytes.as_slice(), &mask, len, out)?)
+            }
+            _ => Ok(self.fill_each(len, out)?),
+        }
+    }
+
     // Writes them, in any layout, row by row.
-    fn fill_positions(&self, len: usize, out: &mut [usize]) -> Result<(), VortexError>
+    fn fill_each(&self, len: usize, out: &mut [usize]) -> Result<(), VortexError>
         requires ints { is_integers (kind_of self.now) ≡ true }
         requires room { length out.old ≡ tree_len self.now }
         ensures ok { IfOk result (λ _. ArePositions self.now len out.new) }
@@ -123,38 +136,23 @@ impl ArrayRef {
     }
 }
 
-// The positions that numbers under a mask name, each below `len`, or the first fault among them.
-fn masked_positions(
-    alloc: Global,
+// Writes the positions that numbers name, each below `len`, 0 where the mask is false.
+fn fill_typed(
     ptype: PType,
     bytes: &[u8],
     mask: &Mask,
     len: usize,
-) -> Result<Vec<usize>, VortexError>
-    requires { length mask.now ≡ length (numbers ptype bytes.now) }
-    ensures ok { IfOk result (λ ps. ArePositions (masked_numbers ptype bytes.now mask.now) len ps.items) }
-    ensures refuses { Refuses result (indices_fault len (masked_numbers ptype bytes.now mask.now)) }
+    out: &mut [usize],
+) -> Result<(), VortexError>
+    requires numbers { length mask.now ≡ length (numbers ptype bytes.now) }
+    requires room { length out.old ≡ length mask.now }
+    ensures ok { IfOk result (λ _. ArePositions (masked_numbers ptype bytes.now mask.now) len out.new) }
+    ensures tests { Tests result (indices_fault len (masked_numbers ptype bytes.now mask.now)) }
 {
-    call_native!(ptype, typed_positions(alloc, bytes, mask, len))
+    call_native!(ptype, fill_numbers(bytes, mask, len, out))
 }
 
 // The same for numbers of one type.
-fn typed_positions<T: NativePType>(
-    alloc: Global,
-    bytes: &[u8],
-    mask: &Mask,
-    len: usize,
-) -> Result<Vec<usize>, VortexError>
-    requires { length mask.now ≡ length (numbers T.PTYPE bytes.now) }
-    ensures ok { IfOk result (λ ps. ArePositions (masked_numbers T.PTYPE bytes.now mask.now) len ps.items) }
-    ensures refuses { Refuses result (indices_fault len (masked_numbers T.PTYPE bytes.now mask.now)) }
-{
-    let mut positions = vec![in alloc; 0; mask.len()]?;
-    fill_numbers::<T>(bytes, mask, len, &mut positions)?;
-    Ok(positions)
-}
-
-// Writes the positions that numbers name, 0 where the mask is false.
 fn fill_numbers<T: NativePType>(
     bytes: &[u8],
     mask: &Mask,
