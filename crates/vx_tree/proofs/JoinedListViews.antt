@@ -1,5 +1,6 @@
 -- Lists that lie anywhere among their elements, joined.
-use Rattle.std.proofs.Common.{ℕ, suc, ◌+◌, ◌-◌, ◌<◌, ◌≤◌, ◌≡◌, Bool, true, false, List, [], ◌∷◌, ◌++◌, length, map, get_or, take, drop, append_assoc, refl, sym, ◌∙◌, ap, subst, inl, inr, zero-add, arith}
+use Rattle.std.proofs.Common.{ℕ, suc, ◌+◌, ◌-◌, ◌<◌, ◌≤◌, ◌≡◌, Bool, true, false, List, [], ◌∷◌, ◌++◌, length, map, get_or, take, drop, append_assoc, refl, sym, ◌∙◌, ap, subst, inl, inr, to_z, of_z, zero-add, arith}
+use Rattle.std.specs.Int.{w128}
 use Rattle.std.specs.Prelude.{ℤ, pos, unsigned_abs, ◌^◌, ◌≤ℤ◌, if◌then◌else◌}
 use Rattle.std.proofs.lemmas.Grind.{flat_map-append}
 use Rattle.std.specs.List.{All, range_with_len}
@@ -12,6 +13,7 @@ use Rattle.std.proofs.lemmas.List.{length-append, length-map, length-take, take_
 use Rattle.std.proofs.lemmas.List.FromFn.{fill_by_all, length-map-range_with_len, get_or-map-range_with_len}
 use Rattle.vx_base.specs.Integers.{numbers, Holds, number_nth}
 use Rattle.vx_base.specs.Rows.{Row, null, whole, items, count_in}
+use Rattle.vx_base.proofs.Positions.{holds-below, position_of}
 use Rattle.vx_base.specs.declared.ptypes.PType.{PType}
 use Rattle.vx_base.specs.Kinds.{lists}
 use Rattle.vx_base.specs.declared.ptypes.PType.TheVariants.{U64}
@@ -57,6 +59,12 @@ sums_fit base zs ns e h =
 
 pub sums_are : (base : ℕ) (zs : List ℤ) (ns : List ℕ) → zs ≡ map pos ns → map (λ z. pos (base + unsigned_abs z)) zs ≡ map (λ n. pos (base + n)) ns
 sums_are base zs ns e = ap (map (λ z. pos (base + unsigned_abs z))) e ∙ map-map (λ z. pos (base + unsigned_abs z)) pos ns
+
+-- the sum of a base and a number that is read from its bytes
+pub sum_read : (p : PType) (zs : List ℤ) (base i : ℕ) (z : ℤ) → All (λ y. pos 0 ≤ℤ y) zs → i < length zs → z ≡ number_nth zs i → Holds p z → base + unsigned_abs (to_z w128 (of_z w128 z)) ≡ base + unsigned_abs (number_nth zs i)
+sum_read p zs base i z positions inside read holds =
+    let low : pos 0 ≤ℤ z = subst (λ (y : ℤ). pos 0 ≤ℤ y) (sym read) (positions i (pos 0) inside) in
+    ap (λ y. base + unsigned_abs y) (position_of z low (holds-below p z holds) ∙ read)
 
 -- bytes that are added at the end, and then written
 pub bytes_added : (old made part now rest zeroes : List ℕ) (start n k len : ℕ) → made ≡ take n old ++ zeroes → length old ≡ start → start ≤ n → now ≡ made → len ≡ n → length now ≡ len → start + length part ≡ n
