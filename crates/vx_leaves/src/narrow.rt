@@ -198,43 +198,34 @@ fn narrowed_bytes(
     ensures ok { Gives result (λ b. numbers to b ≡ zeroed mask.now (numbers from bytes.now)) }
     ensures len { IfOk result (λ b. length b ≡ length mask.now * byte_width to) }
 {
-    call_native!(from, narrowed_from(alloc, to, bytes, mask))
-}
-
-// The same of numbers of one type.
-fn narrowed_from<T: NativePType>(
-    alloc: Global,
-    to: PType,
-    bytes: &[u8],
-    mask: &Mask,
-) -> Result<ByteBuffer, VortexError>
-    requires same_len { length mask.now ≡ length (numbers T.PTYPE bytes.now) }
-    requires holds { All (Holds to) (zeroed mask.now (numbers T.PTYPE bytes.now)) }
-    requires narrower { byte_width to ≤ byte_width T.PTYPE }
-    ensures ok { Gives result (λ b. numbers to b ≡ zeroed mask.now (numbers T.PTYPE bytes.now)) }
-    ensures len { IfOk result (λ b. length b ≡ length mask.now * byte_width to) }
-{
-    call_native!(to, narrowed_to::<T>(alloc, bytes, mask))
-}
-
-// The same of numbers of one type, as those of another.
-fn narrowed_to<T: NativePType, U: NativePType>(
-    alloc: Global,
-    bytes: &[u8],
-    mask: &Mask,
-) -> Result<ByteBuffer, VortexError>
-    requires same_len { length mask.now ≡ length (numbers T.PTYPE bytes.now) }
-    requires holds { All (Holds U.PTYPE) (zeroed mask.now (numbers T.PTYPE bytes.now)) }
-    requires narrower { byte_width U.PTYPE ≤ byte_width T.PTYPE }
-    ensures ok { Gives result (λ b. numbers U.PTYPE b ≡ zeroed mask.now (numbers T.PTYPE bytes.now)) }
-    ensures len { IfOk result (λ b. length b ≡ length mask.now * byte_width U.PTYPE) }
-{
-    let mut narrowed = vec![in alloc; 0u8; mask.len() * U::PTYPE.byte_width()]?;
-    put_numbers::<T, U>(bytes, mask, &mut narrowed);
+    let mut narrowed = vec![in alloc; 0u8; mask.len() * to.byte_width()]?;
+    put_narrowed(from, to, bytes, mask, &mut narrowed);
     ByteBuffer::from_vec(alloc, narrowed)
 }
 
-// Writes the numbers as those of another type, 0 where the mask is false.
+// Writes the numbers of one type as those of another, 0 where the mask is false.
+fn put_narrowed(from: PType, to: PType, bytes: &[u8], mask: &Mask, out: &mut [u8])
+    requires same_len { length mask.now ≡ length (numbers from bytes.now) }
+    requires holds { All (Holds to) (zeroed mask.now (numbers from bytes.now)) }
+    requires room { length out.old ≡ length mask.now * byte_width to }
+    ensures len { length out.new ≡ length out.old }
+    ensures numbers { numbers to out.new ≡ zeroed mask.now (numbers from bytes.now) }
+{
+    call_native!(from, put_numbers_as(to, bytes, mask, out))
+}
+
+// The same of numbers of one type.
+fn put_numbers_as<T: NativePType>(to: PType, bytes: &[u8], mask: &Mask, out: &mut [u8])
+    requires same_len { length mask.now ≡ length (numbers T.PTYPE bytes.now) }
+    requires holds { All (Holds to) (zeroed mask.now (numbers T.PTYPE bytes.now)) }
+    requires room { length out.old ≡ length mask.now * byte_width to }
+    ensures len { length out.new ≡ length out.old }
+    ensures numbers { numbers to out.new ≡ zeroed mask.now (numbers T.PTYPE bytes.now) }
+{
+    call_native!(to, put_numbers::<T>(bytes, mask, out))
+}
+
+// The same of numbers of one type, as those of another.
 fn put_numbers<T: NativePType, U: NativePType>(bytes: &[u8], mask: &Mask, out: &mut [u8])
     requires same_len { length mask.now ≡ length (numbers T.PTYPE bytes.now) }
     requires holds { All (Holds U.PTYPE) (zeroed mask.now (numbers T.PTYPE bytes.now)) }

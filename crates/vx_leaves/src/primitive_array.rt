@@ -310,6 +310,26 @@ fn spread_values(
         (valid_of validity)) }
     ensures refuses { Refuses result (count_fault ptype bytes (valid_of validity) n_rows) }
 {
+    let spread = spread_bytes(alloc, &bytes, ptype, &validity, n_rows)?;
+    primitive_array(alloc, ptype, spread, n_rows, validity)
+}
+
+// The bytes of a number a row: the values laid over the valid rows in order.
+fn spread_bytes(
+    alloc: Global,
+    bytes: &ByteBuffer,
+    ptype: PType,
+    validity: &Validity,
+    n_rows: usize,
+) -> Result<ByteBuffer, VortexError>
+    requires fits { ValidFits (valid_of validity.now) n_rows }
+    requires counted { n_rows * byte_width ptype < 2 ^ 64 }
+    requires state { never_null (valid_of validity.now) ≡ false }
+    ensures numbers { IfOk result (λ b. numbers ptype b
+        ≡ spread (valid_mask (valid_of validity.now) n_rows) (numbers ptype bytes.now)) }
+    ensures len { IfOk result (λ b. length b ≡ n_rows * byte_width ptype) }
+    ensures refuses { Refuses result (count_fault ptype bytes.now (valid_of validity.now) n_rows) }
+{
     let mask = validity.execute_mask(alloc, n_rows)?;
     let needed = mask.true_count() * ptype.byte_width();
     let found = bytes.len();
@@ -319,6 +339,5 @@ fn spread_values(
             found,
         });
     }
-    let spread = spread_numbers(alloc, ptype, bytes.as_slice(), &mask)?;
-    primitive_array(alloc, ptype, spread, n_rows, validity)
+    spread_numbers(alloc, ptype, bytes.as_slice(), &mask)
 }

@@ -23,7 +23,7 @@ pub(crate) fn spread_numbers(
     ensures len { IfOk result (λ b. length b ≡ length mask.now * byte_width ptype) }
 {
     let bits = bits_of(alloc, mask)?;
-    call_native!(ptype, spread_native(alloc, values, &bits))
+    spread_bits(alloc, ptype, values, &bits)
 }
 
 // The mask as bits, whatever its state.
@@ -36,6 +36,21 @@ fn bits_of(alloc: Global, mask: &Mask) -> Result<BitBuffer, VortexError>
     }
 }
 
+// The same, the mask as bits.
+fn spread_bits(
+    alloc: Global,
+    ptype: PType,
+    values: &[u8],
+    bits: &BitBuffer,
+) -> Result<ByteBuffer, VortexError>
+    requires { length bits.now.bits * byte_width ptype < 2 ^ 64 }
+    ensures ok { Gives result (λ b. numbers ptype b ≡ spread bits.now.bits (numbers ptype values.now)) }
+    ensures len { IfOk result (λ b. length b ≡ length bits.now.bits * byte_width ptype) }
+{
+    call_native!(ptype, spread_native(alloc, values, bits))
+}
+
+// The same of numbers of one type.
 fn spread_native<T: NativePType>(
     alloc: Global,
     values: &[u8],
