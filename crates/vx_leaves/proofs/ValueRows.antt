@@ -1,5 +1,5 @@
 -- Values for rows: how many numbers there are, and where all rows or none are valid.
-use Rattle.std.proofs.Common.{ℕ, ◌+◌, ◌*◌, ◌/◌, ◌^◌, ◌<◌, ◌≤◌, ◌≡◌, Bool, true, false, cond, List, [], ◌∷◌, length, map, count_by, zero, suc, refl, ◌∙◌, ap, zero-add, arith}
+use Rattle.std.proofs.Common.{ℕ, eqb, ◌+◌, ◌*◌, ◌/◌, ◌^◌, ◌<◌, ◌≤◌, ◌≡◌, Bool, true, false, cond, List, [], ◌∷◌, length, map, count_by, zero, suc, refl, sym, ◌∙◌, ap, subst, zero-add, arith}
 use Rattle.std.specs.Prelude.{ℤ, Some}
 use Rattle.std.specs.List.{range_with_len}
 use Rattle.std.proofs.Math.Nat.{mul-le-mul_right}
@@ -10,8 +10,10 @@ use Rattle.vx_base.specs.Integers.{byte_width, numbers}
 use Rattle.vx_base.specs.Refusals.{length_mismatch}
 use Rattle.vx_base.specs.declared.ptypes.PType.{PType}
 use Rattle.vx_base.proofs.NumberLists.{length_numbers, whole}
-use Rattle.vx_tree.specs.Tree.{Tree, primitive, Valid, non_nullable, all_valid, all_invalid, by_array}
+use Rattle.vx_tree.specs.Tree.{Tree, bools, primitive, Valid, non_nullable, all_valid, all_invalid, by_array}
+use Rattle.vx_tree.specs.Formed.{ValidFits}
 use Rattle.vx_tree.specs.Meaning.{is_valid_at, valid_mask}
+use Rattle.vx_tree.specs.Validities.{valid_from}
 use Rattle.vx_leaves.specs.Leaves.{IsPrimitive}
 use Rattle.vx_leaves.specs.Spread.{spread, never_null, count_fault}
 
@@ -24,6 +26,15 @@ count_of t bs n e = length_numbers t bs ∙ ap (λ m. m / byte_width t) e ∙ wh
 
 pub length-valid_mask : (v : Valid) (n : ℕ) → length (valid_mask v n) ≡ n
 length-valid_mask v n = length-map-range_with_len (is_valid_at v) 0 n
+
+-- the validity that bits tell is that of as many rows
+pub ValidFits-from_bits : (bits : List Bool) (v : Valid) (n : ℕ) → v ≡ valid_from bits all_valid → length bits ≡ n → ValidFits v n
+ValidFits-from_bits bits v n e long = subst (λ w. ValidFits w n) (sym e) (by_count (eqb (count_by (λ b. b) bits) (length bits)) (eqb (count_by (λ b. b) bits) 0))
+  where
+    by_count : (full none : Bool) → ValidFits (cond full all_valid (cond none all_invalid (by_array (bools bits non_nullable)))) n
+    by_count true none = tt
+    by_count false true = tt
+    by_count false false = record { len = long; kind = refl }
 
 -- no more bytes than those of a number a row
 pub count_room : (v : Valid) (n width : ℕ) → n * width < 2 ^ 64 → count_by (λ b. b) (valid_mask v n) * width < 2 ^ 64
