@@ -1,4 +1,4 @@
-use Rattle.std.proofs.Common.{◌≡◌, length, ◌∙◌, ap, sym}
+use Rattle.std.proofs.Common.{◌≡◌, length, ◌∙◌, ap}
 use Rattle.vx_tree.specs.Meaning.{tree_len}
 use Rattle.vx_tree.specs.Parts.{valid_of}
 use Rattle.vx_tree.proofs.Patched.{patched_by, length-patch_positions}
