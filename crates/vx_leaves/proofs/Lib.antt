@@ -1,3 +1,4 @@
+pub mod MarkedBits
 pub mod MaskedRows
 pub mod NamedValues
 pub mod NarrowedRows
