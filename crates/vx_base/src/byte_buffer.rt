@@ -27,7 +27,7 @@ impl Model for ByteBuffer {
 }
 
 impl ByteBuffer {
-    /// A buffer without bytes. It never fails.
+    /// A buffer without bytes. Fails only for want of memory.
     pub fn empty(_alloc: Global) -> Result<ByteBuffer, VortexError>
         ensures { Gives result (λ b. b ≡ []) }
     {

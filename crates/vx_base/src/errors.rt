@@ -8,16 +8,20 @@ use thiserror::Error;
 
 /// Why a call is refused. Every refusal but `Memory` names a fault that stands in what was handed
 /// in; where several stand, the first in the order that the call states is answered. `Memory` may
-/// come in place of any other answer, and only where a growth was really refused.
+/// come in place of any other answer, where a growth was really refused, or where a bit buffer
+/// would get more bits than a `usize` counts, which no memory holds.
 #[derive(Debug, Drop, PartialEq, Eq, Clone, Copy, Error)]
 pub enum VortexError {
+    /// Memory was refused.
     #[error("memory was refused")]
     Memory,
+    /// A data type or a layout that the call does not take.
     #[error("a data type or layout is not one that the call takes")]
     MismatchedTypes,
-    /// Both count rows.
+    /// Both count rows, or bytes where the bytes of numbers are too few or too many.
     #[error("a length is {found}, expected {expected}")]
     LengthMismatch { expected: usize, found: usize },
+    /// One side can hold nulls and the other cannot.
     #[error("the nullability does not fit")]
     NullabilityMismatch,
     /// A position, or the end of a range, and the length that it has to stay within.
@@ -26,16 +30,22 @@ pub enum VortexError {
     /// The first such row, counted from 0 as all rows here are.
     #[error("row {row} is negative")]
     Negative { row: usize },
+    /// A count or a number that its integer type cannot hold.
     #[error("a number passes its integer type")]
     Overflow,
+    /// A call that is named, and not built.
     #[error("this is not implemented")]
     NotImplemented,
+    /// A null where the data type or the call takes none.
     #[error("a null stands where none may be")]
     HasNulls,
+    /// A name that no column has.
     #[error("no column has that name")]
     UnknownField,
+    /// No array, or no row, where one is needed.
     #[error("nothing was given")]
     EmptyInput,
+    /// Arrays to be joined that are not of one data type.
     #[error("the data types differ")]
     DifferingDtypes,
     /// The first such row.
@@ -53,11 +63,13 @@ pub enum VortexError {
     /// The first such row.
     #[error("the prefix in the view of row {row} is not that of its value")]
     BadPrefix { row: usize },
+    /// A limit above the greatest length of a buffer that views refer to.
     #[error("the limit passes the greatest length of a buffer")]
     LimitTooLarge,
     /// The first such row.
     #[error("the value of row {row} is longer than the limit")]
     ValueTooLong { row: usize },
+    /// Lengths of values that do not sum to the bytes that hold them.
     #[error("the lengths do not sum to the length of the heap")]
     LengthsNotExact,
     /// The place of the first such offset.
@@ -66,6 +78,7 @@ pub enum VortexError {
     /// The first such patch.
     #[error("the position of patch {row} is out of range")]
     PatchOutOfRange { row: usize },
+    /// Elements that no list of size 0 can have.
     #[error("lists of size 0 have elements")]
     DegenerateElements,
 }

@@ -59,7 +59,7 @@ fn picks_zeroes(ptype: PType, bytes: &[u8], selection: &Selection) -> bool
 }
 
 /// Appends the bytes of the numbers that are picked, in their order. Asks that each position has a
-/// number. Fails only for want of memory.
+/// number. Fails only for want of memory; how many numbers were appended by then is not told.
 pub fn extend_with_numbers(
     picked: &mut Vec<u8>,
     ptype: PType,

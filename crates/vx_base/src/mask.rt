@@ -62,7 +62,7 @@ impl Mask {
         }
     }
 
-    /// The booleans of a bit buffer, with no copy of them. It never fails.
+    /// The booleans of a bit buffer, with no copy of them. Fails only for want of memory.
     pub fn from_buffer(_alloc: Global, bits: BitBuffer) -> Result<Mask, VortexError>
         ensures { Gives result (λ m. m ≡ bits.bits) }
     {
@@ -80,7 +80,7 @@ impl Mask {
     }
 
     /// The booleans of these masks, one mask after another. Refuses `Overflow` where they are 2^64
-    /// or more. Takes memory only where both values stand.
+    /// or more.
     pub fn concat(alloc: Global, masks: &[Mask]) -> Result<Mask, VortexError>
         ensures booleans { IfOk result (λ m. m ≡ joined masks.now) }
         ensures refuses { Refuses result (count_fault (length (joined masks.now))) }

@@ -17,7 +17,7 @@ number_le bytes place = from_le_bytes w32 (slice_range bytes place (place + 4))
 abbrev pub view_size : List ℕ → ℕ
 view_size view = number_le view 0
 
--- the value's first four bytes, or fewer and then zeroes
+-- the value's first four bytes, or fewer and then what pads them
 abbrev pub view_prefix : List ℕ → List ℕ
 view_prefix view = slice_range view 4 8
 

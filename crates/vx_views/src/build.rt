@@ -188,6 +188,8 @@ pub fn build_views_from_offsets<P: NativePType>(
 }
 
 /// The lengths of the values between offsets: each offset but the first, less the one before it.
+/// Asks that the first, if there is one, is at least 0 and that they never fall. Fails only for
+/// want of memory.
 pub fn offsets_to_lengths<P: NativePType>(
     alloc: Global,
     offsets: &[P],

@@ -21,8 +21,9 @@ pub const MAX_BUFFER_LEN: usize = 2147483647;
 /// A view of a value of bytes, in 16 bytes; its numbers have their lowest byte first.
 ///
 /// Bytes 0..4 are the value's length. A value of at most `MAX_INLINED_SIZE` bytes stands in the
-/// bytes from 4 on, and zeroes after it. Of a longer one the first four bytes stand at 4..8, the
-/// number of its buffer at 8..12, and where it begins in that buffer at 12..16.
+/// bytes from 4 on, and after it zeroes where this crate wrote the view; a view from outside may
+/// have any bytes there. Of a longer value the first four bytes stand at 4..8, the number of its
+/// buffer at 8..12, and where it begins in that buffer at 12..16.
 #[derive(Clone, Copy)]
 pub struct BinaryView {
     bytes: [u8; 16],
@@ -47,9 +48,10 @@ impl BinaryView {
 
     /// The view of a value that stands in the buffer numbered `block`, from `offset` on.
     ///
-    /// A value of at most 12 bytes is put into the view itself, and `block` and `offset` are left
-    /// out: the view of `inline` is `06000000 696e6c69 6e650000 00000000`. Thirteen times `c`, at
-    /// the start of buffer 1, have the view `0d000000 63636363 01000000 00000000`.
+    /// Asks fewer than 2^32 bytes. A value of at most 12 is put into the view itself, and `block`
+    /// and `offset` are left out: the view of `inline` is `06000000 696e6c69 6e650000 00000000`.
+    /// Thirteen times `c`, at the start of buffer 1, have the view
+    /// `0d000000 63636363 01000000 00000000`.
     pub fn make_view(value: &[u8], block: u32, offset: u32) -> BinaryView
         requires { length value.now < 2 ^ 32 }
         ensures { result ≡ view_of value.now block offset }
@@ -70,7 +72,7 @@ impl BinaryView {
     }
 
     /// The view that refers to a value of `size` bytes which begins with `prefix` and stands in the
-    /// buffer numbered `buffer_index`, from `offset` on.
+    /// buffer numbered `buffer_index`, from `offset` on. Asks more than 12 bytes.
     pub fn new_ref(size: u32, prefix: [u8; 4], buffer_index: u32, offset: u32) -> BinaryView
         requires { MAX_INLINED_SIZE < size }
         ensures { result ≡ ref_view size prefix buffer_index offset }
@@ -119,7 +121,7 @@ impl BinaryView {
         self.len() as usize <= MAX_INLINED_SIZE
     }
 
-    /// The parts of a view that holds its value.
+    /// The parts of a view that holds its value, which is asked.
     pub fn as_inlined(&self) -> Inlined
         requires { view_size self.now ≤ MAX_INLINED_SIZE }
         ensures size { result.size ≡ view_size self.now }
@@ -132,7 +134,7 @@ impl BinaryView {
         }
     }
 
-    /// The parts of a view that refers to its value.
+    /// The parts of a view that refers to its value, which is asked.
     #[tactic(auto, unfolding(crate::specs::Views::number_le))]
     pub fn as_view(&self) -> Ref
         requires { MAX_INLINED_SIZE < view_size self.now }
@@ -151,7 +153,8 @@ impl BinaryView {
         }
     }
 
-    /// Puts these parts in the place of those of a view that refers to its value.
+    /// Puts these parts in the place of those of a view that refers to its value. Asks that both
+    /// values have more than 12 bytes.
     pub fn set_view(&mut self, parts: Ref)
         requires before { MAX_INLINED_SIZE < view_size self.old }
         requires after { MAX_INLINED_SIZE < parts.size }
@@ -185,7 +188,7 @@ impl BinaryView {
         &buffers[parts.buffer_index as usize].as_slice()[parts.as_range()]
     }
 
-    /// The value's first four bytes, or fewer and then zeroes.
+    /// The bytes 4..8 of the view: the value's first four bytes, or fewer and then what pads it.
     pub fn prefix(&self) -> [u8; 4]
         ensures { result ≡ view_prefix self.now }
     {
@@ -209,8 +212,8 @@ impl BinaryView {
         u32::from_be_bytes(self.prefix())
     }
 
-    /// The bytes 4..12 of the value that the view holds, as a number whose order is that of the
-    /// bytes.
+    /// The bytes 8..16 of a view that holds its value, which is asked: those from 4 on of the value
+    /// and of what pads it, as a number whose order is that of the bytes.
     #[tactic(auto, unfolding(crate::specs::Views::view_order_tail))]
     pub fn order_tail(&self) -> u64
         requires { view_size self.now ≤ MAX_INLINED_SIZE }

@@ -24,7 +24,7 @@ const INLINED_HIGH_BITS: u128 = 0x8080_8080_8080_8080_8080_8080_0000_0000;
 /// is judged alone: bytes that no valid view refers to never refuse, and neither does a null row.
 ///
 /// The `budget` is the number of bytes of whole buffers that may be read ahead; it changes no
-/// answer, and today nothing is read ahead. No memory is taken.
+/// answer, and today nothing is read ahead. Asks one boolean of the mask for each view.
 pub fn check_views(
     _alloc: Global,
     views: &[BinaryView],

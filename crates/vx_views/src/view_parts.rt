@@ -11,12 +11,12 @@ pub struct Inlined {
     /// How many bytes the value has, at most `MAX_INLINED_SIZE`.
     pub size: u32,
 
-    /// The value, and zeroes after it.
+    /// The value, and after it zeroes where this crate wrote the view.
     pub bytes: [u8; MAX_INLINED_SIZE],
 }
 
 impl Inlined {
-    /// The value.
+    /// The value. Asks that it has at most `MAX_INLINED_SIZE` bytes.
     pub fn value(&self) -> &[u8]
         requires { self.now.size ≤ MAX_INLINED_SIZE }
         ensures { result.now ≡ take self.now.size self.now.bytes }
