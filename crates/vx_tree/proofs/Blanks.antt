@@ -1,29 +1,26 @@
 -- Rows in plain layout of which only the validity is given.
 use Rattle.std.proofs.Common.{ℕ, suc, ◌<◌, ◌≡◌, Bool, true, false, List, [], ◌∷◌, length, map, replicate, refl, sym, ◌∙◌, ap, subst, arith}
-use Rattle.std.specs.Prelude.{◌||◌, pos, nat_lt, slice_index_or, Some, None, if◌then◌else◌}
+use Rattle.std.specs.Prelude.{pos, slice_index_or, Some, None, if◌then◌else◌}
 use Rattle.std.proofs.lemmas.List.{length-map, length-replicate, get_or-replicate}
 use Rattle.vx_base.specs.declared.dtypes.DType.{DType}
 use Rattle.vx_base.specs.declared.ptypes.PType.{PType}
 use Rattle.vx_base.specs.DTypes.{kinds_of as dtype_kinds}
 use Rattle.vx_base.specs.Integers.{numbers}
-use Rattle.vx_base.specs.Kinds.{Kind, booleans, integers, lists, fixed_lists, records, kind, is_nullable_kind, or_nullable, Fits}
+use Rattle.vx_base.specs.Kinds.{Kind, booleans, integers, lists, fixed_lists, records, kind, is_nullable_kind, Fits}
 use Rattle.vx_base.specs.Rows.{Row, null}
 use Rattle.vx_base.specs.Defaults.{is_even, default_fault}
 use Rattle.vx_base.specs.Refusals.{mismatched_types}
 use Rattle.vx_views.specs.Views.{number_le, view_of}
 use Rattle.vx_views.specs.Sound.{IsSoundView}
 use Rattle.vx_tree.specs.Tree.{Tree, bools, primitive, constant, fixed_list, list_view, structure, view_array, Valid, all_invalid}
-use Rattle.vx_tree.specs.Meaning.{kind_of, kinds_of, is_valid_at, nullable, trees_from, is_texts}
-use Rattle.vx_tree.specs.Shapes.{state_of, tree_state, taken_state}
+use Rattle.vx_tree.specs.Meaning.{kinds_of, is_valid_at, nullable, trees_from, is_texts}
 use Rattle.vx_tree.specs.Formed.{ValidFits, AllLen, IsStruct, WellFormed, column_count, value_kind}
 use Rattle.vx_tree.specs.Plain.{ArePlain, IsPlainValid}
-use Rattle.vx_tree.specs.Operations.{IsZeroes, IsValidityOf, IsValidNulls}
-use Rattle.vx_tree.specs.Canonical.{IsCanonical, IsBlank, IsBlankPart, AreBlankParts, IsCanonicalValid, IsPlainNulls}
+use Rattle.vx_tree.specs.Operations.{IsZeroes}
+use Rattle.vx_tree.specs.Canonical.{IsCanonical, IsBlank, IsBlankPart, AreBlankParts}
 use Rattle.vx_tree.specs.Extents.{extents_of, rows_extent, fields_extents, extent, view_extent, list_extent, fixed_list_extent, struct_extent}
-use Rattle.vx_tree.proofs.RowNames.{null_extent}
-use Rattle.vx_tree.proofs.Nulled.{null_row, nullable_nulled}
-use Rattle.vx_tree.proofs.Dictionaries.{nullable_either}
-use Rattle.vx_tree.proofs.Canonical.{same_nullable}
+use Rattle.vx_tree.proofs.RowNames.{rows_extent-nulls}
+use Rattle.vx_tree.proofs.Nulled.{null_row}
 use Rattle.vx_tree.proofs.Worked.{are_below, are_text}
 use Rattle.vx_tree.proofs.ViewArrays.{empty_is_zeroes}
 
@@ -158,22 +155,6 @@ pub ruleset blanks = (bools_blank, numbers_blank, lists_blank, fixed_lists_blank
 
 -- ---- rows of null
 
-pub nulls_nullable : (t : Tree) (u x y w : Valid) (n : ℕ) → IsValidityOf t x → IsValidNulls x u n y → IsCanonicalValid y n w → nullable w ≡ is_nullable_kind (or_nullable (nullable u) (kind_of t))
-nulls_nullable t u x y w n of nulls same = same_nullable y w same.state ∙ nullable_nulled x u y nulls.state ∙ ap (λ b. nullable u || b) of.kind ∙ sym (nullable_either (nullable u) (kind_of t))
-
-pub plain_nulls_made : (t r : Tree) (u x y w : Valid) (n : ℕ) → IsValidityOf t x → IsValidNulls x u n y → IsCanonicalValid y n w → IsBlank (or_nullable (nullable u) (kind_of t)) n w r
-    → IsPlainNulls (or_nullable (nullable u) (kind_of t)) n (taken_state (tree_state t) (state_of u)) r
-plain_nulls_made t r u x y w n of nulls same blank =
-    record {
-      len = blank.len;
-      kind = blank.kind;
-      plain = blank.plain;
-      extent = blank.extent;
-      flag = blank.flag;
-      state = blank.state ∙ same.state ∙ nulls.state ∙ ap (λ s. taken_state s (state_of u)) of.state;
-      rows = λ i l. blank.nulls i l (same.bits i l ∙ nulls.bits i l);
-    }
-
 -- a kind with a default has records with as many names as fields
 pub default_even : (k : Kind) → default_fault k ≡ None → is_even k ≡ true
 default_even k h = by_truth (is_even k) refl h
@@ -193,7 +174,7 @@ null_canonical k n r may h =
       same = record { len = h.len; kind = h.kind; rows = λ i l. h.nulls i l refl };
       plain = h.plain;
       state = h.state;
-      extent = h.extent ∙ sym (null_extent k (nat_lt 0 n));
+      extent = h.extent ∙ sym (rows_extent-nulls k 1);
       flag = h.flag;
       kept = tt;
     }

@@ -1,27 +1,24 @@
 -- The plain layout of each layout, by the plain layout of its parts.
 use Rattle.std.proofs.Common.{ℕ, zero, suc, ◌+◌, ◌*◌, ◌<◌, ◌≤◌, ◌≡◌, ◌++◌, Bool, false, List, [], ◌∷◌, length, map, take, get_or, Option, Some, None, refl, sym, ◌∙◌, ap, zero-add, inl, inr, arith}
-use Rattle.std.specs.Prelude.{pos, if◌then◌else◌}
+use Rattle.std.specs.Prelude.{if◌then◌else◌}
 use Rattle.std.specs.List.{AllZip, range_with_len}
 use Rattle.std.proofs.lemmas.List.{take_more, take_all}
 use Rattle.std.proofs.lemmas.List.FromFn.{length-map-range_with_len, get_or-map-range_with_len}
-use Rattle.vx_base.specs.declared.ptypes.PType.{PType}
-use Rattle.vx_base.specs.Integers.{numbers}
 use Rattle.vx_base.specs.Bits.{bool_at}
 use Rattle.vx_base.specs.Refusals.{Refusal, refusal_of, IsMemoryOr, or_else}
 use Rattle.vx_base.specs.declared.errors.VortexError.{VortexError}
-use Rattle.vx_base.specs.Kinds.{Kind, booleans, integers, lists, fixed_lists, records, is_plain_integers}
-use Rattle.vx_base.specs.Rows.{Row, null, whole, items, record_of, count_in, truth_of}
-use Rattle.vx_tree.specs.Tree.{Tree, bools, primitive, fixed_list, list_view, structure, view_array, Trees, Valid, non_nullable, by_array}
+use Rattle.vx_base.specs.Kinds.{lists, fixed_lists}
+use Rattle.vx_base.specs.Rows.{Row, null, items, count_in, truth_of}
+use Rattle.vx_tree.specs.Tree.{Tree, bools, fixed_list, list_view, Valid, non_nullable, by_array}
 use Rattle.vx_tree.specs.Meaning.{tree_len, row_at, rows, is_valid_at, nullable, trees_from}
 use Rattle.vx_tree.specs.Shapes.{state_of, is_nullable_state}
-use Rattle.vx_tree.specs.Formed.{ValidFits, IsMask, IsCounts, IsListView, AllLen, WellFormed}
+use Rattle.vx_tree.specs.Formed.{ValidFits, IsMask, IsListView, AllLen}
 use Rattle.vx_tree.specs.Plain.{ArePlain}
-use Rattle.vx_tree.specs.Extents.{extents_of, extent, list_extent, fixed_list_extent, struct_extent}
+use Rattle.vx_tree.specs.Extents.{extents_of, extent, list_extent, fixed_list_extent}
 use Rattle.vx_tree.specs.Canonical.{HasRowsOf, IsCanonical, AreCanonical, IsCanonicalValid, canonical_fault, columns_fault}
 use Rattle.vx_tree.proofs.RowLists.{rows_by_place}
 use Rattle.vx_tree.proofs.Selected.{nullable-state}
 use Rattle.vx_tree.proofs.FixedLists.{rows_range-same, place_within}
-use Rattle.vx_tree.proofs.ViewArrays.{rows_formed}
 use Rattle.vx_tree.proofs.Dictionaries.{memory_only}
 use Rattle.vx_tree.proofs.Columns.{IsRowsAt, AreRowsAt-from_each, AllZip-all}
 
@@ -49,45 +46,6 @@ valid_row a b r s e h = λ i. if e i then h i else null
 
 -- ---- leaves
 
-pub bools_canonical : (t r : Tree) (bits : List Bool) (v w : Valid) → t ≡ bools bits v → r ≡ bools bits w → IsCanonicalValid v (length bits) w → IsCanonical t r
-bools_canonical t r bits v w a b h =
-    rw (a, b) (record {
-      same = record { len = refl; kind = ap booleans (same_nullable v w h.state); rows = λ i l. valid_row (is_valid_at w i) (is_valid_at v i) _ _ (h.bits i l) refl };
-      plain = h.plain;
-      state = h.state;
-      extent = refl;
-      flag = refl;
-      kept = tt;
-    })
-
-pub numbers_canonical : (t r : Tree) (p : PType) (bs : List ℕ) (v w : Valid) → t ≡ primitive p bs v → r ≡ primitive p bs w → IsCanonicalValid v (length (numbers p bs)) w → IsCanonical t r
-numbers_canonical t r p bs v w a b h =
-    rw (a, b) (record {
-      same = record { len = refl; kind = ap (integers p) (same_nullable v w h.state); rows = λ i l. valid_row (is_valid_at w i) (is_valid_at v i) _ _ (h.bits i l) refl };
-      plain = h.plain;
-      state = h.state;
-      extent = refl;
-      flag = refl;
-      kept = tt;
-    })
-
-pub views_canonical_formed : (vs bs : List (List ℕ)) (k : Kind) (v w : Valid) → WellFormed (view_array vs bs k v) → IsCanonicalValid v (length vs) w → WellFormed (view_array vs bs k w)
-views_canonical_formed vs bs k v w formed h =
-    rows_formed vs bs vs k v w (λ i. i) (length vs)
-    (record { len = refl; fits = h.fits; kind = same_nullable v w h.state; state = h.state; within = λ i l. l; views = λ i l. refl; bits = h.bits })
-    formed
-
-pub views_canonical : (t r : Tree) (vs bs : List (List ℕ)) (k : Kind) (v w : Valid) → t ≡ view_array vs bs k v → r ≡ view_array vs bs k w → IsCanonicalValid v (length vs) w → IsCanonical t r
-views_canonical t r vs bs k v w a b h =
-    rw (a, b) (record {
-      same = record { len = refl; kind = refl; rows = λ i l. valid_row (is_valid_at w i) (is_valid_at v i) _ _ (h.bits i l) refl };
-      plain = h.plain;
-      state = h.state;
-      extent = refl;
-      flag = refl;
-      kept = (refl, refl);
-    })
-
 -- ---- lists
 
 pub fixed_lists_canonical : (t r e d : Tree) (k n : ℕ) (v w : Valid) → t ≡ fixed_list e k v n → r ≡ fixed_list d k w n → tree_len e ≡ n * k → IsCanonical e d → IsCanonicalValid v n w → IsCanonical t r
@@ -105,29 +63,8 @@ fixed_lists_canonical t r e d k n v w a b long x h =
       kept = tt;
     })
 
-counts_same : (o p : Tree) → HasRowsOf o p → IsCounts o → IsCounts p
-counts_same o p x h =
-    record {
-      kind = ap is_plain_integers x.kind ∙ h.kind;
-      counts = λ i l. let inside : i < tree_len o = rw x.len at l in x.rows i inside ∙ h.counts i inside ∙ ap (λ r. whole (pos (count_in r))) (sym (x.rows i inside));
-    }
-
 count_same : (o p : Tree) (i : ℕ) → HasRowsOf o p → i < tree_len o → count_in (row_at p i) ≡ count_in (row_at o i)
 count_same o p i x l = ap count_in (x.rows i l)
-
-pub lists_canonical_formed : (e o s d p q : Tree) (f : Bool) → IsListView e o s f → IsCanonical e d → IsCanonical o p → IsCanonical s q → IsListView d p q f
-lists_canonical_formed e o s d p q f h x y z =
-    record {
-      offsets = counts_same o p y.same h.offsets;
-      sizes = counts_same s q z.same h.sizes;
-      same_len = z.same.len ∙ h.same_len ∙ sym y.same.len;
-      within = λ i l.
-          let inside : i < tree_len o = rw y.same.len at l in
-          omega (arith, h.within i inside, count_same o p i y.same inside, count_same s q i z.same (rw h.same_len inside), x.same.len);
-      follows = λ on i l.
-          let inside : i + 1 < tree_len o = rw y.same.len at l in
-          omega (arith, h.follows on i inside, count_same o p i y.same (omega (arith, inside)), count_same s q i z.same (omega (arith, inside, h.same_len)), count_same o p (i + 1) y.same inside);
-    }
 
 pub lists_canonical : (t r e o s d p q : Tree) (v w : Valid) (f : Bool) → t ≡ list_view e o s v f → r ≡ list_view d p q w f → IsListView e o s f → IsCanonical e d → IsCanonical o p → IsCanonical s q → IsCanonicalValid v (tree_len o) w
     → IsCanonical t r
@@ -181,21 +118,6 @@ AreCanonical-from_each n ts us i lens h l =
     lens_taken n [] (suc i) h = tt
     lens_taken n (t ∷ ts) zero h = tt
     lens_taken n (t ∷ ts) (suc i) h = (h.0, lens_taken n ts i h.1)
-
-pub struct_canonical : (t r : Tree) (ns : List (List ℕ)) (ts us : Trees) (v w : Valid) (n : ℕ) → t ≡ structure ns ts v n → r ≡ structure ns us w n → AreCanonical ts n us → IsCanonicalValid v n w → IsCanonical t r
-struct_canonical t r ns ts us v w n a b x h =
-    rw (a, b) (record {
-      same = record {
-        len = refl;
-        kind = λ i. records ns (x.rows_at.alike.kinds i) (same_nullable v w h.state i);
-        rows = λ i l. valid_row (is_valid_at w i) (is_valid_at v i) _ _ (h.bits i l) (ap record_of (x.rows_at.rows ns i l));
-      };
-      plain = (x.plain, h.plain);
-      state = h.state;
-      extent = ap struct_extent x.extents;
-      flag = refl;
-      kept = tt;
-    })
 
 -- ---- faults of columns, one after another
 

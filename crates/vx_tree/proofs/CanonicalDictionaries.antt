@@ -1,18 +1,17 @@
 -- Values in plain layout, taken by codes.
-use Rattle.std.proofs.Common.{ℕ, ◌<◌, ◌≡◌, Bool, false, List, [], length, Option, Some, None, refl, sym, ◌∙◌, ap, arith}
+use Rattle.std.proofs.Common.{ℕ, ◌<◌, ◌≡◌, Bool, false, List, [], length, Option, Some, None, refl, sym, ◌∙◌, ap}
 use Rattle.std.proofs.lemmas.Bool.{lt-ltb}
 use Rattle.std.specs.Prelude.{pos, negsuc, nat_lt, is_some, slice_index, if◌then◌else◌}
 use Rattle.vx_base.specs.Rows.{Row, null, boolean, whole, bytes, text, items, record_of, position_in}
 use Rattle.vx_base.specs.Kinds.{is_nullable_kind, or_nullable}
 use Rattle.vx_tree.specs.Tree.{Tree, dictionary, Valid}
-use Rattle.vx_tree.specs.Meaning.{tree_len, kind_of, row_at, is_valid_at, nullable, picked}
-use Rattle.vx_tree.specs.Shapes.{state_of, tree_state, taken_state}
+use Rattle.vx_tree.specs.Meaning.{tree_len, kind_of, row_at, is_valid_at, picked}
+use Rattle.vx_tree.specs.Shapes.{tree_state, taken_state}
 use Rattle.vx_tree.specs.Formed.{IsCode, IsDictionary}
 use Rattle.vx_tree.specs.Plain.{IsPlain}
 use Rattle.vx_tree.specs.Operations.{IsSelected, IsNulled, IsValidityOf, ArePositions, or_zero}
 use Rattle.vx_tree.specs.Extents.{extent_of, rows_extent}
-use Rattle.vx_tree.specs.Canonical.{IsCanonical, IsCanonicalValid, IsPlainNulls}
-use Rattle.vx_tree.proofs.RowNames.{rows_extent-or_nullable}
+use Rattle.vx_tree.specs.Canonical.{IsCanonical, IsCanonicalValid}
 use Rattle.vx_tree.proofs.Canonical.{same_nullable}
 use Rattle.vx_tree.proofs.Dictionaries.{state_of_nulled, state_of_selected}
 use Rattle.vx_tree.proofs.Flags.{flag_of_nulled, flag_of_selected}
@@ -38,33 +37,6 @@ named_values c v s r ps x w plain some codes h are selected nulled =
       state = state_of_nulled s r w nulled ∙ (λ i. taken_state (state_of_selected v s ps selected i) ((h.state ∙ codes.state) i));
       extent = nulled.extent (selected.plain plain) ∙ selected.extent plain ∙ ap (λ b. if b then extent_of v else rows_extent (kind_of v) []) (sym (lt-ltb 0 (tree_len v) some));
       flag = flag_of_nulled s r w nulled (flag_of_selected v s ps selected);
-      kept = tt;
-    }
-
-absent_row : (f : ℕ → Row) (r : Row) → IsCode 0 r → null ≡ picked f (position_in r)
-absent_row f null h = refl
-absent_row f (whole (pos k)) h = absurd (omega (arith, h))
-absent_row f (whole (negsuc k)) h = absurd h
-absent_row f (boolean b) h = absurd h
-absent_row f (bytes b) h = absurd h
-absent_row f (text b) h = absurd h
-absent_row f (items b) h = absurd h
-absent_row f (record_of b) h = absurd h
-
--- of no values each row is null
-pub named_none : (c v r : Tree) (x w : Valid) → IsDictionary c v false → tree_len v ≡ 0 → IsValidityOf c x → IsCanonicalValid x (tree_len c) w
-    → IsPlainNulls (or_nullable (nullable w) (kind_of v)) (tree_len c) (taken_state (tree_state v) (state_of w)) r → IsCanonical (dictionary c v false) r
-named_none c v r x w d none codes h nulls =
-    record {
-      same = record {
-        len = nulls.len;
-        kind = nulls.kind ∙ ap (λ b. or_nullable b (kind_of v)) (same_nullable x w h.state ∙ codes.kind);
-        rows = λ i l. nulls.rows i l ∙ absent_row (row_at v) (row_at c i) (rw none at d.within i l);
-      };
-      plain = nulls.plain;
-      state = nulls.state ∙ ap (taken_state (tree_state v)) (h.state ∙ codes.state);
-      extent = nulls.extent ∙ rows_extent-or_nullable (nullable w) (kind_of v) [] ∙ ap (λ n. if nat_lt 0 n then extent_of v else rows_extent (kind_of v) []) (sym none);
-      flag = nulls.flag;
       kept = tt;
     }
 

@@ -18,14 +18,13 @@ use Rattle.vx_tree.specs.declared.array.ArrayRef.TheDeep.{size-ArrayRef}
 use Rattle.vx_tree.specs.Tree.{Tree, Trees, no_trees, tree, constant, structure, Valid, depth, trees_depth}
 use Rattle.vx_tree.specs.Meaning.{tree_len, kind_of, kinds_of, row_at, fields_at, is_valid_at, nullable, trees_from}
 use Rattle.vx_tree.specs.Shapes.{struct_shape}
-use Rattle.vx_tree.specs.Formed.{AllLen, IsStruct, column_count}
+use Rattle.vx_tree.specs.Formed.{AllLen, column_count}
 use Rattle.vx_tree.specs.Fitting.{AllFormed, ColumnsFormed}
 use Rattle.vx_tree.specs.Faults.{take_overflow, columns_overflow}
-use Rattle.vx_tree.specs.Operations.{IsSlice, IsValidSlice, IsSelected, IsValidSelected, IsNulled, IsValidNulled, IsNulls, IsValidNulls, AreBelow}
+use Rattle.vx_tree.specs.Operations.{IsSlice, IsSelected, IsValidSelected, AreBelow}
 use Rattle.vx_tree.specs.Plain.{ArePlain}
 use Rattle.vx_tree.specs.Extents.{struct_extent, extent, extents_of}
-use Rattle.vx_tree.specs.Columns.{AllReach, AllHave, AreAlike, AreRowsAt, AreSlices, AreSelected, AreFields}
-use Rattle.vx_tree.proofs.Nulled.{nullable_nulled, two, null_row}
+use Rattle.vx_tree.specs.Columns.{AllReach, AllHave, AreAlike, AreRowsAt, AreSelected, AreFields}
 
 -- ---- one of the columns
 
@@ -201,9 +200,6 @@ countable-next n ts i t h l e here = rw (take_more ts i t l, ← e) (more (take 
         let both = or_none (take_overflow w n) (columns_overflow (trees_from us) n) h in
         rw both.0 (more us u both.1 here)
 
-pub countable-all : (n : ℕ) (ts : List Tree) (i : ℕ) → columns_overflow (trees_from (take i ts)) n ≡ None → length ts ≤ i → columns_overflow (trees_from ts) n ≡ None
-countable-all n ts i h l = rw (take_all i ts l) at h
-
 -- the first column that has the fault
 pub overflow-first : (n : ℕ) (ts : List Tree) (i : ℕ) (t : Tree) → columns_overflow (trees_from (take i ts)) n ≡ None → i < length ts → t ≡ get_or ts i t → take_overflow t n ≡ Some overflow
     → columns_overflow (trees_from ts) n ≡ Some overflow
@@ -214,10 +210,6 @@ overflow-first n (u ∷ ts) (suc i) t h l e here =
     rw both.0 (overflow-first n ts i t both.1 (omega arith) e here)
 
 -- ---- records
-
--- columns of other rows make records of other rows
-pub IsStruct-alike : (ns : List (List ℕ)) (ts us : Trees) (m n : ℕ) → IsStruct ns ts m → AreAlike ts n us → IsStruct ns us n
-IsStruct-alike ns ts us m n h a = record { named = h.named ∙ sym a.count; lens = a.lens }
 
 -- values of columns are the fields of the record
 pub fields-named : (ns : List (List ℕ)) (ts : Trees) (i : ℕ) (vs : List (Option ScalarValue)) → length ns ≡ column_count ts → AreFields ts i vs
@@ -255,16 +247,6 @@ record_row : (ns : List (List ℕ)) (ts us : Trees) (v w : Valid) (m n i k : ℕ
     → row_at (structure ns us w n) i ≡ row_at (structure ns ts v m) k
 record_row ns ts us v w m n i k a b = rw (a, b) refl
 
-pub struct_sliced : (t u : Tree) (ns : List (List ℕ)) (ts us : Trees) (v w : Valid) (m start n : ℕ) → t ≡ structure ns ts v m → u ≡ structure ns us w n
-    → AreSlices ts start n us → IsValidSlice v start n w → IsSlice t start n u
-struct_sliced t u ns ts us v w m start n a b h s =
-    rw (a, b) (record {
-      len = refl;
-      kind = λ i. records ns (h.alike.kinds i) (s.kind i);
-      shape = ap struct_shape s.state;
-      rows = λ i l. record_row ns ts us v w m n i (start + i) (s.bits i l) (h.rows ns i l);
-    })
-
 pub struct_selected : (t u : Tree) (ns : List (List ℕ)) (ts us : Trees) (v w : Valid) (m : ℕ) (ps : List ℕ) → t ≡ structure ns ts v m → u ≡ structure ns us w (length ps)
     → AreSelected ts ps us → IsValidSelected v ps w → IsSelected t ps u
 struct_selected t u ns ts us v w m ps a b h s =
@@ -275,25 +257,4 @@ struct_selected t u ns ts us v w m ps a b h s =
       plain = λ p. (h.plain p.0, s.plain p.1);
       extent = λ p. ap struct_extent (h.extents p.0);
       rows = λ i l. record_row ns ts us v w m (length ps) i (slice_index ps i) (s.bits i l) (h.rows_at.rows ns i l);
-    })
-
-pub struct_nulled : (t r : Tree) (ns : List (List ℕ)) (ts : Trees) (v u w : Valid) (n : ℕ) → t ≡ structure ns ts v n → r ≡ structure ns ts w n → IsValidNulled v u n w → IsNulled t u r
-struct_nulled t r ns ts v u w n a b h =
-    rw (a, b) (record {
-      len = refl;
-      kind = ap (records ns (kinds_of ts)) (nullable_nulled v u w h.state);
-      shape = ap struct_shape h.state;
-      plain = λ p q. (p.0, h.plain p.1 q);
-      extent = λ p. refl;
-      rows = λ i l. two (is_valid_at w i) (is_valid_at v i) (is_valid_at u i) _ (h.bits i l);
-    })
-
-pub struct_nulls : (t r : Tree) (ns : List (List ℕ)) (ts us : Trees) (v u w : Valid) (m n : ℕ) → t ≡ structure ns ts v m → r ≡ structure ns us w n
-    → AreAlike ts n us → IsValidNulls v u n w → IsNulls t n u r
-struct_nulls t r ns ts us v u w m n a b alike h =
-    rw (a, b) (record {
-      len = refl;
-      kind = λ i. records ns (alike.kinds i) (nullable_nulled v u w h.state i);
-      shape = ap struct_shape h.state;
-      rows = λ i l. null_row (is_valid_at w i) _ (h.bits i l);
     })

@@ -8,7 +8,7 @@ use Rattle.vx_base.specs.Kinds.{Kind, integers, is_integers}
 use Rattle.vx_base.specs.SameKind.{kind_eq, kind_eq-Decides}
 use Rattle.vx_base.specs.Rows.{Row, null}
 use Rattle.vx_base.specs.Booleans.{count_fault}
-use Rattle.vx_base.specs.Refusals.{Refusal, or_else, IsMemoryOr, Names, differing_dtypes}
+use Rattle.vx_base.specs.Refusals.{Refusal, or_else, IsMemoryOr, differing_dtypes}
 use Rattle.vx_base.specs.declared.errors.VortexError.{VortexError}
 use Rattle.vx_base.specs.declared.ptypes.PType.{PType}
 use Rattle.vx_tree.specs.Tree.{Tree}
@@ -23,7 +23,6 @@ use Rattle.vx_tree.specs.Extents.{extent_of}
 use Rattle.vx_tree.specs.Concatenated.{are_alike, given_fault, extents_fault, plain_fault, concat_fault}
 use Rattle.vx_tree.proofs.RowLists.{length-rows, get_or-rows}
 use Rattle.vx_tree.proofs.JoinedRows.{length-joined, joined_item, joined_same, joined-here, joined-later}
-use Rattle.vx_tree.proofs.JoinedParts.{first_named}
 use Rattle.vx_tree.proofs.JoinedExtents.{extents_fault-of}
 use Rattle.vx_tree.proofs.JoinedNumbers.{columns_faultless}
 use Rattle.vx_tree.proofs.Dictionaries.{memory_only}
@@ -147,23 +146,11 @@ rows_concatenated k ts ps r h joined = rows_joined k ts r (plain_joined k ts ps 
 
 -- ---- faults
 
-given_differing : (ts : List Tree) (t : Tree) → 0 < length ts → t ≡ get_or ts 0 t → are_alike (kind_of t) ts ≡ false → given_fault ts ≡ Some differing_dtypes
-given_differing [] t l e h = absurd (omega arith)
-given_differing (u ∷ ts) t l e h =
-    let no : are_alike (kind_of u) (u ∷ ts) ≡ false = subst (λ x. are_alike (kind_of x) (u ∷ ts) ≡ false) e h in
-    ap (λ b. or_else (if b then None else Some differing_dtypes) (or_else (count_fault (joined_len (u ∷ ts))) (columns_fault (trees_from (u ∷ ts))))) no
-
 given_alike : (ts : List Tree) (t : Tree) → 0 < length ts → t ≡ get_or ts 0 t → are_alike (kind_of t) ts ≡ true → given_fault ts ≡ or_else (count_fault (joined_len ts)) (columns_fault (trees_from ts))
 given_alike [] t l e h = absurd (omega arith)
 given_alike (u ∷ ts) t l e h =
     let yes : are_alike (kind_of u) (u ∷ ts) ≡ true = subst (λ x. are_alike (kind_of x) (u ∷ ts) ≡ true) e h in
     ap (λ b. or_else (if b then None else Some differing_dtypes) (or_else (count_fault (joined_len (u ∷ ts))) (columns_fault (trees_from (u ∷ ts))))) yes
-
-given_long : (ts : List Tree) (t : Tree) (e : VortexError) → 0 < length ts → t ≡ get_or ts 0 t → are_alike (kind_of t) ts ≡ true → Names (count_fault (joined_len ts)) e → IsMemoryOr (given_fault ts) e
-given_long ts t e l first h named = rw (given_alike ts t l first h) (first_named (count_fault (joined_len ts)) (columns_fault (trees_from ts)) e named)
-
-given_plain : (ts : List Tree) (t : Tree) (e : VortexError) → 0 < length ts → t ≡ get_or ts 0 t → are_alike (kind_of t) ts ≡ true → count_fault (joined_len ts) ≡ None → IsMemoryOr (columns_fault (trees_from ts)) e → IsMemoryOr (given_fault ts) e
-given_plain ts t e l first h none named = rw (given_alike ts t l first h, none) named
 
 pub given_none : (ts : List Tree) (t : Tree) → 0 < length ts → t ≡ get_or ts 0 t → are_alike (kind_of t) ts ≡ true → count_fault (joined_len ts) ≡ None → columns_fault (trees_from ts) ≡ None → given_fault ts ≡ None
 given_none ts t l first h none plain = given_alike ts t l first h ∙ ap (λ f. or_else f (columns_fault (trees_from ts))) none ∙ plain
@@ -173,15 +160,6 @@ first_fault : (a b : Option Refusal) (e : VortexError) → IsMemoryOr a e → Is
 first_fault a b e (inl memory) = inl memory
 first_fault None b e (inr same) = inl (memory_only None e refl (inr same))
 first_fault (Some r) b e (inr same) = inr same
-
-pub concat_differing : (ts : List Tree) (t : Tree) → 0 < length ts → t ≡ get_or ts 0 t → are_alike (kind_of t) ts ≡ false → concat_fault ts ≡ Some differing_dtypes
-concat_differing ts t l first h = ap (λ f. or_else f (plain_fault ts)) (given_differing ts t l first h)
-
-pub concat_long : (ts : List Tree) (t : Tree) (e : VortexError) → 0 < length ts → t ≡ get_or ts 0 t → are_alike (kind_of t) ts ≡ true → Names (count_fault (joined_len ts)) e → IsMemoryOr (concat_fault ts) e
-concat_long ts t e l first h named = first_fault (given_fault ts) (plain_fault ts) e (given_long ts t e l first h named)
-
-pub concat_plain : (ts : List Tree) (t : Tree) (e : VortexError) → 0 < length ts → t ≡ get_or ts 0 t → are_alike (kind_of t) ts ≡ true → count_fault (joined_len ts) ≡ None → IsMemoryOr (columns_fault (trees_from ts)) e → IsMemoryOr (concat_fault ts) e
-concat_plain ts t e l first h none named = first_fault (given_fault ts) (plain_fault ts) e (given_plain ts t e l first h none named)
 
 -- the extents are those in plain layout
 extents_same : (ts ps : List Tree) → AllZip IsCanonical ts ps → map extent_of ps ≡ map extent_of ts

@@ -14,7 +14,7 @@ use Rattle.vx_tree.specs.Meaning.{row_at, tree_len, kind_of, is_valid_at, nullab
 use Rattle.vx_tree.specs.Shapes.{State, never_null, none_null, every_null, told, Shape, bool_shape, primitive_shape, constant_shape, dictionary_shape, fixed_list_shape, list_view_shape, struct_shape, view_shape, state_of, taken_state, row_state, tree_state, shape_of, sliced_shape, selected_shape, nulled_constant, nulled_shape}
 use Rattle.vx_tree.specs.Formed.{IsCode, IsDictionary}
 use Rattle.vx_tree.specs.Faults.{index_fault, indices_fault, take_overflow}
-use Rattle.vx_tree.specs.Operations.{IsSlice, IsSelected, IsNulled, IsNulls, IsZeroCodes, IsValidityOf, IsValidSelected, IsValidNulled, IsValidNulls, ArePositions, AreBelow, or_zero}
+use Rattle.vx_tree.specs.Operations.{IsSlice, IsSelected, IsNulled, IsNulls, IsZeroCodes, IsValidityOf, IsValidSelected, IsValidNulled, ArePositions, AreBelow, or_zero}
 use Rattle.vx_tree.proofs.Nulled.{nullable_nulled}
 
 -- ---- kinds
@@ -278,15 +278,6 @@ constant_without_nulls t k r n all_valid e a = absurd (cc)
 constant_without_nulls t k r n all_invalid e a = absurd (cc)
 constant_without_nulls t k r n (by_array m) e a = absurd (cc)
 
-pub constant_nulls : (t s : Tree) (u : Valid) (k : Kind) (r : Row) (m n : ℕ) → t ≡ constant k r m → ((i : ℕ) → i < n → is_valid_at u i ≡ false) → IsNulled (constant k r n) u s → IsNulls t n u s
-constant_nulls t s u k r m n a none h =
-    rw a (record {
-      len = h.len;
-      kind = h.kind;
-      shape = h.shape;
-      rows = λ i l. h.rows i l ∙ ap (λ b. if b then r else null) (none i l);
-    })
-
 -- ---- reading
 
 code_faultless : (n i : ℕ) (r : Row) → IsCode n r → index_fault n i r ≡ None
@@ -359,29 +350,6 @@ absent f (bytes b) h = absurd h
 absent f (text b) h = absurd h
 absent f (items b) h = absurd h
 absent f (record_of b) h = absurd h
-
-pub validity_absent : (t c v : Tree) (f : Bool) (x y w : Valid) → t ≡ dictionary c v f → IsDictionary c v f → tree_len v ≡ 0 → IsValidityOf c x → IsValidityOf v y → IsValidNulls y x (tree_len c) w → IsValidityOf t w
-validity_absent t c v f x y w a d none codes values n =
-    rw a (record {
-      fits = n.fits;
-      state = n.state ∙ ap (λ q. taken_state q (state_of x)) values.state ∙ ap (taken_state (tree_state v)) codes.state;
-      kind = nullable_nulled y x w n.state ∙ ap (λ b. b || nullable y) codes.kind ∙ ap (λ b. is_nullable_kind (kind_of c) || b) values.kind ∙ sym (nullable_either (is_nullable_kind (kind_of c)) (kind_of v));
-      bits = λ i l. n.bits i l ∙ absent (row_at v) (row_at c i) (rw none at d.within i l);
-    })
-
--- of no values no code is valid
-pub codes_absent : (c v : Tree) (f : Bool) (x : Valid) → IsDictionary c v f → tree_len v ≡ 0 → IsValidityOf c x → (i : ℕ) → i < tree_len c → is_valid_at x i ≡ false
-codes_absent c v f x d none codes i l = codes.bits i l ∙ gone (row_at c i) (rw none at d.within i l)
-  where
-    gone : (r : Row) → IsCode 0 r → is_present r ≡ false
-    gone null h = refl
-    gone (whole (pos k)) h = absurd (omega (arith, h))
-    gone (whole (negsuc k)) h = absurd h
-    gone (boolean b) h = absurd h
-    gone (bytes b) h = absurd h
-    gone (text b) h = absurd h
-    gone (items b) h = absurd h
-    gone (record_of b) h = absurd h
 
 pub ruleset sliced = (codes_sliced, dictionary_sliced)
 

@@ -29,7 +29,7 @@ mask_by_place : (mask : List Bool) → mask ≡ map (bool_at mask) (range_with_l
 mask_by_place mask = fill_by_all (bool_at mask) mask (length mask) false refl (λ i l. refl)
 
 -- the rows that are selected
-rows_selected : (t r : Tree) (ps : List ℕ) → IsSelected t ps r → rows r ≡ map (row_at t) ps
+pub rows_selected : (t r : Tree) (ps : List ℕ) → IsSelected t ps r → rows r ≡ map (row_at t) ps
 rows_selected t r ps s =
     rw s.len (sym (fill_by_all (row_at r) (map (row_at t) ps) (length ps) null (length-map ps (row_at t)) (λ i l. get_or-map (row_at t) ps i 0 null l ∙ sym (s.rows i l))))
 

@@ -1,7 +1,7 @@
 -- Lists of one size: what becomes of them by what becomes of their elements.
 use Rattle.std.proofs.Common.{ℕ, zero, suc, ◌+◌, ◌-◌, ◌*◌, ◌^◌, ◌<◌, ◌≤◌, ◌≡◌, Bool, true, false, List, [], ◌∷◌, length, get_or, ltb, Some, None, refl, sym, ◌∙◌, ap, subst, add-zero, arith}
 use Rattle.std.specs.Prelude.{slice_index, if◌then◌else◌}
-use Rattle.std.specs.List.{All, flat_map, range_with_len}
+use Rattle.std.specs.List.{flat_map, range_with_len}
 use Rattle.std.proofs.Math.Nat.{mul-le-mul_right}
 use Rattle.std.proofs.lemmas.List.{get_or_append_left, get_or-append-add}
 use Rattle.std.proofs.lemmas.List.Elements.{All-nil, All-append}
@@ -96,11 +96,6 @@ lists_below k n (p ∷ ps) all =
         let P : ℕ → Type 0 = λ q. q < n * k in
         let inside : i < k = omega (arith, length-range_with_len (p * k) k) in
         subst P (sym (get_or-range_with_len (p * k) k i d inside)) (place_within p i n k (all 0 d (omega arith)) inside)
-
-pub lists_fit : (k n : ℕ) (ps : List ℕ) → AreBelow n ps → n * k < 2 ^ 64 → All (λ q. q * k + k < 2 ^ 64) ps
-lists_fit k n ps all small = λ i d l.
-    let scaled : (get_or ps i d + 1) * k ≤ n * k = mul-le-mul_right k (omega (arith, all i d l)) in
-    omega arith
 
 pub fixed_lists_selected : (t u e r : Tree) (k m : ℕ) (v w : Valid) (ps : List ℕ) → t ≡ fixed_list e k v m → u ≡ fixed_list r k w (length ps)
     → IsSelected e (flat_map (list_positions k) ps) r → IsValidSelected v ps w → IsSelected t ps u

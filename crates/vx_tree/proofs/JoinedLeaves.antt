@@ -108,9 +108,6 @@ numbers-append p bs cs n m e f =
 numbers_in : PType → Tree → List ℤ
 numbers_in p t = numbers p (bytes_in t)
 
-numbers-whole : (p : PType) (t : Tree) → AreNumbers p t → length (bytes_in t) ≡ tree_len t * byte_width p
-numbers-whole p t h = h.bytes
-
 pub numbers_joined_len : (p : PType) (ts : List Tree) → All (AreNumbers p) ts → length (flat_map bytes_in ts) ≡ joined_len ts * byte_width p
 numbers_joined_len p [] h = omega arith
 numbers_joined_len p (t ∷ ts) h =

@@ -1,6 +1,6 @@
 -- Numbers of arrays that are joined, appended array by array.
 use Rattle.std.proofs.Common.{ℕ, ◌+◌, ◌-◌, ◌*◌, ◌/◌, ◌<◌, ◌≤◌, ◌≡◌, Bool, true, false, List, [], ◌∷◌, ◌++◌, length, get_or, take, map, replicate, Option, Some, None, refl, sym, ◌∙◌, ap, subst, inl, inr, suc, arith}
-use Rattle.std.specs.Prelude.{ℤ, pos, negsuc, ◌&&◌, nat_lt, IfSome, slice_index, if◌then◌else◌}
+use Rattle.std.specs.Prelude.{ℤ, pos, negsuc, IfSome, slice_index, if◌then◌else◌}
 use Rattle.std.specs.Option.{unwrap_or}
 use Rattle.std.specs.List.{All}
 use Rattle.std.proofs.lemmas.Bool.{cases_lt}
@@ -263,7 +263,7 @@ none_either true e = e
 none_either false e = refl
 
 constant_faultless : (k : Kind) (r : Row) (n : ℕ) → is_integers k ≡ true → constant_fault k r n ≡ None
-constant_faultless (integers p m) r n e = ap (λ f. or_else f None) (none_either (is_present r && nat_lt 0 n) refl)
+constant_faultless (integers p m) r n e = ap (λ f. or_else f None) (none_either (is_present r) refl)
 constant_faultless (booleans m) r n e = cc
 constant_faultless (texts m) r n e = cc
 constant_faultless (binaries m) r n e = cc

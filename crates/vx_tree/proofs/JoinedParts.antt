@@ -1,22 +1,18 @@
 -- The parts of plain arrays of one kind, and the faults of joining them.
-use Rattle.std.proofs.Common.{ℕ, zero, suc, ◌+◌, ◌<◌, ◌≤◌, ◌≡◌, ◌^◌, ◌++◌, Bool, true, false, List, [], ◌∷◌, length, map, take, get_or, Option, Some, None, refl, sym, ◌∙◌, ap, subst, inl, inr, arith}
+use Rattle.std.proofs.Common.{ℕ, zero, suc, ◌+◌, ◌<◌, ◌≤◌, ◌≡◌, ◌++◌, Bool, true, false, List, [], ◌∷◌, length, map, take, get_or, Option, Some, None, refl, sym, ◌∙◌, ap, subst, inl, inr, arith}
 use Rattle.std.specs.List.{All}
-use Rattle.std.proofs.lemmas.Bool.{cases_lt, le-ltb}
 use Rattle.std.proofs.lemmas.List.{take_more, take_all, length-map, length-take-le, get_or-map}
-use Rattle.vx_base.specs.declared.ptypes.PType.{PType}
 use Rattle.vx_base.specs.declared.errors.VortexError.{VortexError}
-use Rattle.vx_base.specs.Booleans.{count_fault}
 use Rattle.vx_base.specs.Refusals.{Refusal, refusal_of, IsMemoryOr, Names, or_else}
-use Rattle.vx_base.specs.Kinds.{Kind, booleans, integers, lists, fixed_lists, records, Kinds, no_kinds, kind}
-use Rattle.vx_tree.specs.Tree.{Tree, bools, primitive, constant, dictionary, fixed_list, list_view, structure, view_array, Trees, no_trees, tree, Valid}
-use Rattle.vx_tree.specs.Layouts.{is_bools, is_fixed_list, is_list_view, is_struct}
-use Rattle.vx_tree.specs.Meaning.{kind_of, kinds_of, trees_from, nullable, is_texts}
+use Rattle.vx_base.specs.Kinds.{Kind, lists, fixed_lists, records, Kinds, no_kinds, kind}
+use Rattle.vx_tree.specs.Tree.{Tree, bools, primitive, constant, dictionary, fixed_list, list_view, structure, view_array, Trees, no_trees, tree}
+use Rattle.vx_tree.specs.Layouts.{is_fixed_list, is_list_view, is_struct}
+use Rattle.vx_tree.specs.Meaning.{kind_of, kinds_of, trees_from, is_texts}
 use Rattle.vx_tree.specs.Formed.{value_kind}
 use Rattle.vx_tree.specs.Fitting.{AllFormed, ColumnsFormed}
 use Rattle.vx_tree.specs.Plain.{IsPlain, ArePlain}
 use Rattle.vx_tree.specs.PlainValues.{buffers_overflow}
-use Rattle.vx_tree.specs.Joined.{IsJoined, IsValidJoined, AreNumbers, AreFixedLists, AreLists, AreRecords, AreValues, joined_buffers, AreJoinable, AreColumnsJoinable, AreColumnsJoined, elements_in, columns_in, column_of, column_at, parts_join_fault, columns_join_fault, join_fault}
-use Rattle.vx_tree.proofs.JoinedLeaves.{bools_of_kind, numbers_of_kind}
+use Rattle.vx_tree.specs.Joined.{IsJoined, AreFixedLists, AreLists, AreRecords, AreValues, joined_buffers, AreJoinable, AreColumnsJoinable, AreColumnsJoined, elements_in, columns_in, column_of, column_at, parts_join_fault, columns_join_fault, join_fault}
 use Rattle.vx_tree.proofs.JoinedKinds.{fixed_lists_of_kind, lists_of_kind, records_of_kind}
 use Rattle.vx_tree.proofs.JoinedRecords.{count_of_list}
 use Rattle.vx_tree.proofs.JoinedViews.{values_of_kind}
@@ -24,32 +20,14 @@ use Rattle.vx_tree.proofs.Dictionaries.{memory_only}
 
 -- ---- faults
 
-pub short_of_none : (n : ℕ) → count_fault n ≡ None → n < 2 ^ 64
-short_of_none n h = elim (cases_lt n (2 ^ 64)) [
-  | inl short ↦ short
-  | inr long ↦ absurd (none (rw (le-ltb n (2 ^ 64) long) at h))
-]
-  where
-    none : {r : Refusal} → Some r ≡ None → ⊥
-    none e = cc
-
 pub first_named : (a b : Option Refusal) (e : VortexError) → Names a e → IsMemoryOr (or_else a b) e
 first_named None b e h = inl (memory_only None e refl (inr h.1))
 first_named (Some r) b e h = inr h.1
 
 -- ---- one kind
 
-pub own_nullable : (n : Bool) (ts : List Tree) (v : Valid) → IsValidJoined n ts v → IsValidJoined (nullable v) ts v
-own_nullable n ts v h = rw h.kind h
-
 each-of : {P : Tree → Type 0} (k : Kind) (ts : List Tree) → AreJoinable k ts → ((t : Tree) → IsPlain t → AllFormed t → kind_of t ≡ k → P t) → All P ts
 each-of k ts h f = λ i d l. f (get_or ts i d) (h.plain i d l) (h.formed i d l) (h.alike i d l)
-
-pub all_bools : (n : Bool) (ts : List Tree) → AreJoinable (booleans n) ts → All (λ t. is_bools t ≡ true) ts
-all_bools n ts h = each-of (booleans n) ts h (λ t p f e. bools_of_kind t n p f e)
-
-pub all_numbers : (p : PType) (n : Bool) (ts : List Tree) → AreJoinable (integers p n) ts → All (AreNumbers p) ts
-all_numbers p n ts h = each-of (integers p n) ts h (λ t q f e. numbers_of_kind t p n q f e)
 
 pub all_values : (k : Kind) (u n : Bool) (ts : List Tree) → k ≡ value_kind u n → AreJoinable k ts → All (AreValues (is_texts k)) ts
 all_values k u n ts e h = each-of k ts h (λ t p f q. values_of_kind t u n k e p f q)

@@ -283,9 +283,6 @@ of_booleans ts parts h state =
       bits = joined_mask-at ts parts h;
     }
 
-self_alike : (v : Valid) (parts : List (Validity × ℕ)) (part : Validity × ℕ) → valid_of part.0 ≡ v → are_all v (part ∷ parts) ≡ true → is_unchanged v v ≡ true
-self_alike v parts part e all = both-first (is_unchanged v v) (are_all v parts) (rw e at all)
-
 pub valid_joined : (n : Bool) (ts : List Tree) (parts : List (Validity × ℕ)) (w : Valid) → ArePartsOf ts parts → All (λ t. is_nullable_kind (kind_of t) ≡ n) ts → joined_validity parts ≡ Some w
     → IsValidJoined n ts w
 valid_joined n [] [] w h nulls e = cc

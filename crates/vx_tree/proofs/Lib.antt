@@ -28,6 +28,7 @@ pub mod PlainTexts
 pub mod PlainParts
 pub mod CanonicalDictionaries
 pub mod Filtered
+pub mod Runs
 pub mod Validities
 pub mod Patched
 pub mod Compared

@@ -1,9 +1,8 @@
 -- The masks of validities, and the bits of plain booleans.
-use Rattle.std.proofs.Common.{ℕ, ◌+◌, ◌<◌, ◌≡◌, Bool, true, false, List, length, map, replicate, get_or, set, refl, sym, ◌∙◌, arith, length-set}
+use Rattle.std.proofs.Common.{ℕ, ◌<◌, ◌≡◌, Bool, true, false, List, length, map, replicate, get_or, refl, sym, ◌∙◌, arith}
 use Rattle.std.specs.List.{range_with_len}
 use Rattle.std.proofs.lemmas.List.FromFn.{fill_by_all}
-use Rattle.std.proofs.lemmas.List.{get_or-replicate, length-replicate, get_or-set_same, get_or-set_other}
-use borrow.Author.Count.{below_more}
+use Rattle.std.proofs.lemmas.List.{get_or-replicate, length-replicate}
 use Rattle.vx_base.specs.Rows.{Row, truth_of}
 use Rattle.vx_base.specs.Kinds.{Kind, booleans, integers, texts, binaries, lists, fixed_lists, records, is_plain_booleans}
 use Rattle.vx_tree.specs.Tree.{Tree, bools, constant, Valid, non_nullable, all_valid, all_invalid, by_array}
@@ -42,14 +41,6 @@ truths_of_constant t k r n e =
 pub record AreTruths (t : Tree) (n : ℕ) (bits : List Bool) : Type 0 where
   pub long : length bits ≡ tree_len t
   pub each : (i : ℕ) → i < n → get_or bits i false ≡ truth_of (row_at t i)
-
--- one more
-pub AreTruths-more : (t : Tree) (n : ℕ) (bits : List Bool) (b : Bool) → n < length bits → AreTruths t n bits → b ≡ truth_of (row_at t n) → AreTruths t (n + 1) (set bits n b)
-AreTruths-more t n bits b inside h here =
-    record {
-      long = length-set bits n b ∙ h.long;
-      each = below_more (λ i. get_or (set bits n b) i false ≡ truth_of (row_at t i)) n (λ i l. get_or-set_other bits n i b false (omega arith) ∙ h.each i l) (get_or-set_same bits n b false inside ∙ here);
-    }
 
 -- all of them
 pub AreTruths-all : (t : Tree) (n : ℕ) (bits : List Bool) → n ≡ length bits → AreTruths t n bits → bits ≡ map (λ i. truth_of (row_at t i)) (range_with_len 0 (tree_len t))

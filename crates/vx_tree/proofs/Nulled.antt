@@ -9,12 +9,12 @@ use Rattle.vx_base.specs.declared.ptypes.PType.TheVariants.{U8}
 use Rattle.vx_base.specs.Integers.{numbers, number_nth}
 use Rattle.vx_base.specs.Rows.{Row, null, whole, truth_of}
 use Rattle.vx_base.specs.Bits.{bool_at, both}
-use Rattle.vx_base.specs.Kinds.{booleans, integers, lists, fixed_lists}
-use Rattle.vx_tree.specs.Tree.{Tree, bools, primitive, fixed_list, list_view, Valid, non_nullable, by_array}
+use Rattle.vx_base.specs.Kinds.{lists}
+use Rattle.vx_tree.specs.Tree.{Tree, bools, primitive, list_view, Valid, non_nullable, by_array}
 use Rattle.vx_tree.specs.Meaning.{row_at, tree_len, kind_of, is_valid_at, nullable}
-use Rattle.vx_tree.specs.Shapes.{State, bool_shape, primitive_shape, fixed_list_shape, list_view_shape, never_null, none_null, every_null, told, state_of, is_nullable_state, taken_state}
+use Rattle.vx_tree.specs.Shapes.{State, list_view_shape, never_null, none_null, every_null, told, state_of, is_nullable_state, taken_state}
 use Rattle.vx_tree.specs.Formed.{ValidFits, IsMask}
-use Rattle.vx_tree.specs.Operations.{IsNulled, IsValidNulled, IsNulls, IsValidNulls, IsZeroes, IsZeroCodes}
+use Rattle.vx_tree.specs.Operations.{IsNulled, IsValidNulled, IsZeroes, IsZeroCodes}
 use Rattle.vx_tree.proofs.Selected.{nullable-state}
 
 pub nullable-taken_state : (s index : State) → is_nullable_state (taken_state s index) ≡ (is_nullable_state index || is_nullable_state s)
@@ -48,28 +48,6 @@ two a false false r e = rw e refl
 
 -- ---- layouts
 
-pub bools_nulled : (t r : Tree) (bits : List Bool) (v u w : Valid) → t ≡ bools bits v → r ≡ bools bits w → IsValidNulled v u (length bits) w → IsNulled t u r
-bools_nulled t r bits v u w a b h =
-    rw (a, b) (record {
-      len = refl;
-      kind = ap booleans (nullable_nulled v u w h.state);
-      shape = ap bool_shape h.state;
-      plain = h.plain;
-      extent = λ p. refl;
-      rows = λ i l. two (is_valid_at w i) (is_valid_at v i) (is_valid_at u i) _ (h.bits i l);
-    })
-
-pub numbers_nulled : (t r : Tree) (p : PType) (bs : List ℕ) (v u w : Valid) → t ≡ primitive p bs v → r ≡ primitive p bs w → IsValidNulled v u (length (numbers p bs)) w → IsNulled t u r
-numbers_nulled t r p bs v u w a b h =
-    rw (a, b) (record {
-      len = refl;
-      kind = ap (integers p) (nullable_nulled v u w h.state);
-      shape = ap primitive_shape h.state;
-      plain = h.plain;
-      extent = λ p. refl;
-      rows = λ i l. two (is_valid_at w i) (is_valid_at v i) (is_valid_at u i) _ (h.bits i l);
-    })
-
 pub lists_nulled : (t r e o s : Tree) (v u w : Valid) (f : Bool) → t ≡ list_view e o s v f → r ≡ list_view e o s w f → IsValidNulled v u (tree_len o) w → IsNulled t u r
 lists_nulled t r e o s v u w f a b h =
     rw (a, b) (record {
@@ -77,17 +55,6 @@ lists_nulled t r e o s v u w f a b h =
       kind = ap (lists (kind_of e)) (nullable_nulled v u w h.state);
       shape = ap (λ st. list_view_shape e st f) h.state;
       plain = λ p q. (p.0, p.1, p.2, h.plain p.3 q);
-      extent = λ p. refl;
-      rows = λ i l. two (is_valid_at w i) (is_valid_at v i) (is_valid_at u i) _ (h.bits i l);
-    })
-
-pub fixed_lists_nulled : (t r e : Tree) (k n : ℕ) (v u w : Valid) → t ≡ fixed_list e k v n → r ≡ fixed_list e k w n → IsValidNulled v u n w → IsNulled t u r
-fixed_lists_nulled t r e k n v u w a b h =
-    rw (a, b) (record {
-      len = refl;
-      kind = ap (fixed_lists (kind_of e) k) (nullable_nulled v u w h.state);
-      shape = ap fixed_list_shape h.state;
-      plain = λ p q. (p.0, h.plain p.1 q);
       extent = λ p. refl;
       rows = λ i l. two (is_valid_at w i) (is_valid_at v i) (is_valid_at u i) _ (h.bits i l);
     })
@@ -142,42 +109,6 @@ valid_arrays v u w m o len a b fits h =
 
 pub null_row : (b : Bool) (r : Row) → b ≡ false → (if b then r else null) ≡ null
 null_row b r e = rw e refl
-
-pub bools_nulls : (t r : Tree) (bits new : List Bool) (v u w : Valid) (n : ℕ) → t ≡ bools bits v → r ≡ bools new w → length new ≡ n → IsValidNulls v u n w → IsNulls t n u r
-bools_nulls t r bits new v u w n a b long h =
-    rw (a, b) (record {
-      len = long;
-      kind = ap booleans (nullable_nulled v u w h.state);
-      shape = ap bool_shape h.state;
-      rows = λ i l. null_row (is_valid_at w i) _ (h.bits i l);
-    })
-
-pub numbers_nulls : (t r : Tree) (p : PType) (bs new : List ℕ) (v u w : Valid) (n : ℕ) → t ≡ primitive p bs v → r ≡ primitive p new w → length (numbers p new) ≡ n → IsValidNulls v u n w → IsNulls t n u r
-numbers_nulls t r p bs new v u w n a b long h =
-    rw (a, b) (record {
-      len = long;
-      kind = ap (integers p) (nullable_nulled v u w h.state);
-      shape = ap primitive_shape h.state;
-      rows = λ i l. null_row (is_valid_at w i) _ (h.bits i l);
-    })
-
-pub lists_nulls : (t r e o s o2 s2 : Tree) (v u w : Valid) (f : Bool) (p : PType) (n : ℕ) → t ≡ list_view e o s v f → r ≡ list_view e o2 s2 w false → IsZeroes p n o2 → IsValidNulls v u n w → IsNulls t n u r
-lists_nulls t r e o s o2 s2 v u w f p n a b z h =
-    rw (a, b) (record {
-      len = z.len;
-      kind = ap (lists (kind_of e)) (nullable_nulled v u w h.state);
-      shape = ap (λ st. list_view_shape e st false) h.state;
-      rows = λ i l. null_row (is_valid_at w i) _ (h.bits i l);
-    })
-
-pub fixed_lists_nulls : (t r e d : Tree) (k m n : ℕ) (v u w : Valid) → t ≡ fixed_list e k v m → r ≡ fixed_list d k w n → kind_of d ≡ kind_of e → IsValidNulls v u n w → IsNulls t n u r
-fixed_lists_nulls t r e d k m n v u w a b same h =
-    rw (a, b) (record {
-      len = refl;
-      kind = λ i. fixed_lists (same i) k (nullable_nulled v u w h.state i);
-      shape = ap fixed_list_shape h.state;
-      rows = λ i l. null_row (is_valid_at w i) _ (h.bits i l);
-    })
 
 pub zeroes_made : (t : Tree) (p : PType) (bs : List ℕ) (n : ℕ) → t ≡ primitive p bs non_nullable → numbers p bs ≡ map pos (replicate n 0) → IsZeroes p n t
 zeroes_made t p bs n a e =

@@ -1,11 +1,10 @@
 -- Values that are lists or records, in plain layout.
-use Rattle.std.proofs.Common.{ℕ, zero, suc, ◌+◌, ◌*◌, ◌-◌, ◌^◌, ◌<◌, ◌≤◌, ◌≡◌, Bool, true, false, List, [], ◌∷◌, ◌++◌, length, map, take, drop, replicate, get_or, Option, Some, None, refl, sym, ◌∙◌, ap, subst, zero-add, inl, inr, arith}
-use Rattle.std.specs.Prelude.{◌&&◌, ◌↔◌, IsTrue, nat_lt, slice_index, slice_index_or, if◌then◌else◌}
+use Rattle.std.proofs.Common.{ℕ, zero, suc, ◌+◌, ◌*◌, ◌-◌, ◌<◌, ◌≤◌, ◌≡◌, Bool, true, false, List, [], ◌∷◌, ◌++◌, length, map, take, drop, replicate, get_or, Option, Some, None, refl, sym, ◌∙◌, ap, subst, zero-add, inl, inr, arith}
+use Rattle.std.specs.Prelude.{◌↔◌, IsTrue, slice_index, slice_index_or, if◌then◌else◌}
 use Rattle.std.specs.List.{All, flat_map, range_with_len}
 use Rattle.std.proofs.lemmas.Grind.{flat_map-append}
 use Rattle.std.proofs.lemmas.List.Elements.{All-nil, All-append}
-use Rattle.std.proofs.lemmas.Bool.{lt-ltb, le-ltb}
-use Rattle.std.proofs.lemmas.List.{length-map, length-take-le, get_or_past, get_or-map, length-append, append-nil, take_more, take_all, drop_all, map-append, length-replicate}
+use Rattle.std.proofs.lemmas.List.{length-map, length-take-le, get_or_past, get_or-map, length-append, append-nil, take_more, take_all, map-append, length-replicate}
 use Rattle.std.proofs.lemmas.List.FromFn.{map-range_with_len_more, get_or-map-range_with_len, length-map-range_with_len}
 use Rattle.std.proofs.lemmas.List.Concat.{get_or-flat_map}
 use Rattle.std.proofs.lemmas.List.Folds.{length-flat_map-take}
@@ -17,12 +16,11 @@ use Rattle.vx_base.proofs.Defaults.{take_push}
 use Rattle.vx_base.proofs.StructKinds.{from_place}
 use Rattle.vx_base.specs.DTypes.{dtype_meaning, kinds_of as dtype_kinds}
 use Rattle.vx_base.specs.Defaults.{default_fault}
-use Rattle.vx_tree.specs.Shapes.{state_of, never_null, none_null, every_null}
 use Rattle.vx_tree.specs.Faults.{take_overflow}
 use Rattle.vx_tree.specs.Fitting.{AllFormed}
 use Rattle.vx_tree.specs.Canonical.{IsCanonical, plain_overflow, canonical_fault}
-use Rattle.vx_base.specs.Kinds.{Kind, booleans, integers, texts, binaries, lists, fixed_lists, records, Kinds, no_kinds, kind, Fits, AllFit, FieldsFit, is_nullable_kind, or_nullable, row_count}
-use Rattle.vx_base.specs.Refusals.{Refusal, overflow, mismatched_types, IsMemoryOr, or_else}
+use Rattle.vx_base.specs.Kinds.{Kind, lists, fixed_lists, records, kind, Fits, AllFit, FieldsFit, is_nullable_kind, or_nullable, row_count}
+use Rattle.vx_base.specs.Refusals.{Refusal, mismatched_types, IsMemoryOr, or_else}
 use Rattle.vx_base.specs.Rows.{Row, null, boolean, whole, bytes, text, items, record_of, Rows, no_rows, row, Fields, no_fields, field, is_present, count_in, list_from, rows_from}
 use Rattle.vx_base.specs.ValueRows.{value_row, option_row, named, all_named, fields_named, row_under, unnamed}
 use Rattle.vx_tree.specs.Tree.{Tree, constant, list_view, fixed_list, structure, Valid}
@@ -34,7 +32,7 @@ use Rattle.vx_tree.specs.RowParts.{field_at, field_in, items_in, items_or_nulls}
 use Rattle.vx_tree.specs.Extents.{extents_of, rows_extent, fields_extents, extent, list_extent, fixed_list_extent, struct_extent}
 use Rattle.vx_tree.specs.PlainValues.{ArePlainValues, ArePlainRows, ArePlainFields, AreSpread, FieldsFitNamed, FitsNamed, FitsIfThere, fields_fault, list_places, list_sizes, rows_fault, values_valid, long_values, buffers_overflow}
 use Rattle.vx_tree.proofs.Blanks.{default_even}
-use Rattle.vx_tree.proofs.PlainKinds.{is_even-or_nullable, take_overflow-plain, plain_overflow-none}
+use Rattle.vx_tree.proofs.PlainKinds.{is_even-or_nullable, take_overflow-plain}
 use Rattle.vx_tree.proofs.Dictionaries.{memory_only}
 use Rattle.vx_tree.proofs.JoinedListViews.{counts_of-are}
 use Rattle.vx_tree.proofs.RowNames.{rows_fault-named}
@@ -46,10 +44,6 @@ use Rattle.vx_tree.proofs.PlainValues.{values_valid-nullable, values_valid-plain
 pub list_of_rows : (xs : List Row) → list_from (rows_from xs) ≡ xs
 list_of_rows [] = refl
 list_of_rows (x ∷ xs) = ap (λ ys. x ∷ ys) (list_of_rows xs)
-
-pub rows_of_list : (rs : Rows) → rows_from (list_from rs) ≡ rs
-rows_of_list no_rows = refl
-rows_of_list (row r rs) = ap (row r) (rows_of_list rs)
 
 pub items_of_value : (v : Option ScalarValue) (rs : Rows) (ws : List (Option ScalarValue)) → v ≡ Some (value.List rs) → rows_from (map option_row ws) ≡ rs → map option_row ws ≡ items_in (option_row v)
 items_of_value v rs ws e same = sym (ap (λ x. items_in (option_row x)) e ∙ ap list_from (sym same) ∙ list_of_rows (map option_row ws))
@@ -436,9 +430,6 @@ ArePlainFields-next ds i d rs ts us t h l here x e =
     let pushed = ArePlainFields-push 0 (take i ds) d rs ts t h (subst (λ n. ArePlainRows (dtype_meaning d) (map (field_in n) rs) t) (sym place) x) in
     subst (λ es. ArePlainFields 0 es rs us) (sym (take_push ds i d l here)) (subst (λ vs. ArePlainFields 0 (take i ds ++ d ∷ []) rs vs) (sym e) pushed)
 
-pub ArePlainFields-all : (ds : List DType) (i : ℕ) (rs : List Row) (ts : List Tree) → ArePlainFields 0 (take i ds) rs ts → length ds ≤ i → ArePlainFields 0 ds rs ts
-ArePlainFields-all ds i rs ts h l = rw (take_all i ds l) at h
-
 fields_kinds : (c : ℕ) (ds : List DType) (rs : List Row) (ts : List Tree) → ArePlainFields c ds rs ts → kinds_of (trees_from ts) ≡ dtype_kinds ds
 fields_kinds c [] rs [] h = refl
 fields_kinds c [] rs (t ∷ ts) h = absurd h
@@ -529,13 +520,6 @@ value_texts_fault false n vs = ap buffers_overflow (sym (long_rows vs))
 pub texts_fault : (k : Kind) (vs : List (Option ScalarValue)) → k ≡ value_kind (is_texts k) (is_nullable_kind k) → buffers_overflow (length (long_values vs)) ≡ rows_fault k (map option_row vs)
 texts_fault k vs e = value_texts_fault (is_texts k) (is_nullable_kind k) vs ∙ ap (λ j. rows_fault j (map option_row vs)) (sym e)
 
--- lists of one size whose elements cannot be counted, and those whose elements can
-pub fixed_many : (k : Kind) (size : ℕ) (m : Bool) (vs : List (Option ScalarValue)) → 2 ^ 64 ≤ length vs * size → rows_fault (fixed_lists k size m) (map option_row vs) ≡ Some overflow
-fixed_many k size m vs l = rw (length-map vs option_row, le-ltb (length vs * size) (2 ^ 64) l) refl
-
-pub fixed_few : (k : Kind) (size : ℕ) (m : Bool) (vs : List (Option ScalarValue)) → length vs * size < 2 ^ 64 → rows_fault (fixed_lists k size m) (map option_row vs) ≡ rows_fault k (flat_map (items_or_nulls size) (map option_row vs))
-fixed_few k size m vs l = rw (length-map vs option_row, lt-ltb (length vs * size) (2 ^ 64) l) refl
-
 -- the fields from a place on have the fault of the one there, then that of the others
 pub fields_fault-from : (ds : List DType) (i : ℕ) (d : DType) (rs : List Row) → i < length ds → d ≡ slice_index_or ds i d
     → fields_fault (dtype_kinds (drop i ds)) i rs ≡ or_else (rows_fault (dtype_meaning d) (map (field_in i) rs)) (fields_fault (dtype_kinds (drop (i + 1) ds)) (i + 1) rs)
@@ -548,19 +532,10 @@ pub fields_fault-next : (ds : List DType) (i : ℕ) (d : DType) (rs qs : List Ro
 fields_fault-next ds i d rs qs all h inside here same none =
     sym (fields_fault-from ds i d rs inside here ∙ ap (λ (f : Option Refusal). or_else f (fields_fault (dtype_kinds (drop (i + 1) ds)) (i + 1) rs)) (ap (rows_fault (dtype_meaning d)) (sym same) ∙ none)) ∙ h
 
-pub fields_fault-all : (ds : List DType) (i : ℕ) (rs : List Row) (all : Option Refusal) → fields_fault (dtype_kinds (drop i ds)) i rs ≡ all → length ds ≤ i → all ≡ None
-fields_fault-all ds i rs all h l = sym (ap (λ (xs : List DType). fields_fault (dtype_kinds xs) i rs) (sym (drop_all i ds l)) ∙ h)
-
 first_refused : (a b : Option Refusal) (e : VortexError) → IsMemoryOr a e → IsMemoryOr (or_else a b) e
 first_refused a b e (inl memory) = inl memory
 first_refused None b e (inr same) = inl (memory_only None e refl (inr same))
 first_refused (Some r) b e (inr same) = inr same
-
-pub fields_refused : (ds : List DType) (i : ℕ) (d : DType) (rs qs : List Row) (all : Option Refusal) (e : VortexError) → fields_fault (dtype_kinds (drop i ds)) i rs ≡ all → i < length ds → d ≡ slice_index_or ds i d → qs ≡ map (field_in i) rs
-    → IsMemoryOr (rows_fault (dtype_meaning d) qs) e → IsMemoryOr all e
-fields_refused ds i d rs qs all e h inside here same refused =
-    subst (λ f. IsMemoryOr f e) (sym (fields_fault-from ds i d rs inside here) ∙ h)
-    (first_refused (rows_fault (dtype_meaning d) (map (field_in i) rs)) (fields_fault (dtype_kinds (drop (i + 1) ds)) (i + 1) rs) e (subst (λ xs. IsMemoryOr (rows_fault (dtype_meaning d) xs) e) same refused))
 
 -- ---- one value
 
@@ -589,67 +564,16 @@ both_or None b c = refl
 both_or (Some r) b c = refl
 
 -- the faults of the row by itself, then of all of them
-pub constant_fault-present : (t : Tree) (k : Kind) (r : Row) (n : ℕ) → t ≡ constant k r n → is_present r ≡ true → 0 < n → or_else (or_else (default_fault k) (rows_fault k (r ∷ []))) (plain_overflow k n) ≡ canonical_fault t
-constant_fault-present t k r n e here some =
-    let stands : is_present r && nat_lt 0 n ≡ true = (λ i. here i && nat_lt 0 n) ∙ lt-ltb 0 n some in
-    both_or (default_fault k) (rows_fault k (r ∷ [])) (plain_overflow k n) ∙ ap (λ b. or_else (default_fault k) (or_else (if b then rows_fault k (r ∷ []) else None) (plain_overflow k n))) (sym stands) ∙ ap canonical_fault (sym e)
+pub constant_fault-present : (t : Tree) (k : Kind) (r : Row) (n : ℕ) → t ≡ constant k r n → is_present r ≡ true → or_else (or_else (default_fault k) (rows_fault k (r ∷ []))) (plain_overflow k n) ≡ canonical_fault t
+constant_fault-present t k r n e here =
+    both_or (default_fault k) (rows_fault k (r ∷ [])) (plain_overflow k n) ∙ ap (λ b. or_else (default_fault k) (or_else (if b then rows_fault k (r ∷ []) else None) (plain_overflow k n))) (sym here) ∙ ap canonical_fault (sym e)
 
-pub constant_refused : (t : Tree) (k : Kind) (r : Row) (n : ℕ) (e : VortexError) → t ≡ constant k r n → is_present r ≡ true → 0 < n → IsMemoryOr (or_else (default_fault k) (rows_fault k (r ∷ []))) e → IsMemoryOr (canonical_fault t) e
-constant_refused t k r n e same here some refused =
-    subst (λ f. IsMemoryOr f e) (constant_fault-present t k r n same here some) (first_refused (or_else (default_fault k) (rows_fault k (r ∷ []))) (plain_overflow k n) e refused)
+pub constant_refused : (t : Tree) (k : Kind) (r : Row) (n : ℕ) (e : VortexError) → t ≡ constant k r n → is_present r ≡ true → IsMemoryOr (or_else (default_fault k) (rows_fault k (r ∷ []))) e → IsMemoryOr (canonical_fault t) e
+constant_refused t k r n e same here refused =
+    subst (λ f. IsMemoryOr f e) (constant_fault-present t k r n same here) (first_refused (or_else (default_fault k) (rows_fault k (r ∷ []))) (plain_overflow k n) e refused)
 
 -- the row taken so often needs as many elements as so many rows of its kind
-pub constant_counted : (t a : Tree) (k : Kind) (r : Row) (n : ℕ) (f : Option Refusal) → t ≡ constant k r n → is_present r ≡ true → 0 < n → or_else (default_fault k) (rows_fault k (r ∷ [])) ≡ None → IsCanonical (constant k r 1) a → AllFormed a
+pub constant_counted : (t a : Tree) (k : Kind) (r : Row) (n : ℕ) (f : Option Refusal) → t ≡ constant k r n → is_present r ≡ true → or_else (default_fault k) (rows_fault k (r ∷ [])) ≡ None → IsCanonical (constant k r 1) a → AllFormed a
     → take_overflow a n ≡ f → canonical_fault t ≡ f
-constant_counted t a k r n f e here some none x formed counts =
-    sym (constant_fault-present t k r n e here some) ∙ ap (λ g. or_else g (plain_overflow k n)) none ∙ ap (λ j. plain_overflow j n) (sym x.same.kind) ∙ sym (take_overflow-plain a formed x.plain n) ∙ counts
-
--- ---- no rows
-
-mutual
-  rows_fault-none : (k : Kind) → rows_fault k [] ≡ None
-  rows_fault-none (booleans m) = refl
-  rows_fault-none (integers t m) = refl
-  rows_fault-none (texts m) = refl
-  rows_fault-none (binaries m) = refl
-  rows_fault-none (lists k m) = rows_fault-none k
-  rows_fault-none (fixed_lists k size m) = let none : 0 * size ≡ 0 = omega arith in rw none (rows_fault-none k)
-  rows_fault-none (records names ks m) = fields_fault-none ks 0
-
-  fields_fault-none : (ks : Kinds) (c : ℕ) → fields_fault ks c [] ≡ None
-  fields_fault-none no_kinds c = refl
-  fields_fault-none (kind k ks) c = rw (rows_fault-none k) (fields_fault-none ks (suc c))
-
-state_of_none : (b : Bool) → state_of (values_valid b []) ≡ (if b then none_null else never_null)
-state_of_none true = refl
-state_of_none false = refl
-
--- no values in plain layout are a constant of no rows
-pub none_canonical : (a : Tree) (k : Kind) (r : Row) (vs : List (Option ScalarValue)) → vs ≡ [] → is_present r ≡ true → ArePlainValues k vs a → IsCanonical (constant k r 0) a
-none_canonical a k r vs e here x =
-    let y : ArePlainValues k [] a = rw e at x in
-    record {
-      same = record { len = y.len; kind = y.kind; rows = λ i l. absurd (omega arith) };
-      plain = y.plain;
-      extent = y.extent;
-      state = y.state ∙ state_of_none (is_nullable_kind k) ∙ ap (λ b. if b then (if is_nullable_kind k then none_null else never_null) else every_null) (sym here);
-      flag = y.flag;
-      kept = tt;
-    }
-
-pub none_fit : (k : Kind) (vs : List (Option ScalarValue)) → vs ≡ [] → All (FitsIfThere k) vs
-none_fit k vs e = rw e (λ i d l. absurd (omega arith))
-
-pub none_fault : (k : Kind) (vs : List (Option ScalarValue)) → vs ≡ [] → default_fault k ≡ None → rows_fault k (map option_row vs) ≡ default_fault k
-none_fault k vs e even = ap (λ (xs : List (Option ScalarValue)). rows_fault k (map option_row xs)) e ∙ rows_fault-none k ∙ sym even
-
-or_nothing : (a : Option Refusal) → a ≡ or_else a None
-or_nothing None = refl
-or_nothing (Some r) = refl
-
-pub constant_fault-none : (t : Tree) (k : Kind) (r : Row) (n : ℕ) → t ≡ constant k r n → n ≡ 0 → is_present r ≡ true → default_fault k ≡ canonical_fault t
-constant_fault-none t k r n e none here =
-    or_nothing (default_fault k) ∙ ap (or_else (default_fault k)) (sym (plain_overflow-none k)) ∙ ap (λ b. or_else (default_fault k) (or_else (if b && nat_lt 0 0 then rows_fault k (r ∷ []) else None) (plain_overflow k 0))) (sym here)
-    ∙ ap (λ m. canonical_fault (constant k r m)) (sym none) ∙ ap canonical_fault (sym e)
-
-pub ruleset empty_constant = (default_even, none_canonical, none_fit, none_fault)
+constant_counted t a k r n f e here none x formed counts =
+    sym (constant_fault-present t k r n e here) ∙ ap (λ g. or_else g (plain_overflow k n)) none ∙ ap (λ j. plain_overflow j n) (sym x.same.kind) ∙ sym (take_overflow-plain a formed x.plain n) ∙ counts

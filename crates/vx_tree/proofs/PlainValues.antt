@@ -1,9 +1,7 @@
 -- Values in plain layout.
-use Rattle.std.proofs.Common.{ℕ, zero, suc, ◌<◌, ◌≡◌, Bool, true, false, eqb, List, [], ◌∷◌, length, map, replicate, get_or, Option, Some, None, refl, sym, ◌∙◌, ap, subst, zero-add, arith}
-use Rattle.std.specs.Prelude.{ℤ, pos, is_some, slice_index, slice_index_or, count_by, if◌then◌else◌}
-use Rattle.std.specs.List.{All}
-use Rattle.std.proofs.lemmas.Bool.{lt-ltb}
-use Rattle.std.proofs.lemmas.List.{length-map, get_or-map, length-replicate, get_or-replicate}
+use Rattle.std.proofs.Common.{ℕ, zero, suc, ◌<◌, ◌≡◌, Bool, true, false, eqb, List, [], ◌∷◌, length, map, Option, Some, None, refl, sym, ◌∙◌, ap, subst, zero-add, arith}
+use Rattle.std.specs.Prelude.{ℤ, pos, is_some, slice_index_or, count_by, if◌then◌else◌}
+use Rattle.std.proofs.lemmas.List.{length-map, get_or-map}
 use Rattle.std.proofs.lemmas.List.FromFn.{get_or-map-range_with_len}
 use Rattle.vx_base.specs.declared.scalar_value.ScalarValue.{ScalarValue}
 use Rattle.vx_base.specs.declared.scalar_value.ScalarValue.TheVariants as value
@@ -18,15 +16,12 @@ use Rattle.vx_tree.specs.Tree.{Tree, bools, primitive, constant, Valid, non_null
 use Rattle.vx_tree.specs.Meaning.{row_at, is_valid_at, nullable}
 use Rattle.vx_tree.specs.Formed.{ValidFits}
 use Rattle.vx_tree.specs.Shapes.{never_null, none_null, every_null, state_of, row_state}
-use Rattle.vx_tree.specs.Operations.{IsSelected}
 use Rattle.vx_tree.specs.Canonical.{IsCanonical}
 use Rattle.vx_tree.specs.Plain.{IsPlainValid}
 use Rattle.vx_tree.specs.Validities.{valid_from}
-use Rattle.vx_tree.specs.PlainValues.{truth_in, number_or_zero, FitsIfThere, values_valid, ArePlainValues}
+use Rattle.vx_tree.specs.PlainValues.{truth_in, number_or_zero, values_valid, ArePlainValues}
 use Rattle.vx_tree.specs.Extents.{rows_extent}
 use Rattle.vx_tree.proofs.RowNames.{named_null, rows_extent-named}
-use Rattle.vx_tree.proofs.Dictionaries.{state_of_selected}
-use Rattle.vx_tree.proofs.Flags.{flag_of_selected}
 use Rattle.vx_tree.proofs.Validities.{valid_from-mask}
 
 -- ---- the validity
@@ -195,11 +190,6 @@ state_of_one k None h =
     state_none (is_nullable_kind k) may ∙ sym (ap (row_state k) (named_null k))
 state_of_one k (Some x) h = state_there (is_nullable_kind k) x ∙ sym (ap (λ b. if b then (if is_nullable_kind k then none_null else never_null) else every_null) (named_there k x))
 
-pub one_fits : (k : Kind) (v : Option ScalarValue) → Fits k (row_under k v) → All (FitsIfThere k) (v ∷ [])
-one_fits k None h zero d l = tt
-one_fits k (Some x) h zero d l = h
-one_fits k v h (suc i) d l = absurd (omega arith)
-
 -- one value in plain layout is a constant of one row in plain layout
 pub one_canonical : (t : Tree) (k : Kind) (r : Row) (v : Option ScalarValue) → row_under k v ≡ r → Fits k r → is_even k ≡ true → ArePlainValues k (v ∷ []) t → IsCanonical (constant k r 1) t
 one_canonical t k r v e fits even h =
@@ -216,29 +206,6 @@ one_canonical t k r v e fits even h =
     only : (i : ℕ) → i < 1 → Fits k (row_under k v) → row_at t i ≡ r
     only zero l here = h.rows 0 l here ∙ e
     only (suc i) l here = absurd (omega arith)
-
-pub zeroes_below : (n : ℕ) → All (λ k. k < 1) (replicate n 0)
-zeroes_below n i d l = let same : get_or (replicate n 0) i d ≡ 0 = get_or-replicate n i 0 d (rw (length-replicate {A = ℕ} n 0) at l) in rw same (omega arith)
-
--- and so is that row, over and over
-pub constant_canonical : (t a b : Tree) (k : Kind) (r : Row) (n : ℕ) (ps : List ℕ) → t ≡ constant k r n → 0 < n → IsCanonical (constant k r 1) a → ps ≡ replicate n 0 → IsSelected a ps b → IsCanonical t b
-constant_canonical t a b k r n ps e some x same h =
-    let long : length ps ≡ n = ap length same ∙ length-replicate {A = ℕ} n 0 in
-    rw e (record {
-      same = record {
-        len = h.len ∙ long;
-        kind = h.kind ∙ x.same.kind;
-        rows = λ i l.
-            let inside : i < length ps = rw long l in
-            let first : slice_index ps i ≡ 0 = ap (λ (xs : List ℕ). slice_index xs i) same ∙ get_or-replicate n i 0 0 l in
-            h.rows i inside ∙ ap (row_at a) first ∙ x.same.rows 0 (omega arith);
-      };
-      plain = h.plain x.plain;
-      state = state_of_selected a b ps h ∙ x.state;
-      extent = h.extent x.plain ∙ x.extent ∙ ap (λ b. rows_extent k (if b then r ∷ [] else [])) (sym (lt-ltb 0 n some));
-      flag = flag_of_selected a b ps h;
-      kept = tt;
-    })
 
 pub integers_kind : (k : Kind) → is_integers k ≡ true → k ≡ integers (integer_type k) (is_nullable_kind k)
 integers_kind (booleans n) e = cc

@@ -1,16 +1,15 @@
 -- Indices that are read one after another.
-use Rattle.std.proofs.Common.{ℕ, ◌+◌, ◌<◌, ◌≡◌, Bool, true, false, List, length, set, subst, Option, None, refl, sym, ◌∙◌, ap, zero-add, arith, length-set}
+use Rattle.std.proofs.Common.{ℕ, ◌<◌, ◌≡◌, Bool, true, false, List, length, subst, Option, None, refl, sym, ◌∙◌, ap, zero-add, arith}
 use Rattle.std.specs.Prelude.{IsSome, count_by, slice_index, if◌then◌else◌}
 use Rattle.std.proofs.lemmas.List.FromFn.{get_or-map-range_with_len, length-map-range_with_len}
-use Rattle.std.proofs.lemmas.List.{get_or-replicate, get_or-set_same, get_or-set_other}
-use borrow.Author.Count.{below_more}
+use Rattle.std.proofs.lemmas.List.{get_or-replicate}
 use Rattle.vx_base.specs.declared.ptypes.PType.{PType}
 use Rattle.vx_base.specs.Integers.{numbers, number_nth}
 use Rattle.vx_base.specs.Bits.{bool_at}
 use Rattle.vx_base.specs.Refusals.{Refusal, first_fault}
 use Rattle.vx_base.specs.Rows.{null, whole}
 use Rattle.vx_base.proofs.MaskCounts.{all_true_from_count}
-use Rattle.vx_base.proofs.FirstFaults.{first_fault-next, first_fault-found, first_fault-same}
+use Rattle.vx_base.proofs.FirstFaults.{first_fault-found, first_fault-same}
 use Rattle.vx_tree.specs.Tree.{Tree, primitive, Valid, non_nullable}
 use Rattle.vx_tree.specs.Meaning.{tree_len, row_at, is_valid_at, valid_mask}
 use Rattle.vx_tree.specs.Faults.{index_fault, indices_fault}
@@ -24,21 +23,6 @@ pub record AreRead (t : Tree) (len n : ℕ) (ps : List ℕ) : Type 0 where
   pub each : (i : ℕ) → i < n → IsPosition len (row_at t i) (slice_index ps i)
   pub faultless : first_fault (λ i. index_fault len i (row_at t i)) n ≡ None
 
--- one index more is read
-pub AreRead-more : (t : Tree) (len n k : ℕ) (ps : List ℕ) → n < length ps → AreRead t len n ps → IsPosition len (row_at t n) k → index_fault len n (row_at t n) ≡ None → AreRead t len (n + 1) (set ps n k)
-AreRead-more t len n k ps inside h p none =
-    record {
-      long = length-set ps n k ∙ h.long;
-      each = below_more (λ i. IsPosition len (row_at t i) (slice_index (set ps n k) i)) n (λ i l. earlier i l) here;
-      faultless = first_fault-next (λ i. index_fault len i (row_at t i)) n h.faultless none;
-    }
-  where
-    earlier : (i : ℕ) → i < n → IsPosition len (row_at t i) (slice_index (set ps n k) i)
-    earlier i l = subst (IsPosition len (row_at t i)) (sym (get_or-set_other ps n i k 0 (omega arith))) (h.each i l)
-
-    here : IsPosition len (row_at t n) (slice_index (set ps n k) n)
-    here = subst (IsPosition len (row_at t n)) (sym (get_or-set_same ps n k 0 inside)) p
-
 -- an index with a fault after some without one is the first
 pub fault_found : (t : Tree) (len n : ℕ) (r : Option Refusal) → first_fault (λ i. index_fault len i (row_at t i)) n ≡ None → index_fault len n (row_at t n) ≡ r → IsSome r → n < tree_len t → indices_fault len t ≡ r
 fault_found t len n r none f s l = first_fault-found (λ i. index_fault len i (row_at t i)) (tree_len t) n none (subst IsSome (sym f) s) l ∙ f
@@ -46,13 +30,6 @@ fault_found t len n r none f s l = first_fault-found (λ i. index_fault len i (r
 -- and so it is after some that are read
 pub AreRead-fault : (t : Tree) (len n : ℕ) (ps : List ℕ) (r : Option Refusal) → AreRead t len n ps → index_fault len n (row_at t n) ≡ r → IsSome r → n < tree_len t → indices_fault len t ≡ r
 AreRead-fault t len n ps r h f s l = fault_found t len n r h.faultless f s l
-
--- all of them were read
-pub AreRead-all : (t : Tree) (len n : ℕ) (ps : List ℕ) → n ≡ length ps → AreRead t len n ps → ArePositions t len ps
-AreRead-all t len n ps e h = record { len = h.long; each = λ i l. h.each i (omega (arith, h.long)) }
-
-pub AreRead-faultless : (t : Tree) (len n : ℕ) (ps : List ℕ) → n ≡ length ps → AreRead t len n ps → indices_fault len t ≡ None
-AreRead-faultless t len n ps e h = rw (sym h.long, sym e) h.faultless
 
 -- ---- arrays with the same rows
 

@@ -1,5 +1,5 @@
 -- Rows, the names of their kind, and rows of null.
-use Rattle.std.proofs.Common.{ℕ, zero, suc, ◌+◌, ◌*◌, ◌^◌, ◌≡◌, Bool, true, false, cond, List, [], ◌∷◌, ◌++◌, length, map, replicate, Some, refl, sym, ◌∙◌, ap, arith}
+use Rattle.std.proofs.Common.{ℕ, zero, suc, ◌+◌, ◌*◌, ◌^◌, ◌≡◌, Bool, true, cond, List, [], ◌∷◌, ◌++◌, length, map, replicate, Some, refl, sym, ◌∙◌, ap, arith}
 use Rattle.std.specs.Prelude.{count_by, nat_lt, if◌then◌else◌}
 use Rattle.std.specs.List.{flat_map}
 use Rattle.std.proofs.lemmas.List.{length-map, map-append, replicate-append-replicate}
@@ -190,11 +190,6 @@ mutual
   fields_extents-nulls (kind k ks) c n =
       let here = ap (rows_extent k) (nulls_at c n) ∙ rows_extent-nulls k n in
       λ i. extent (here i) (fields_extents-nulls ks (suc c) n i)
-
--- a row of null, where it stands
-pub null_extent : (k : Kind) (b : Bool) → rows_extent k (if b then null ∷ [] else []) ≡ rows_extent k []
-null_extent k true = rows_extent-nulls k 1
-null_extent k false = refl
 
 -- whether null may stand makes no difference
 pub rows_extent-or_nullable : (b : Bool) (k : Kind) (rs : List Row) → rows_extent (or_nullable b k) rs ≡ rows_extent k rs

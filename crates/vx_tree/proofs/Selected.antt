@@ -1,14 +1,12 @@
 -- What selecting gives, layout by layout.
-use Rattle.std.proofs.Common.{ℕ, ◌≡◌, Bool, true, false, List, length, map, None, refl, ◌∙◌, ap}
-use Rattle.std.specs.Prelude.{ℤ, pos, slice_index}
-use Rattle.std.proofs.lemmas.List.{length-map, get_or-map}
+use Rattle.std.proofs.Common.{ℕ, ◌≡◌, Bool, true, false, List, None, refl, ap}
+use Rattle.std.specs.Prelude.{slice_index}
 use Rattle.vx_base.specs.declared.ptypes.PType.{PType}
 use Rattle.vx_base.specs.Integers.{numbers, number_nth}
-use Rattle.vx_base.specs.Bits.{bool_at}
-use Rattle.vx_base.specs.Kinds.{booleans, integers, lists, is_plain_integers}
+use Rattle.vx_base.specs.Kinds.{booleans, lists, is_plain_integers}
 use Rattle.vx_tree.specs.Tree.{Tree, bools, primitive, constant, dictionary, fixed_list, list_view, structure, view_array, Valid, non_nullable, all_valid, all_invalid, by_array}
 use Rattle.vx_tree.specs.Meaning.{row_at, kind_of, is_valid_at, nullable}
-use Rattle.vx_tree.specs.Shapes.{bool_shape, primitive_shape, list_view_shape, state_of, is_nullable_state}
+use Rattle.vx_tree.specs.Shapes.{list_view_shape, state_of, is_nullable_state}
 use Rattle.vx_tree.specs.Formed.{ValidFits, IsCounts}
 use Rattle.vx_tree.specs.Faults.{take_overflow}
 use Rattle.vx_tree.specs.Operations.{IsSelected, IsValidSelected, ValidHasAll, AreBelow}
@@ -56,10 +54,6 @@ booleans_can_be_selected (view_array vs bs u v) n b e = refl
 
 -- ---- rows, at one position
 
-bool_row : (bits new : List Bool) (v w : Valid) (i k : ℕ) → is_valid_at w i ≡ is_valid_at v k → bool_at new i ≡ bool_at bits k
-    → row_at (bools new w) i ≡ row_at (bools bits v) k
-bool_row bits new v w i k a b = rw (a, b) refl
-
 number_row : (t : PType) (bs new : List ℕ) (v w : Valid) (i k : ℕ) → is_valid_at w i ≡ is_valid_at v k → number_nth (numbers t new) i ≡ number_nth (numbers t bs) k
     → row_at (primitive t new w) i ≡ row_at (primitive t bs v) k
 number_row t bs new v w i k a b = rw (a, b) refl
@@ -69,30 +63,6 @@ list_row : (e o s o2 s2 : Tree) (v w : Valid) (f f2 : Bool) (i k : ℕ) → is_v
 list_row e o s o2 s2 v w f f2 i k a b c = rw (a, b, c) refl
 
 -- ---- layouts
-
-pub bools_selected : (t u : Tree) (bits new : List Bool) (v w : Valid) (ps : List ℕ) → t ≡ bools bits v → u ≡ bools new w
-    → new ≡ map (bool_at bits) ps → IsValidSelected v ps w → IsSelected t ps u
-bools_selected t u bits new v w ps p q e h =
-    rw (p, q) (record {
-      len = ap length e ∙ length-map ps (bool_at bits);
-      kind = ap booleans h.kind;
-      shape = ap bool_shape h.state;
-      plain = h.plain;
-      extent = λ p. refl;
-      rows = λ i l. bool_row bits new v w i (slice_index ps i) (h.bits i l) (ap (λ (bs : List Bool). bool_at bs i) e ∙ get_or-map (bool_at bits) ps i 0 false l);
-    })
-
-pub numbers_selected : (t u : Tree) (p : PType) (bs new : List ℕ) (v w : Valid) (ps : List ℕ) → t ≡ primitive p bs v → u ≡ primitive p new w
-    → numbers p new ≡ map (number_nth (numbers p bs)) ps → IsValidSelected v ps w → IsSelected t ps u
-numbers_selected t u p bs new v w ps a b e h =
-    rw (a, b) (record {
-      len = ap length e ∙ length-map ps (number_nth (numbers p bs));
-      kind = ap (integers p) h.kind;
-      shape = ap primitive_shape h.state;
-      plain = h.plain;
-      extent = λ p. refl;
-      rows = λ i l. number_row p bs new v w i (slice_index ps i) (h.bits i l) (ap (λ (zs : List ℤ). number_nth zs i) e ∙ get_or-map (number_nth (numbers p bs)) ps i 0 (pos 0) l);
-    })
 
 pub lists_selected : (t u e o s o2 s2 : Tree) (v w : Valid) (f : Bool) (ps : List ℕ) → t ≡ list_view e o s v f → u ≡ list_view e o2 s2 w false
     → IsSelected o ps o2 → IsSelected s ps s2 → IsValidSelected v ps w → IsSelected t ps u

@@ -4,34 +4,13 @@ use Rattle.std.specs.Prelude.{is_some, IfSome, slice_index, slice_index_or, if�
 use Rattle.std.proofs.lemmas.List.{length-map, get_or-map, get_or_default}
 use Rattle.std.proofs.lemmas.List.FromFn.{get_or-map-range_with_len, length-map-range_with_len, fill_by_all}
 use Rattle.vx_base.specs.Rows.{null, position_in}
-use Rattle.vx_base.specs.Kinds.{or_nullable, is_integers}
+use Rattle.vx_base.specs.Kinds.{is_integers}
 use Rattle.vx_tree.specs.Tree.{Tree, Valid}
-use Rattle.vx_tree.specs.Meaning.{row_at, rows, tree_len, kind_of, is_valid_at, nullable, picked}
-use Rattle.vx_tree.specs.Shapes.{state_of, nulled_shape}
+use Rattle.vx_tree.specs.Meaning.{row_at, rows, tree_len, kind_of, is_valid_at, picked}
 use Rattle.vx_tree.specs.Faults.{take_fault, indices_fault, take_overflow}
-use Rattle.vx_tree.specs.Operations.{IsTakenAt, IsSelected, IsNulled, IsNulls, IsValidityOf, ArePositions, AreBelow, or_zero, positions, picks}
+use Rattle.vx_tree.specs.Operations.{IsTakenAt, IsValidityOf, ArePositions, AreBelow, or_zero, positions, picks}
 
 -- ---- at positions
-
--- what is selected and then nulled is taken
-pub taken_of_selected : (t s r : Tree) (qs : List ℕ) (u : Valid) → IsSelected t qs s → IsNulled s u r → IsTakenAt t qs u r
-taken_of_selected t s r qs u h n =
-    record {
-      len = n.len ∙ h.len;
-      kind = n.kind ∙ ap (or_nullable (nullable u)) h.kind;
-      shape = n.shape ∙ ap (λ x. nulled_shape x (state_of u)) h.shape;
-      rows = λ i l. n.rows i (rw h.len l) ∙ ap (λ x. if is_valid_at u i then x else null) (h.rows i l);
-    }
-
--- rows of null are taken where the validity is nowhere true
-pub taken_of_nulls : (t r : Tree) (qs : List ℕ) (u : Valid) → ((i : ℕ) → i < length qs → is_valid_at u i ≡ false) → IsNulls t (length qs) u r → IsTakenAt t qs u r
-taken_of_nulls t r qs u none n =
-    record {
-      len = n.len;
-      kind = n.kind;
-      shape = n.shape;
-      rows = λ i l. n.rows i l ∙ sym (ap (λ b. if b then row_at t (slice_index qs i) else null) (none i l));
-    }
 
 -- ---- by indices
 

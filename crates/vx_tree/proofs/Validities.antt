@@ -1,29 +1,23 @@
 -- What the calls of a validity give.
-use Rattle.std.proofs.Common.{ℕ, ◌+◌, ◌<◌, ◌≡◌, ◌↔◌, Bool, true, false, eqb, List, [], ◌∷◌, length, map, replicate, get_or, set, Some, None, refl, sym, ◌∙◌, ap, subst, zero-add, inl, inr, arith, length-set}
+use Rattle.std.proofs.Common.{ℕ, ◌+◌, ◌<◌, ◌≡◌, ◌↔◌, Bool, true, false, eqb, List, [], ◌∷◌, length, map, replicate, get_or, Some, refl, sym, ◌∙◌, ap, subst, zero-add, inl, inr, arith}
 use Rattle.std.specs.Prelude.{◌&&◌, ◌||◌, IsTrue, count_by, pos, negsuc}
 use Rattle.std.specs.List.{range_with_len}
-use borrow.Author.Count.{below_more}
 use Rattle.std.proofs.lemmas.Bool.{eq-eqb}
 use Rattle.std.proofs.lemmas.Bool.Decides.{eqb_tells}
-use Rattle.std.proofs.lemmas.List.{get_or-set_same, get_or-set_other, get_or-replicate, length-replicate}
 use Rattle.std.proofs.lemmas.List.FromFn.{fill_by_all, length-map-range_with_len, get_or-map-range_with_len}
 use Rattle.vx_base.specs.Bits.{bool_at, both}
-use Rattle.vx_base.specs.Kinds.{booleans, is_integers}
 use Rattle.vx_base.specs.Rows.{Row, null, boolean, whole, bytes, text, items, record_of, truth_of, count_in, is_present, position_in}
 use Rattle.vx_base.proofs.ListParts.{map_range_same}
 use Rattle.vx_base.proofs.MaskCounts.{count-all_true, count-all_false, all_true_from_count, all_false_from_count}
 use Rattle.vx_tree.specs.Tree.{Tree, bools, Valid, non_nullable, all_valid, all_invalid, by_array}
-use Rattle.vx_tree.specs.Meaning.{tree_len, kind_of, row_at, is_valid_at, nullable, valid_mask}
+use Rattle.vx_tree.specs.Meaning.{tree_len, row_at, is_valid_at, nullable, valid_mask}
 use Rattle.vx_tree.specs.Shapes.{State, never_null, none_null, every_null, told, state_of, taken_state, tree_state}
 use Rattle.vx_tree.specs.Formed.{ValidFits}
-use Rattle.vx_tree.specs.Faults.{take_fault, indices_fault}
 use Rattle.vx_tree.specs.Operations.{IsSelected, IsValidityOf, IsValidNulled, ArePositions, or_zero}
 use Rattle.vx_tree.specs.Validities.{pair_of, both_pairs, opposite, has_no_nulls, made_nullable, full_valid, valid_from, IsOpposite, IsValidTaken, nullable_state, IsTrivialCast, BothCommutes, BothAssociates, BothRepeats, BothHasUnit, TrivialCasts}
 use Rattle.vx_tree.proofs.Masks.{all_true_mask, all_valid_mask, all_invalid_mask}
 use Rattle.vx_tree.proofs.Positions.{mask_long}
 use Rattle.vx_tree.proofs.Nulled.{nullable_nulled}
-use Rattle.vx_tree.proofs.Selected.{booleans_can_be_selected}
-use Rattle.vx_tree.proofs.Taken.{take_fault-of, positions_none}
 
 -- ---- whether a row is null
 
@@ -111,13 +105,6 @@ pub record AreTurned (xs : List Bool) (n : ℕ) (out : List Bool) : Type 0 where
   pub long : length out ≡ length xs
   pub each : (i : ℕ) → i < n → get_or out i false ≡ opposite (bool_at xs i)
 
-pub AreTurned-more : (xs out : List Bool) (n : ℕ) (b : Bool) → n < length out → AreTurned xs n out → b ≡ opposite (bool_at xs n) → AreTurned xs (n + 1) (set out n b)
-AreTurned-more xs out n b inside h here =
-    record {
-      long = length-set out n b ∙ h.long;
-      each = below_more (λ i. get_or (set out n b) i false ≡ opposite (bool_at xs i)) n (λ i l. get_or-set_other out n i b false (omega arith) ∙ h.each i l) (get_or-set_same out n b false inside ∙ here);
-    }
-
 pub AreTurned-all : (xs out : List Bool) (n : ℕ) → n ≡ length out → AreTurned xs n out → out ≡ map (λ i. opposite (bool_at xs i)) (range_with_len 0 (length xs))
 AreTurned-all xs out n e h = fill_by_all (λ i. opposite (bool_at xs i)) out (length xs) false h.long (λ i l. h.each i (omega (arith, h.long)))
 
@@ -142,18 +129,6 @@ told_taken none_null = refl
 told_taken every_null = refl
 told_taken told = refl
 
-none_taken : (s : State) → taken_state none_null s ≡ nullable_state s
-none_taken never_null = refl
-none_taken none_null = refl
-none_taken every_null = refl
-none_taken told = refl
-
-fits_made : (v : Valid) (n : ℕ) → ValidFits v n → ValidFits (made_nullable v) n
-fits_made non_nullable n h = tt
-fits_made all_valid n h = tt
-fits_made all_invalid n h = tt
-fits_made (by_array t) n h = h
-
 count-or_zero : (r : Row) → or_zero (position_in r) ≡ count_in r
 count-or_zero null = refl
 count-or_zero (boolean b) = refl
@@ -174,33 +149,6 @@ truths_taken t indices s x w ps valid are selected n =
           let p = are.each i l in
           n.bits i l ∙ ap (λ b. truth_of (row_at s i) && b) (valid.bits i l)
           ∙ ap (λ r. truth_of r && is_present (row_at indices i)) (selected.rows i inside ∙ ap (row_at t) (p.told ∙ count-or_zero (row_at indices i)));
-    }
-
--- of no rows nothing is taken
-pub truths_of_none : (t indices : Tree) (x w : Valid) (ps : List ℕ) → tree_len t ≡ 0 → IsValidityOf indices x → ArePositions indices (tree_len t) ps → w ≡ by_array (bools (replicate (tree_len indices) false) non_nullable)
-    → IsValidTaken (by_array t) indices w
-truths_of_none t indices x w ps none valid are a =
-    rw a (record {
-      fits = record { len = length-replicate (tree_len indices) false; kind = refl };
-      state = sym (told_taken (tree_state indices));
-      bits = λ i l.
-          let absent : false ≡ is_present (row_at indices i) = sym (positions_none indices (tree_len t) ps x none are valid i (rw are.len l)) ∙ valid.bits i l in
-          get_or-replicate (tree_len indices) i false false l ∙ and_false (truth_of (row_at t (count_in (row_at indices i)))) ∙ ap (λ b. truth_of (row_at t (count_in (row_at indices i))) && b) absent;
-    })
-
-pub take_fault-none : (t indices : Tree) → kind_of t ≡ booleans false → is_integers (kind_of indices) ≡ true → indices_fault (tree_len t) indices ≡ None → take_fault t indices ≡ None
-take_fault-none t indices k ints none = take_fault-of t indices (tree_len indices) ints none refl ∙ booleans_can_be_selected t (tree_len indices) false k
-
--- a constant state takes the nulls of the indices
-pub full_taken : (indices : Tree) (v : Valid) → IsValidityOf indices v → IsValidTaken non_nullable indices v
-full_taken indices v h = record { fits = h.fits; state = h.state; bits = h.bits }
-
-pub nullable_taken : (indices : Tree) (v : Valid) → IsValidityOf indices v → IsValidTaken all_valid indices (made_nullable v)
-nullable_taken indices v h =
-    record {
-      fits = fits_made v (tree_len indices) h.fits;
-      state = state_made v ∙ ap nullable_state h.state ∙ sym (none_taken (tree_state indices));
-      bits = λ i l. valid_made v i ∙ h.bits i l;
     }
 
 -- ---- laws

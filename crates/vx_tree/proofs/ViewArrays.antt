@@ -1,8 +1,8 @@
 -- Texts and byte lists by their views: sliced, selected, with other nulls.
-use Rattle.std.proofs.Common.{ℕ, ◌+◌, ◌-◌, ◌<◌, ◌≤◌, ◌≡◌, Bool, true, false, List, [], ◌∷◌, ◌++◌, length, map, replicate, drop, get_or, refl, sym, ◌∙◌, ap, subst, zero-add, arith}
-use Rattle.std.specs.Prelude.{count_by, slice_index, slice_index_or, slice_range, ◌||◌, ◌&&◌, if◌then◌else◌, Some, None}
+use Rattle.std.proofs.Common.{ℕ, ◌+◌, ◌-◌, ◌<◌, ◌≡◌, Bool, true, false, List, [], ◌∷◌, ◌++◌, length, map, replicate, get_or, refl, sym, ◌∙◌, ap, subst, zero-add, arith}
+use Rattle.std.specs.Prelude.{count_by, slice_index, slice_index_or, ◌||◌, ◌&&◌, if◌then◌else◌, Some, None}
 use Rattle.std.specs.List.{range_with_len}
-use Rattle.std.proofs.lemmas.List.{get_or-drop, get_or-take, get_or-map, length-map, length-replicate, get_or-replicate, get_or_append_left, get_or-append_right, get_or_default}
+use Rattle.std.proofs.lemmas.List.{get_or-map, length-map, length-replicate, get_or-replicate, get_or_append_left, get_or-append_right, get_or_default}
 use Rattle.std.proofs.lemmas.List.FromFn.{length-map-range_with_len, get_or-map-range_with_len, fill_by_all}
 use borrow.Author.Count.{below_more}
 use Rattle.vx_base.specs.Bits.{bool_at}
@@ -12,7 +12,6 @@ use Rattle.vx_base.specs.declared.scalar_value.ScalarValue.{ScalarValue}
 use Rattle.vx_base.specs.ValueRows.{named, option_row, row_under}
 use Rattle.vx_base.specs.Kinds.{Kind, booleans, integers, texts, binaries, lists, fixed_lists, records, or_nullable}
 use Rattle.vx_base.specs.Selections.{item_of_position}
-use Rattle.vx_base.proofs.ListParts.{length_part}
 use Rattle.vx_views.specs.Views.{view_of, view_value, inlined_view, padded, Resolves}
 use Rattle.vx_views.specs.Sound.{IsSoundView}
 use Rattle.vx_views.proofs.FaultyViews.{all_true-at}
@@ -23,7 +22,7 @@ use Rattle.vx_tree.specs.Meaning.{kind_of, row_at, is_valid_at, nullable, is_tex
 use Rattle.vx_tree.specs.Shapes.{state_of, view_shape}
 use Rattle.vx_tree.specs.Formed.{ValidFits, ValidReads, ValidReads-from_fits, WellFormed, value_kind}
 use Rattle.vx_tree.specs.Fitting.{AllFormed}
-use Rattle.vx_tree.specs.Operations.{IsSlice, IsValidSlice, IsSelected, IsValidSelected, IsNulled, IsValidNulled, IsNulls, IsValidNulls, AreBelow, valid_view}
+use Rattle.vx_tree.specs.Operations.{IsSelected, IsValidSelected, IsNulled, IsValidNulled, IsNulls, IsValidNulls, AreBelow, valid_view}
 use Rattle.vx_tree.proofs.Nulled.{nullable_nulled}
 
 -- ---- kinds
@@ -76,28 +75,6 @@ rows_formed vs bs ws k v w p n a formed = (
 view_row : (bs : List (List ℕ)) (k : Kind) (vs ws : List (List ℕ)) (v w : Valid) (i j : ℕ) → is_valid_at w i ≡ is_valid_at v j → slice_index_or ws i [] ≡ slice_index_or vs j []
     → row_at (view_array ws bs k w) i ≡ row_at (view_array vs bs k v) j
 view_row bs k vs ws v w i j a b = rw (a, b) refl
-
-pub sliced_rows : (vs ws : List (List ℕ)) (v w : Valid) (start end : ℕ) → ws ≡ slice_range vs start end → start ≤ end → end ≤ length vs → IsValidSlice v start (end - start) w
-    → AreRowsOf vs v (λ i. start + i) (end - start) ws w
-sliced_rows vs ws v w start end e le within h =
-    record {
-      len = ap length e ∙ length_part vs start end le within;
-      fits = h.fits;
-      kind = h.kind;
-      state = h.state;
-      within = λ i l. omega arith;
-      views = λ i l. ap (λ (xs : List (List ℕ)). slice_index_or xs i []) e ∙ get_or-take (end - start) (drop start vs) i [] l ∙ get_or-drop start vs i [];
-      bits = h.bits;
-    }
-
-pub views_sliced : (t u : Tree) (vs bs ws : List (List ℕ)) (k : Kind) (v w : Valid) (start n : ℕ) → t ≡ view_array vs bs k v → u ≡ view_array ws bs k w → AreRowsOf vs v (λ i. start + i) n ws w → IsSlice t start n u
-views_sliced t u vs bs ws k v w start n a b r =
-    rw (a, b) (record {
-      len = r.len;
-      kind = refl;
-      shape = ap (view_shape bs) r.state;
-      rows = λ i l. view_row bs k vs ws v w i (start + i) (r.bits i l) (r.views i l);
-    })
 
 pub selected_rows : (vs ws : List (List ℕ)) (v w : Valid) (ps : List ℕ) → ws ≡ map (item_of_position [] vs) ps → AreBelow (length vs) ps → IsValidSelected v ps w
     → AreRowsOf vs v (slice_index ps) (length ps) ws w
@@ -266,9 +243,6 @@ valid_row t vs bs k v i view value a valid b e =
     bytes_of : (u : Bool) (x : List ℕ) → bytes_in (value_row u x) ≡ Some x
     bytes_of true x = refl
     bytes_of false x = refl
-
-pub null_of_row : (t : Tree) (vs bs : List (List ℕ)) (k : Kind) (v : Valid) (i : ℕ) → t ≡ view_array vs bs k v → is_valid_at v i ≡ false → row_at t i ≡ null
-null_of_row t vs bs k v i a none = rw a (null_row (is_valid_at v i) _ none)
 
 -- texts and byte lists hold no records to be named
 named_value : (k : Kind) (u n : Bool) (r : Row) → k ≡ value_kind u n → named k r ≡ r

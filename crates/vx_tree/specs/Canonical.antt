@@ -1,5 +1,5 @@
 -- The same rows in plain layout.
-use Rattle.std.specs.Prelude.{◌≡◌, ◌<◌, ◌*◌, ◌^◌, ◌&&◌, ℕ, false, List, [], ◌∷◌, Option, Some, None, nat_lt, if◌then◌else◌}
+use Rattle.std.specs.Prelude.{◌≡◌, ◌<◌, ◌*◌, ◌^◌, ℕ, false, List, [], ◌∷◌, Option, Some, None, nat_lt, if◌then◌else◌}
 use Rattle.std.specs.List.{AllZip}
 use Rattle.vx_base.specs.DTypes.{dtype_meaning}
 use Rattle.vx_base.specs.declared.dtypes.DType.{DType}
@@ -69,13 +69,13 @@ abbrev mutual
 abbrev pub nulls_fault : Kind → ℕ → Option Refusal
 nulls_fault k n = or_else (default_fault k) (plain_overflow k n)
 
--- a row by itself, where it is there and stands at least once
-abbrev pub value_fault : Kind → Row → ℕ → Option Refusal
-value_fault k r n = if is_present r && nat_lt 0 n then rows_fault k (r ∷ []) else None
+-- a row by itself, where it is there
+abbrev pub value_fault : Kind → Row → Option Refusal
+value_fault k r = if is_present r then rows_fault k (r ∷ []) else None
 
 -- a row, n times: a record with another number of names than of kinds, the row by itself, then all of them
 abbrev pub constant_fault : Kind → Row → ℕ → Option Refusal
-constant_fault k r n = or_else (default_fault k) (or_else (value_fault k r n) (plain_overflow k n))
+constant_fault k r n = or_else (default_fault k) (or_else (value_fault k r) (plain_overflow k n))
 
 -- the first fault of the parts; taking the values of a dictionary by its codes needs elements for each code
 abbrev mutual

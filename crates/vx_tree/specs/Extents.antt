@@ -41,13 +41,13 @@ abbrev mutual
   fields_extents no_kinds c rs = no_extents
   fields_extents (kind k ks) c rs = extent (rows_extent k (map (field_in c) rs)) (fields_extents ks (suc c) rs)
 
--- of an array in plain layout: of a constant that of its one row, or of none where it does not stand; of a dictionary that of its
--- values, or of no row where it has none
+-- of an array in plain layout: of a constant that of its one row, however often it stands; of a dictionary that of its values, or
+-- of no row where it has none
 abbrev mutual
   pub extent_of : Tree → Extent
   extent_of (bools bits v) = leaf_extent
   extent_of (primitive t bs v) = leaf_extent
-  extent_of (constant k r n) = rows_extent k (if nat_lt 0 n then r ∷ [] else [])
+  extent_of (constant k r n) = rows_extent k (r ∷ [])
   extent_of (dictionary c v f) = if nat_lt 0 (tree_len v) then extent_of v else rows_extent (kind_of v) []
   extent_of (fixed_list e k v n) = fixed_list_extent (extent_of e)
   extent_of (list_view e o s v f) = list_extent (tree_len e) (extent_of e)

@@ -14,6 +14,7 @@ pub mod Layouts
 pub mod Falls
 pub mod Faults
 pub mod Operations
+pub mod Runs
 pub mod Named
 pub mod Validities
 pub mod Patches

@@ -161,12 +161,13 @@ impl ArrayRef {
     }
 
     /// An array of these parts. Asks that they are well formed: that the validity has as many
-    /// rows, that a dictionary's codes are integers and each valid one the position of a value,
+    /// rows, and is of plain booleans where it is an array, that the bytes of numbers are whole
+    /// numbers, that a dictionary's codes are integers and each valid one the position of a value,
     /// that lists of a fixed size have all their elements and no more, that a list view's offsets
-    /// and sizes are counts, that its lists end within the elements, that a struct has one column a
-    /// name, each of its length, that a set flag holds, that each view of a valid row is sound and
-    /// that of a null row 16 zero bytes, and that texts and byte lists are nullable just where
-    /// their validity is.
+    /// and sizes are counts, as many of the one as of the other, that its lists end within the
+    /// elements, that a struct has one column a name, each of its length, that a set flag holds,
+    /// that views are of texts or byte lists, each of a valid row sound and that of a null row 16
+    /// zero bytes, and that texts and byte lists are nullable just where their validity is.
     #[inline(always)]
     pub fn from_parts(alloc: Global, layout: Layout) -> Result<ArrayRef, VortexError>
         requires { WellFormed (tree_of layout) }

@@ -21,16 +21,16 @@ use vx_base::{DType, VortexError};
 
 impl ArrayRef {
     /// The rows of the arrays, one array after another, in the plain layout of their data type: of
-    /// the numbers 1, 2 and 3, null the numbers 1, 2, 3, null. Of texts, byte lists and lists the
-    /// buffers and the elements of all arrays stand one after another. Refuses in this order: with
+    /// the numbers 1, 2 and 3, null the numbers 1, 2, 3, null. Refuses in this order: with
     /// `EmptyInput` where no array is given; with `DifferingDtypes` where one is not of the data
     /// type of the first; with `Overflow` where there are more rows than can be counted; by the
     /// first fault of making each array plain, as `to_canonical` has it; then with `Overflow` where
     /// the lists of all arrays, at any depth, have together more elements than can be counted, or
     /// their texts or byte lists more buffers than a view can number, 4294967296. A list view has
-    /// all of its elements and texts all of their buffers; a constant those of its row once, if it
-    /// stands, with a buffer for each text or byte list above 12 bytes; a dictionary those of its
-    /// values, none if it has no values; lists of one size have the rows times the size.
+    /// all of its elements and texts all of their buffers; a constant those of its row once,
+    /// whatever its length, with a buffer for each text or byte list above 12 bytes; a dictionary
+    /// those of its values, none if it has no values; lists of one size have the rows times the
+    /// size.
     pub fn concat(alloc: Global, arrays: &[ArrayRef]) -> Result<ArrayRef, VortexError>
         ensures rows { IfOk result (λ a. rows a ≡ flat_map rows arrays.now) }
         ensures kind { IfOk result (λ a. All (λ t. kind_of t ≡ kind_of a) arrays.now) }

@@ -15,7 +15,7 @@ use vx_base::{Mask, Selection, VortexError};
 
 impl ArrayRef {
     /// The rows at which the mask is true, in their order, in the same layout and of the same data
-    /// type and state; a list view keeps its elements, a dictionary its values, neither its flag.
+    /// type and state; a list view keeps its elements, and neither it nor a dictionary its flag.
     /// Refuses `LengthMismatch` where the mask has not one boolean a row. Of the lists `[3, 4]`,
     /// `[1]`, `[2, 3]` the mask true, false, true leaves `[3, 4]`, `[2, 3]`.
     pub fn filter(&self, alloc: Global, mask: &Mask) -> Result<ArrayRef, VortexError>

@@ -22,6 +22,7 @@ mod select;
 mod slice;
 mod slots;
 mod take;
+mod take_runs;
 mod to_canonical;
 mod typed_array;
 mod validity;

@@ -21,7 +21,7 @@ pub trait TypedArray: Sized {
     fn is_layout(layout: &Layout) -> bool
         ensures { result ≡ has_layout (tree_of layout.now) };
 
-    /// The array of an array of the layout.
+    /// The array of an array of the layout, which is asked.
     fn from_array(array: ArrayRef) -> Self
         requires { has_layout array ≡ true }
         ensures { as_tree result ≡ array };

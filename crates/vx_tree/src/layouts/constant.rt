@@ -118,7 +118,7 @@ impl ArrayRef {
         constant_or_null(alloc, scalar, len, nulls)
     }
 
-    // The one row in plain layout, taken over and over; rows of null are made at once.
+    // The one row in plain layout, taken as often as it stands; rows of null are made at once.
     #[tactic(auto, using(crate::proofs::Blanks::null_rows))]
     pub(crate) fn canonical_constant(&self, alloc: Global) -> Result<ArrayRef, VortexError>
         requires { is_constant self.now ≡ true }
@@ -130,9 +130,6 @@ impl ArrayRef {
         };
         if scalar.is_null() {
             return null_rows(alloc, scalar.dtype(), *len);
-        }
-        if *len == 0 {
-            return no_rows(alloc, scalar);
         }
         let row = plain_row(alloc, scalar)?;
         row.known();
@@ -197,19 +194,6 @@ fn plain_row(alloc: Global, scalar: &Scalar) -> Result<ArrayRef, VortexError>
     let dtype = scalar.dtype();
     test_even(alloc, dtype)?;
     plain_values(alloc, dtype, std::slice::from_ref(scalar.value()))
-}
-
-// No rows of a data type in plain layout, as they are of a row that is not null.
-#[tactic(auto, using(crate::proofs::PlainParts::empty_constant))]
-fn no_rows(alloc: Global, scalar: &Scalar) -> Result<ArrayRef, VortexError>
-    requires { is_present scalar.now.row ≡ true }
-    ensures ok { IfOk result (IsCanonical (constant scalar.now.kind scalar.now.row 0)) }
-    ensures refuses { Refuses result (default_fault scalar.now.kind) }
-{
-    let dtype = scalar.dtype();
-    test_even(alloc, dtype)?;
-    let values = Vec::new(alloc);
-    plain_values(alloc, dtype, &values)
 }
 
 // Rows of null of a data type in plain layout.
