@@ -1,3 +1,4 @@
+pub mod CodeRows
 pub mod MarkedBits
 pub mod MaskedRows
 pub mod NamedValues

@@ -16,21 +16,21 @@ use Rattle.vx_leaves.specs.Narrow.{none_negative, none_above, holds_all, narrowe
 
 -- ---- tests of the order
 
-le_of : (a b : ℤ) → le_z a b ≡ true → a ≤ℤ b
+pub le_of : (a b : ℤ) → le_z a b ≡ true → a ≤ℤ b
 le_of a b e = grind (arith, ints)
 
-of_le : (a b : ℤ) → a ≤ℤ b → le_z a b ≡ true
+pub of_le : (a b : ℤ) → a ≤ℤ b → le_z a b ≡ true
 of_le a b h = grind (arith, ints)
 
 both_true : (a b : Bool) → a ≡ true → b ≡ true → (a && b) ≡ true
 both_true true b p q = q
 both_true false b p q = p
 
-first_true : (a b : Bool) → (a && b) ≡ true → a ≡ true
+pub first_true : (a b : Bool) → (a && b) ≡ true → a ≡ true
 first_true true b p = refl
 first_true false b p = p
 
-second_true : (a b : Bool) → (a && b) ≡ true → b ≡ true
+pub second_true : (a b : Bool) → (a && b) ≡ true → b ≡ true
 second_true true b p = p
 second_true false b p = absurd (false_is_true p)
   where
@@ -65,7 +65,7 @@ list_both p q (z ∷ zs) = ap (λ b. (p z && q z) && b) (list_both p q zs) ∙ m
 
 -- ---- types
 
-least_low : (t : PType) → least t ≤ℤ pos 0
+pub least_low : (t : PType) → least t ≤ℤ pos 0
 least_low U8 = omega (arith, ints)
 least_low U16 = omega (arith, ints)
 least_low U32 = omega (arith, ints)
@@ -75,7 +75,7 @@ least_low I16 = omega (arith, ints)
 least_low I32 = omega (arith, ints)
 least_low I64 = omega (arith, ints)
 
-greatest_high : (t : PType) → pos 0 ≤ℤ greatest t
+pub greatest_high : (t : PType) → pos 0 ≤ℤ greatest t
 greatest_high U8 = omega (arith, ints)
 greatest_high U16 = omega (arith, ints)
 greatest_high U32 = omega (arith, ints)
@@ -85,7 +85,7 @@ greatest_high I16 = omega (arith, ints)
 greatest_high I32 = omega (arith, ints)
 greatest_high I64 = omega (arith, ints)
 
-through : (a b c : ℤ) → a ≤ℤ b → b ≤ℤ c → a ≤ℤ c
+pub through : (a b c : ℤ) → a ≤ℤ b → b ≤ℤ c → a ≤ℤ c
 through a b c p q = omega (arith, ints)
 
 pub least_to_greatest : (t u : PType) → least t ≤ℤ greatest u

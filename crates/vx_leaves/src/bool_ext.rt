@@ -19,7 +19,8 @@ use vx_tree::{ArrayRef, Layout, TypedArray, Validity};
 /// The children of an array of truth values.
 #[derive(Drop)]
 pub struct BoolSlots {
-    /// None where no row is null, a constant false where every row is, else the array that tells.
+    /// None where no row is null by the state alone, a constant false where every row is, else the
+    /// array that tells.
     pub validity: Option<ArrayRef>,
 }
 

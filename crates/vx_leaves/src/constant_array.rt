@@ -69,7 +69,6 @@ impl TypedArray for ConstantArray {
     }
 
     fn into_array(self) -> ArrayRef {
-        let _ = &self.array;
         let ConstantArray { array } = self;
         array
     }

@@ -6,12 +6,13 @@ ghost use Rattle.vx_tree.specs.Formed.{IsDictionary, ReferencesAll};
 ghost use Rattle.vx_tree.specs.Tree.{dictionary};
 ghost use Rattle.vx_leaves.specs.Dictionaries.{is_dictionary, codes_in, values_in, referenced_flag, dictionary_fault};
 
+use crate::code_checks::check_codes;
 use crate::dict_data::DictData;
 use crate::dict_ext::DictArrayExt;
 use std::alloc::Global;
 use std::marker::Model;
 use vx_base::VortexError;
-use vx_tree::{ArrayRef, Layout, TypedArray};
+use vx_tree::{ArrayRef, Layout, TypedArray, rows_fit_their_dtype};
 
 /// An array whose row `i` is the value at the position `codes[i]`, null where the code is null. A
 /// set flag says that every value is referenced by some valid code.
@@ -45,7 +46,7 @@ pub(crate) struct LentParts<'a> {
 /// The children of a dictionary.
 #[derive(Drop)]
 pub struct DictSlots {
-    /// The position of a value for each row, null where the row is.
+    /// The position of a value for each row, null where the row is null for its code.
     pub codes: ArrayRef,
     /// The values.
     pub values: ArrayRef,
@@ -77,7 +78,8 @@ impl DictArray {
         if !codes.dtype().is_int() {
             return Err(VortexError::MismatchedTypes);
         }
-        codes.positions(alloc, values.len())?;
+        rows_fit_their_dtype(&codes);
+        check_codes(alloc, &codes, values.len())?;
         DictArray::new(alloc, codes, values)
     }
 
@@ -132,7 +134,7 @@ impl DictArray {
         })
     }
 
-    /// What the array has beside its children. It never fails.
+    /// What the array has beside its children. Fails only for want of memory.
     pub fn to_data(&self, _alloc: Global) -> Result<DictData, VortexError>
         ensures { Gives result (λ d. d ≡ referenced_flag self.now) }
     {
@@ -177,7 +179,6 @@ impl TypedArray for DictArray {
     }
 
     fn into_array(self) -> ArrayRef {
-        let _ = &self.array;
         let DictArray { array } = self;
         array
     }

@@ -27,11 +27,10 @@ impl Model for DictData {
 impl DictData {
     /// The data of a new dictionary with codes of this data type: of no value it is known that it
     /// is referenced. Asks integers.
-    pub fn new(codes: &DType) -> DictData
-        requires { is_integers (dtype_meaning codes.now) ≡ true }
+    pub fn new(_codes: &DType) -> DictData
+        requires { is_integers (dtype_meaning _codes.now) ≡ true }
         ensures { result ≡ false }
     {
-        let _ = codes;
         DictData::with_flag(false)
     }
 

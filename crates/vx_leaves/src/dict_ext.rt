@@ -19,7 +19,7 @@ use vx_tree::{ArrayRef, Layout, TypedArray};
 pub struct DictParts {
     /// What the rows are.
     pub dtype: DType,
-    /// The position of a value for each row, null where the row is.
+    /// The position of a value for each row, null where the row is null for its code.
     pub codes: ArrayRef,
     /// The values.
     pub values: ArrayRef,
@@ -32,7 +32,7 @@ pub trait DictArrayExt: TypedArray {
         ensures { result ≡ referenced_flag (Self.as_tree self.now) };
 
     /// That every value is referenced, where the flag says so: no dictionary has a flag that does
-    /// not hold, so nothing is read and it never fails.
+    /// not hold, so nothing is read. Fails only for want of memory.
     fn validate_all_values_referenced(&self, alloc: Global) -> Result<(), VortexError>
         ensures { Gives result (λ _. IsTrue (referenced_flag (Self.as_tree self.now))
             → ReferencesAll (codes_in (Self.as_tree self.now)) (values_in (Self.as_tree self.now))) };
@@ -63,7 +63,7 @@ impl DictArrayExt for DictArray {
     }
 
     fn validate_all_values_referenced(&self, _alloc: Global) -> Result<(), VortexError> {
-        let _ = self.parts();
+        self.parts();
         Ok(())
     }
 

@@ -5,6 +5,7 @@ mod bool_array;
 mod bool_data;
 mod bool_ext;
 mod bool_iterators;
+mod code_checks;
 mod collect;
 mod constant_array;
 mod dict_array;

@@ -15,8 +15,9 @@ use vx_base::{
 };
 use vx_tree::{TypedArray, rows_fit_their_dtype};
 
-// The same rows in the narrowest type that has the numbers of the valid ones. Of null rows 0 is
-// stored. Where the type stays, the array is shared as it is.
+// The same rows in the narrowest type that has the numbers of the valid ones. Where the type stays
+// and some row is valid, the array is shared as it is; else the numbers are written anew, 0 in a
+// null row.
 pub(crate) fn narrowed_array(
     alloc: Global,
     array: &PrimitiveArray,
@@ -58,7 +59,7 @@ fn span(ptype: PType, bytes: &[u8], mask: &Mask) -> (i128, i128)
 }
 
 // The same of numbers of one type.
-fn typed_span<T: NativePType>(bytes: &[u8], mask: &Mask) -> (i128, i128)
+pub(crate) fn typed_span<T: NativePType>(bytes: &[u8], mask: &Mask) -> (i128, i128)
     requires { length mask.now ≡ length (numbers T.PTYPE bytes.now) }
     ensures { IsSpan T.PTYPE (kept mask.now (numbers T.PTYPE bytes.now)) result.0 result.1 }
 {

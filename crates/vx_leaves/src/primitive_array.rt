@@ -235,7 +235,6 @@ impl TypedArray for PrimitiveArray {
     }
 
     fn into_array(self) -> ArrayRef {
-        let _ = &self.array;
         let PrimitiveArray { array } = self;
         array
     }

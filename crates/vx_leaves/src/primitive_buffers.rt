@@ -37,7 +37,7 @@ impl PrimitiveArray {
         BufferMut::from_byte_buffer(alloc, self.parts().bytes)
     }
 
-    /// The numbers, valid or not, to be written where they are in no other use, else to be read.
+    /// The numbers, valid or not, in a buffer to be written or in one to be read: either may come.
     /// Asks that they are of this type. Fails only for want of memory.
     pub fn try_into_buffer_mut<T: NativePType + Drop>(
         self,

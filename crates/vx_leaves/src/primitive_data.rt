@@ -183,7 +183,7 @@ impl PrimitiveData {
         BufferMut::from_byte_buffer(alloc, &self.bytes)
     }
 
-    /// The numbers, to be written where they are in no other use, else to be read. Asks that they
+    /// The numbers, in a buffer to be written or in one to be read: either may come. Asks that they
     /// are of this type. Fails only for want of memory.
     pub fn try_into_buffer_mut<T: NativePType + Drop>(
         self,

@@ -20,7 +20,8 @@ use vx_tree::{ArrayRef, TypedArray, Validity};
 /// The children of an array of whole numbers.
 #[derive(Drop)]
 pub struct PrimitiveSlots {
-    /// None where no row is null, a constant false where every row is, else the array that tells.
+    /// None where no row is null by the state alone, a constant false where every row is, else the
+    /// array that tells.
     pub validity: Option<ArrayRef>,
 }
 
@@ -45,8 +46,8 @@ pub trait PrimitiveArrayExt: TypedArray {
     fn nullability(&self) -> Nullability
         ensures { is_nullable result ≡ nullable (validity_in (Self.as_tree self.now)) };
 
-    /// The validity among the children: none where no row is null, a constant false where every row
-    /// is, else the array, shared. Fails only for want of memory.
+    /// The validity among the children: none where no row is null by the state alone, a constant
+    /// false where every row is, else the array that tells, shared. Fails only for want of memory.
     fn validity_child(&self, alloc: Global) -> Result<Option<ArrayRef>, VortexError>
         ensures { Gives result (λ child. child
             ≡ validity_slot (validity_in (Self.as_tree self.now)) (tree_len (Self.as_tree self.now))) };
@@ -68,9 +69,10 @@ pub trait PrimitiveArrayExt: TypedArray {
 
     /// The same rows in the narrowest type that has the numbers of the valid ones: u8, u16 or u32
     /// where none is negative, else i8, i16 or i32, and the type itself where none of these has
-    /// them. The validity is kept; what stands in a null row decides nothing and becomes 0. Where
-    /// no row is valid the numbers are zeroes of type u8; where the type stays, the array is
-    /// shared. The i64 rows -1, 128 are the i16 rows -1, 128. Fails only for want of memory.
+    /// them. The validity is kept, and what stands in a null row decides nothing. Where the type
+    /// stays and some row is valid, the array is shared, the numbers of null rows too. Elsewhere
+    /// the numbers are written anew, 0 in a null row, and of type u8 where no row is valid. The i64
+    /// rows -1, 128 are the i16 rows -1, 128. Fails only for want of memory.
     fn narrow(&self, alloc: Global) -> Result<PrimitiveArray, VortexError>
         ensures { Gives result (IsNarrowed (Self.as_tree self.now)) };
 }

@@ -1,0 +1,8 @@
+use Rattle.std.specs.Prelude.{◌≡◌, None}
+use Rattle.vx_base.specs.Refusals.{first_fault}
+use Rattle.vx_tree.specs.Faults.{index_fault}
+use Rattle.vx_tree.specs.Meaning.{row_at}
+use Rattle.vx_leaves.proofs.code_checks.check_rows.Given as goal
+
+abbrev pub invariant-loop-row : goal.invariant-loop-row
+invariant-loop-row l = first_fault (λ i. index_fault l.len i (row_at l.codes i)) l.row ≡ None
