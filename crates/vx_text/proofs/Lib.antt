@@ -1,0 +1,6 @@
+mod TextParts
+mod ItemHeaps
+mod ItemViews
+mod ItemCuts
+mod ItemArrays
+mod ItemFaults

@@ -1,0 +1,4 @@
+pub mod Texts
+pub mod TextFaults
+pub mod Items
+pub mod Collected
