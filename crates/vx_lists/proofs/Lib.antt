@@ -4,11 +4,17 @@ pub mod MappedLayouts
 pub mod PlannedRows
 pub mod PlannedNumbers
 pub mod ViewLayouts
+pub mod FixedSizeLists
 pub mod CountBytes
 pub mod CountArrays
 pub mod RebuiltViews
 pub mod RebuiltAlike
 pub mod ListFaults
 pub mod ListPlans
+pub mod MarkedRuns
 pub mod ReferencedElements
 pub mod TrimmedViews
+pub mod TrimmedLayouts
+pub mod ExactViews
+pub mod AlikeViews
+pub mod RebuiltTwice

@@ -1,10 +1,6 @@
--- Elements that are marked list by list, and the bounds of lists that are met one after another.
-use Rattle.std.proofs.Common.{◌≡◌, ℕ, zero, suc, ◌+◌, ◌-◌, ◌<◌, ◌≤◌, Bool, true, false, List, ◌++◌, length, take, drop, replicate, get_or, min, max, refl, sym, ◌∙◌, ap, subst, inl, inr, add-one, arith}
-use Rattle.std.specs.Prelude.{◌⊎◌, ◌↔◌}
-use Rattle.std.proofs.lemmas.Bool.{cases_lt, false≢true}
-use Rattle.std.proofs.lemmas.List.{length-append, length-take-le, length-replicate, length-drop, get_or_append_left, get_or-take, get_or-drop, get_or-replicate}
-use Rattle.std.proofs.Math.Seq.{get_or-append_right}
-use Rattle.vx_base.specs.Bits.{bool_at}
+-- Elements that the lists of a list view mark, and the bounds of lists that are met one after another.
+use Rattle.std.proofs.Common.{◌≡◌, ℕ, zero, suc, ◌+◌, ◌<◌, ◌≤◌, Bool, true, List, length, get_or, min, max, refl, sym, ◌∙◌, ap, subst, inl, inr, add-one, arith}
+use Rattle.std.proofs.lemmas.Bool.{cases_lt}
 use Rattle.vx_base.specs.Rows.{count_in}
 use Rattle.vx_tree.specs.Tree.{Tree, list_view, Valid}
 use Rattle.vx_tree.specs.Meaning.{tree_len, row_at}
@@ -13,94 +9,7 @@ use Rattle.vx_lists.specs.ListReferences.{LiesIn, AreMarked, MarksReferenced, Ar
 use Rattle.vx_lists.specs.ListViews.{elements_of, counts_in}
 use Rattle.vx_lists.proofs.ViewLayouts.{length-counts_in, get_or-counts_in}
 
--- ---- a range of booleans that is made true
-
-module _ (bits : List Bool) (start end : ℕ) (ordered : start ≤ end) (within : end ≤ length bits) where
-  abbrev filled : List Bool
-  filled = take start bits ++ replicate (end - start) true ++ drop end bits
-
-  first_len : length (take start bits) ≡ start
-  first_len = length-take-le start bits (omega arith)
-
-  middle_len : length (take start bits ++ replicate (end - start) true) ≡ end
-  middle_len = length-append (take start bits) (replicate (end - start) true) ∙ omega (arith, first_len, length-replicate (end - start) true)
-
-  pub length-filled : length filled ≡ length bits
-  length-filled = length-append (take start bits ++ replicate (end - start) true) (drop end bits) ∙ omega (arith, middle_len, length-drop end bits)
-
-  filled_before : (k : ℕ) → k < start → bool_at filled k ≡ bool_at bits k
-  filled_before k before =
-      get_or_append_left (take start bits ++ replicate (end - start) true) (drop end bits) false k (omega (arith, middle_len))
-      ∙ get_or_append_left (take start bits) (replicate (end - start) true) false k (omega (arith, first_len))
-      ∙ get_or-take start bits k false before
-
-  filled_inside : (k : ℕ) → start ≤ k → k < end → bool_at filled k ≡ true
-  filled_inside k from to =
-      get_or_append_left (take start bits ++ replicate (end - start) true) (drop end bits) false k (omega (arith, middle_len))
-      ∙ get_or-append_right (take start bits) (replicate (end - start) true) k false (omega (arith, first_len))
-      ∙ get_or-replicate (end - start) (k - length (take start bits)) true false (omega (arith, first_len))
-
-  filled_after : (k : ℕ) → end ≤ k → bool_at filled k ≡ bool_at bits k
-  filled_after k after =
-      let place : end + (k - length (take start bits ++ replicate (end - start) true)) ≡ k = omega (arith, middle_len) in
-      get_or-append_right (take start bits ++ replicate (end - start) true) (drop end bits) k false (omega (arith, middle_len))
-      ∙ get_or-drop end bits (k - length (take start bits ++ replicate (end - start) true)) false
-      ∙ ap (bool_at bits) place
-
 -- ---- marks
-
-pub AreMarked-none : (starts ends : ℕ → ℕ) (n : ℕ) (bits : List Bool) → bits ≡ replicate n false → AreMarked starts ends 0 n bits
-AreMarked-none starts ends n bits unset = record {
-  len = ap length unset ∙ length-replicate n false;
-  each = λ k inside. (
-    (λ marked. absurd (false≢true (sym (ap (λ bs. bool_at bs k) unset ∙ get_or-replicate n k false false inside) ∙ marked))),
-    (λ (found : LiesIn starts ends 0 k). absurd (let none : found.0 < 0 = found.1 in omega arith)),
-  );
-}
-
-module _ (starts ends : ℕ → ℕ) (m n : ℕ) (bits : List Bool) (marked : AreMarked starts ends m n bits) (ordered : starts m ≤ ends m) (within : ends m ≤ n) where
-  fits : ends m ≤ length bits
-  fits = omega (arith, marked.len)
-
-  earlier : (k : ℕ) → LiesIn starts ends m k → LiesIn starts ends (m + 1) k
-  earlier k found = let before : found.0 < m = found.1 in (found.0, omega arith, found.2, found.3)
-
-  -- outside the new range the marks are those of the lists before
-  outside : (k : ℕ) → (k < starts m) ⊎ (ends m ≤ k) → LiesIn starts ends (m + 1) k → LiesIn starts ends m k
-  outside k beyond found =
-      let low : starts found.0 ≤ k = found.2 in
-      let high : k < ends found.0 = found.3 in
-      elim (cases_lt found.0 m) [
-        | inl before ↦ (found.0, before, low, high)
-        | inr after ↦
-            let here : found.0 ≡ m = let last : found.0 < m + 1 = found.1 in omega arith in
-            let low_here : starts m ≤ k = subst (λ i. starts i ≤ k) here low in
-            let high_here : k < ends m = subst (λ i. k < ends i) here high in
-            elim beyond [ inl less ↦ absurd (omega arith) | inr more ↦ absurd (omega arith) ]
-      ]
-
-  each_outside : (k : ℕ) → k < n → (k < starts m) ⊎ (ends m ≤ k) → bool_at (filled bits (starts m) (ends m) ordered fits) k ≡ bool_at bits k → (bool_at (filled bits (starts m) (ends m) ordered fits) k ≡ true) ↔ LiesIn starts ends (m + 1) k
-  each_outside k inside beyond same = (
-    (λ is. earlier k ((marked.each k inside).0 (sym same ∙ is))),
-    (λ found. same ∙ (marked.each k inside).1 (outside k beyond found)),
-  )
-
-  each_now : (k : ℕ) → k < n → (bool_at (filled bits (starts m) (ends m) ordered fits) k ≡ true) ↔ LiesIn starts ends (m + 1) k
-  each_now k inside =
-      elim (cases_lt k (starts m)) [
-        | inl less ↦ each_outside k inside (inl less) (filled_before bits (starts m) (ends m) ordered fits k less)
-        | inr from ↦
-            elim (cases_lt k (ends m)) [
-              | inl to ↦ ((λ _. (m, omega arith, from, to)), (λ _. filled_inside bits (starts m) (ends m) ordered fits k from to))
-              | inr more ↦ each_outside k inside (inr more) (filled_after bits (starts m) (ends m) ordered fits k more)
-            ]
-      ]
-
-  marked_now : AreMarked starts ends (m + 1) n (filled bits (starts m) (ends m) ordered fits)
-  marked_now = record { len = length-filled bits (starts m) (ends m) ordered fits ∙ marked.len; each = each_now }
-
-  pub AreMarked-more : (start end : ℕ) (bits' : List Bool) → start ≡ starts m → end ≡ ends m → bits' ≡ take start bits ++ replicate (end - start) true ++ drop end bits → AreMarked starts ends (m + 1) n bits'
-  AreMarked-more start end bits' start_is end_is filled_is = rw (filled_is, start_is, end_is) marked_now
 
 -- marks follow starts and ends alone
 pub AreMarked-same : (starts ends starts' ends' : ℕ → ℕ) (m n : ℕ) (bits : List Bool) → ((i : ℕ) → i < m → starts i ≡ starts' i) → ((i : ℕ) → i < m → ends i ≡ ends' i) → AreMarked starts ends m n bits → AreMarked starts' ends' m n bits

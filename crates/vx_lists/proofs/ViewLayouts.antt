@@ -29,7 +29,7 @@ list_from-rows_range : (f : ℕ → Row) (start n : ℕ) → list_from (rows_ran
 list_from-rows_range f start zero = refl
 list_from-rows_range f start (suc n) = ap (λ rest. f start ∷ rest) (list_from-rows_range f (suc start) n ∙ ap (λ k. map f (range_with_len k n)) (sym (add-one start)))
 
-take-drop-rows : (t : Tree) (offset size : ℕ) → offset + size ≤ tree_len t → take size (drop offset (rows t)) ≡ list_from (rows_range (row_at t) offset size)
+pub take-drop-rows : (t : Tree) (offset size : ℕ) → offset + size ≤ tree_len t → take size (drop offset (rows t)) ≡ list_from (rows_range (row_at t) offset size)
 take-drop-rows t offset size fits =
     ap (take size) (drop-map (row_at t) offset (range_with_len 0 (tree_len t)))
     ∙ take-map (row_at t) size (drop offset (range_with_len 0 (tree_len t)))
@@ -92,7 +92,7 @@ stands_for_lists t e o s v f same formed =
 
 -- ---- one list
 
-list_in_present : (b : Bool) (rs : Rows) (xs : List Row) → xs ≡ list_from rs → list_in (cond b (items rs) null) ≡ cond (is_present (cond b (items rs) null)) (Some xs) None
+pub list_in_present : (b : Bool) (rs : Rows) (xs : List Row) → xs ≡ list_from rs → list_in (cond b (items rs) null) ≡ cond (is_present (cond b (items rs) null)) (Some xs) None
 list_in_present true rs xs same = ap Some (sym same)
 list_in_present false rs xs same = refl
 

@@ -1,6 +1,6 @@
 -- Which elements the lists of a list view lie in, and the list view over a part of the elements.
-use Rattle.std.specs.Prelude.{◌≡◌, ◌↔◌, ◌<◌, ◌≤◌, ◌+◌, ◌-◌, ◌==◌, ℕ, Bool, true, List, length, map, Option, Some, None, if◌then◌else◌}
-use Rattle.std.specs.Prelude.{slice_range}
+use Rattle.std.specs.Prelude.{◌≡◌, ◌↔◌, ◌⊎◌, ◌<◌, ◌≤◌, ◌+◌, ◌-◌, ◌*◌, ◌/◌, ◌==◌, ℕ, Bool, true, List, length, map, Option, Some, None, if◌then◌else◌}
+use Rattle.std.specs.Prelude.{slice_index, slice_range}
 use Rattle.vx_base.specs.Bits.{bool_at}
 use Rattle.vx_base.specs.Refusals.{Refusal, empty_input}
 use Rattle.vx_base.specs.Rows.{count_in}
@@ -30,6 +30,19 @@ pub record AreMarked (starts ends : ℕ → ℕ) (m n : ℕ) (mask : List Bool) 
 -- just the elements that lie in some list are marked, null rows counted
 abbrev pub MarksReferenced : Tree → List Bool → Type 0
 MarksReferenced t mask = AreMarked (start_of t) (end_of t) (tree_len t) (tree_len (elements_of t)) mask
+
+-- where runs of blocks of 4096 elements end, of which one begins with each whole block of n elements
+pub record AreBlockRuns (n : ℕ) (runs : List ℕ) : Type 0 where
+  pub len : length runs ≡ n / 4096
+  pub within : (b : ℕ) → slice_index runs b * 4096 ≤ n
+
+-- element k lies in one of the first n runs of blocks
+abbrev pub LiesInRuns : List ℕ → ℕ → ℕ → Type 0
+LiesInRuns runs n k = LiesIn (λ b. b * 4096) (λ b. slice_index runs b * 4096) n k
+
+-- element k is marked, or lies in a run of blocks
+abbrev pub IsCovered : List Bool → List ℕ → ℕ → Type 0
+IsCovered mask runs k = (bool_at mask k ≡ true) ⊎ LiesInRuns runs (length runs) k
 
 -- the least of n starts and the greatest of n ends
 pub record AreBounds (starts ends : ℕ → ℕ) (n least greatest : ℕ) : Type 0 where

@@ -1,5 +1,5 @@
 -- What a list view is made of, what it stands for, and what rebuilding gives.
-use Rattle.std.specs.Prelude.{◌≡◌, ℕ, Bool, true, false, List, map, Option}
+use Rattle.std.specs.Prelude.{◌≡◌, ℕ, Bool, true, false, List, map, codes, Option}
 use Rattle.vx_base.specs.declared.ptypes.PType.{PType}
 use Rattle.vx_base.specs.declared.ptypes.PType.TheVariants.{U8, U16, U32, U64, I8, I16, I32, I64}
 use Rattle.vx_base.specs.Rows.{Row, count_in, list_in}
@@ -45,6 +45,11 @@ flag_of _ = false
 -- the same list view under a flag
 abbrev pub with_flag : Bool → Tree → Tree
 with_flag f t = list_view (elements_of t) (offsets_of t) (sizes_of t) (validity_of t) f
+
+-- how the flag is printed
+abbrev pub flag_text : Bool → List ℕ
+flag_text true = codes "is_zero_copy_to_list: true"
+flag_text false = codes "is_zero_copy_to_list: false"
 
 -- ---- what it stands for
 

@@ -4,11 +4,14 @@ ghost use Rattle.std.specs.Prelude.{◌≡◌, ◌↔◌, ◌<◌, ◌∷◌, []
 ghost use Rattle.std.specs.Prelude.{slice_index_or};
 ghost use Rattle.std.specs.List.{flat_map};
 ghost use Rattle.vx_base.specs.Rows.{Row, count_in};
+ghost use Rattle.vx_lists.specs.declared.rebuild.ListViewRebuildMode.{ListViewRebuildMode};
 ghost use Rattle.vx_tree.specs.Meaning.{tree_len, row_at, rows};
 ghost use Rattle.vx_tree.specs.Tree.{Tree};
 ghost use Rattle.vx_lists.specs.ListLayout.{ListLayout, layout, rows_of, IsWellFormed, StandsFor, items_of, size_of, canonical, IsTidy};
 ghost use Rattle.vx_lists.specs.ListLayout.{valid_total, numbered, position_rows, map_layout};
-ghost use Rattle.vx_lists.specs.ListViews.{counts_in, list_layout_of, list_rows, AreAlike, IsRebuilt};
+ghost use Rattle.vx_lists.specs.ListReferences.{IsTrimmedToBounds};
+ghost use Rattle.vx_lists.specs.ListViews.{offsets_of, sizes_of, flag_of, counts_in, list_layout_of, list_rows, AreAlike, IsRebuilt};
+ghost use Rattle.vx_lists.specs.RebuildModes.{HasEmptyNulls, IsExact, IsRebuiltBy};
 
 use crate::list_view::ListViewArray;
 
@@ -116,6 +119,35 @@ pub fn equal_rows_rebuild_alike()
     ensures { (t u r q : Tree) → IsRebuilt t r → IsRebuilt u q →
         AreAlike r q ↔ (rows t ≡ rows u) }
 {}
+
+/// A flagged list view whose null rows have size 0 is in the canonical layout of its lists once it
+/// is trimmed to its bounds, as `MakeExact` does: offsets and sizes as numbers, mask and element
+/// rows. Offsets and sizes keep their types.
+pub fn trimmed_views_are_exact(lists: &ListViewArray)
+    ensures { (r : Tree) → flag_of lists.now ≡ true → HasEmptyNulls lists.now →
+        IsTrimmedToBounds lists.now r → IsExact lists.now r }
+{
+    lists.parts();
+}
+
+/// What a mode has rebuilt stays as it is when that mode rebuilds it again: offsets and sizes as
+/// numbers, mask, element rows and flag.
+pub fn rebuilt_twice_is_rebuilt_once()
+    ensures alike { (mode : ListViewRebuildMode) (t r q : Tree) →
+        IsRebuiltBy mode t r → IsRebuiltBy mode r q → AreAlike r q }
+    ensures flag { (mode : ListViewRebuildMode) (t r q : Tree) →
+        IsRebuiltBy mode t r → IsRebuiltBy mode r q → flag_of q ≡ flag_of r }
+{}
+
+/// Each list of a list view starts where it does in one that is alike, and is as long.
+pub fn alike_views_have_equal_places(lists: &ListViewArray)
+    ensures offsets { (t : Tree) (i : ℕ) → AreAlike lists.now t → i < tree_len lists.now →
+        count_in (row_at (offsets_of lists.now) i) ≡ count_in (row_at (offsets_of t) i) }
+    ensures sizes { (t : Tree) (i : ℕ) → AreAlike lists.now t → i < tree_len lists.now →
+        count_in (row_at (sizes_of lists.now) i) ≡ count_in (row_at (sizes_of t) i) }
+{
+    lists.parts();
+}
 
 /// Lists that overlap are laid out one after the other.
 pub fn overlapping_lists_part()

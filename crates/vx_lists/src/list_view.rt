@@ -1,20 +1,16 @@
 // Lists that lie anywhere among shared elements.
 
-ghost use Rattle.std.specs.Prelude.{◌≡◌, ◌↔◌, ◌<◌, ◌≤◌, ◌+◌, ◌^◌, true, false, Some, None, IfOk, IsTrue, IsOkUnless, if◌then◌else◌};
-ghost use Rattle.std.specs.Prelude.{slice_range};
-ghost use Rattle.vx_base.specs.Refusals.{Refuses};
-ghost use Rattle.vx_base.specs.Rows.{count_in, is_present, list_in};
-ghost use Rattle.vx_base.specs.declared.errors.VortexError.TheVariants.{Memory};
+ghost use Rattle.std.specs.Prelude.{◌≡◌, ◌↔◌, ◌<◌, ◌^◌, true, false, IfOk, IsTrue};
+ghost use Rattle.vx_base.specs.Refusals.{Gives, Refuses};
 ghost use Rattle.vx_tree.specs.Formed.{WellFormed, IsConsecutive, IsCounts};
-ghost use Rattle.vx_tree.specs.Meaning.{tree_len, kind_of, row_at, rows};
+ghost use Rattle.vx_tree.specs.Meaning.{tree_len};
 ghost use Rattle.vx_tree.specs.Parts.{valid_of};
-ghost use Rattle.vx_tree.specs.Shapes.{shape_of, sliced_shape};
 ghost use Rattle.vx_tree.specs.Tree.{list_view};
 ghost use Rattle.vx_lists.specs.ListViewFaults.{list_view_fault};
-ghost use Rattle.vx_lists.specs.ListViews.{is_list_view, elements_of, offsets_of, sizes_of, flag_of};
+ghost use Rattle.vx_lists.specs.ListViews.{is_list_view, elements_of, offsets_of, sizes_of, flag_of, with_flag};
 
 use crate::count_arrays::{count_at, number_bytes};
-use crate::list_checks::check_list_view;
+use crate::list_view_data::ListViewData;
 use crate::number_rows::are_number_rows_consecutive;
 use std::alloc::Global;
 use std::marker::Model;
@@ -71,18 +67,35 @@ impl TypedArray for ListViewArray {
     }
 
     fn into_array(self) -> ArrayRef {
-        let _ = &self.array;
         let ListViewArray { array } = self;
         array
     }
 }
 
 impl ListViewArray {
-    /// A list view of these parts. Refuses `MismatchedTypes` where offsets or sizes are not of a
-    /// non-nullable integer type or the validity is an array but not of plain booleans;
-    /// `LengthMismatch` where the sizes, then the validity are not as long as the offsets; then at
-    /// the first faulty row `Negative`, `Overflow` where its end passes every `usize`, or
-    /// `OutOfBounds` with its end where that passes the elements. Null rows are tested too.
+    /// A list view of these parts: the offsets 2, 0, 1 and sizes 2, 1, 2 over the elements 1, 2, 3,
+    /// 4 are the lists `[3, 4]`, `[1]`, `[2, 3]`. Asks what `try_new` tests. The flag is not set.
+    /// Fails only for want of memory.
+    pub fn new(
+        alloc: Global,
+        elements: ArrayRef,
+        offsets: ArrayRef,
+        sizes: ArrayRef,
+        validity: Validity,
+    ) -> Result<ListViewArray, VortexError>
+        requires { WellFormed (list_view elements offsets sizes (valid_of validity) false) }
+        ensures { Gives result (λ a. a ≡ list_view elements offsets sizes (valid_of validity) false) }
+    {
+        let array = ArrayRef::list_view(alloc, elements, offsets, sizes, validity, false)?;
+        Ok(ListViewArray { array })
+    }
+
+    /// A list view of these parts. The flag is not set. Refuses `MismatchedTypes` where offsets or
+    /// sizes are not of a non-nullable integer type or the validity is an array but not of plain
+    /// booleans; `LengthMismatch` where the sizes, then the validity are not as long as the
+    /// offsets; then at the first faulty row `Negative`, `Overflow` where its end passes every
+    /// `usize`, or `OutOfBounds` with its end where that passes the elements. Null rows are tested
+    /// too.
     pub fn try_new(
         alloc: Global,
         elements: ArrayRef,
@@ -95,8 +108,35 @@ impl ListViewArray {
         ensures refuses { Refuses result
             (list_view_fault elements offsets sizes (valid_of validity)) }
     {
-        check_list_view(&elements, &offsets, &sizes, &validity)?;
-        let array = ArrayRef::list_view(alloc, elements, offsets, sizes, validity, false)?;
+        ListViewData::validate(&elements, &offsets, &sizes, &validity)?;
+        ListViewArray::new(alloc, elements, offsets, sizes, validity)
+    }
+
+    /// The same list view with the flag as given. Asks that each list, null rows counted, ends
+    /// where the next one starts, where the flag is set: `is_consecutive` tells that. Fails only
+    /// for want of memory.
+    pub fn with_zero_copy_to_list(
+        self,
+        alloc: Global,
+        flag: bool,
+    ) -> Result<ListViewArray, VortexError>
+        requires { IsTrue flag → IsConsecutive (offsets_of self) (sizes_of self) }
+        ensures { Gives result (λ a. a ≡ with_flag flag self) }
+    {
+        self.with_flag(alloc, flag)
+    }
+
+    // The same parts under this flag.
+    pub(crate) fn with_flag(&self, alloc: Global, flag: bool) -> Result<ListViewArray, VortexError>
+        requires { IsTrue flag → IsConsecutive (offsets_of self.now) (sizes_of self.now) }
+        ensures { Gives result (λ a. a ≡ with_flag flag self.now) }
+    {
+        let parts = self.parts();
+        let elements = parts.elements.try_clone(alloc)?;
+        let offsets = parts.offsets.try_clone(alloc)?;
+        let sizes = parts.sizes.try_clone(alloc)?;
+        let validity = parts.validity.try_clone(alloc)?;
+        let array = ArrayRef::list_view(alloc, elements, offsets, sizes, validity, flag)?;
         Ok(ListViewArray { array })
     }
 
@@ -116,7 +156,8 @@ impl ListViewArray {
                 validity,
                 flag,
             } => {
-                let _len = elements.len();
+                // There are fewer than 2^64.
+                elements.len();
                 ListViewParts {
                     elements,
                     offsets,
@@ -156,30 +197,10 @@ impl ListViewArray {
 
     /// Whether it is known that each list, null rows counted, ends where the next one starts.
     pub fn is_zero_copy_to_list(&self) -> bool
-        ensures { result ≡ flag_of self.now }
+        ensures value { result ≡ flag_of self.now }
+        ensures consecutive { IsTrue result → IsConsecutive (offsets_of self.now) (sizes_of self.now) }
     {
         self.parts().flag
-    }
-
-    /// Where list `i` starts; `offset_at(i) + size_at(i)`, where it ends, is at most the number of
-    /// elements. Asks a row below the length.
-    pub fn offset_at(&self, i: usize) -> usize
-        requires { i < tree_len self.now }
-        ensures value { result ≡ count_in (row_at (offsets_of self.now) i) }
-        ensures within { result + count_in (row_at (sizes_of self.now) i)
-            ≤ tree_len (elements_of self.now) }
-    {
-        count_at(self.parts().offsets, i)
-    }
-
-    /// How many elements list `i` has. Asks a row below the length.
-    pub fn size_at(&self, i: usize) -> usize
-        requires { i < tree_len self.now }
-        ensures value { result ≡ count_in (row_at (sizes_of self.now) i) }
-        ensures within { count_in (row_at (offsets_of self.now) i) + result
-            ≤ tree_len (elements_of self.now) }
-    {
-        count_at(self.parts().sizes, i)
     }
 
     /// Whether each list, null rows counted, ends where the next one starts: what a set flag says.
@@ -200,25 +221,5 @@ impl ListViewArray {
             }
         }
         true
-    }
-
-    /// The elements of list `i`, also where the row is null. Where it is not, row `i` is the list
-    /// of their rows. Asks a row below the length.
-    pub fn list_elements_at(&self, alloc: Global, i: usize) -> Result<ArrayRef, VortexError>
-        requires { i < tree_len self.now }
-        ensures list { let row = row_at self.now i in IfOk result (λ a.
-            list_in row ≡ (if is_present row then Some (rows a) else None)) }
-        ensures rows { let start = count_in (row_at (offsets_of self.now) i)
-            in let end = start + count_in (row_at (sizes_of self.now) i)
-            in IfOk result (λ a. rows a ≡ slice_range (rows (elements_of self.now)) start end) }
-        ensures kind { IfOk result (λ a. kind_of a ≡ kind_of (elements_of self.now)) }
-        ensures shape { IfOk result (λ a.
-            shape_of a ≡ sliced_shape (shape_of (elements_of self.now))) }
-        ensures err { IsOkUnless result Memory }
-    {
-        let parts = self.parts();
-        let start = count_at(parts.offsets, i);
-        let end = start + count_at(parts.sizes, i);
-        parts.elements.slice(alloc, start..end)
     }
 }

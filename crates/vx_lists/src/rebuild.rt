@@ -1,15 +1,14 @@
 // Rebuilding: the rows of a list view in another layout of the same lists.
 
-ghost use Rattle.std.specs.Prelude.{◌≡◌, ◌≢◌, ◌/◌, ◌==◌, ◌||◌, true, false, None, IfOk, IsTrue, nat_lt};
+ghost use Rattle.std.specs.Prelude.{◌≡◌, ◌≢◌, ◌/◌, ◌==◌, ◌||◌, true, false, None, IfOk, nat_lt};
 ghost use Rattle.vx_base.specs.Refusals.{Gives, Refuses};
 ghost use Rattle.vx_tree.specs.Faults.{take_overflow};
-ghost use Rattle.vx_tree.specs.Formed.{IsConsecutive};
 ghost use Rattle.vx_tree.specs.Meaning.{tree_len, rows};
 ghost use Rattle.vx_tree.specs.Operations.{IsSelected};
 ghost use Rattle.vx_lists.specs.declared.rebuild.ListViewRebuildMode.TheVariants.{MakeZeroCopyToList, TrimElements, MakeExact};
 ghost use Rattle.vx_lists.specs.ListViewFaults.{rebuilt_total_fault, rebuild_overflow, rebuild_fault};
 ghost use Rattle.vx_lists.specs.ListReferences.{IsTrimmedToBounds};
-ghost use Rattle.vx_lists.specs.ListViews.{elements_of, offsets_of, sizes_of, flag_of, with_flag, valid_positions_of, IsRebuildPlan};
+ghost use Rattle.vx_lists.specs.ListViews.{elements_of, flag_of, with_flag, valid_positions_of, IsRebuildPlan};
 ghost use Rattle.vx_lists.specs.ListViews.{IsRebuilt};
 ghost use Rattle.vx_lists.specs.PlannedRuns.{ArePlannedRuns};
 
@@ -133,6 +132,21 @@ impl ListViewArray {
         self.elements_at_positions(alloc, plan)
     }
 
+    // The elements of the plan, at once or run by run, as `should_use_take` says.
+    fn planned_elements(&self, alloc: Global, plan: &RebuildPlan) -> Result<ArrayRef, VortexError>
+        requires plan { IsRebuildPlan self.now plan.now.offset_type plan.now.offsets
+            plan.now.size_type plan.now.sizes plan.now.count }
+        requires fits { rebuilt_total_fault self.now ≡ None }
+        ensures selected { IfOk result
+            (IsSelected (elements_of self.now) (valid_positions_of self.now)) }
+        ensures refuses { Refuses result (rebuild_overflow self.now) }
+    {
+        if Self::should_use_take(plan.count as u64, self.len()) {
+            return self.take_elements(alloc, plan);
+        }
+        self.elements_by_runs(alloc, plan)
+    }
+
     // The rebuilt list view of a plan over these elements.
     fn rebuilt(
         &self,
@@ -195,18 +209,14 @@ impl ListViewArray {
         rows == 0 || total / (rows as u64) < 128
     }
 
-    // The same parts under this flag.
-    fn with_flag(&self, alloc: Global, flag: bool) -> Result<ListViewArray, VortexError>
-        requires { IsTrue flag → IsConsecutive (offsets_of self.now) (sizes_of self.now) }
-        ensures { Gives result (λ a. a ≡ with_flag flag self.now) }
+    // The same as `rebuild_by_take` and `rebuild_by_runs` give, the way that `should_use_take` says.
+    fn lay_end_to_end(&self, alloc: Global) -> Result<ListViewArray, VortexError>
+        ensures rebuilt { IfOk result (IsRebuilt self.now) }
+        ensures refuses { Refuses result (rebuild_overflow self.now) }
     {
-        let parts = self.parts();
-        let elements = parts.elements.try_clone(alloc)?;
-        let offsets = parts.offsets.try_clone(alloc)?;
-        let sizes = parts.sizes.try_clone(alloc)?;
-        let validity = parts.validity.try_clone(alloc)?;
-        let array = ArrayRef::list_view(alloc, elements, offsets, sizes, validity, flag)?;
-        Ok(ListViewArray::from_array(array))
+        let plan = self.plan(alloc)?;
+        let elements = self.planned_elements(alloc, &plan)?;
+        Ok(self.rebuilt(alloc, plan, elements)?)
     }
 
     // The same lists over just the elements that they lie in.
@@ -214,16 +224,17 @@ impl ListViewArray {
         requires { tree_len self.now ≢ 0 }
         ensures { Gives result (IsTrimmedToBounds self.now) }
     {
-        let (start, end) = self.referenced_element_bounds()?;
+        let (start, end) = self.element_bounds()?;
         self.trim_elements(alloc, start, end)
     }
 
     /// The same rows, rebuilt as `mode` says. An array without rows comes back with the flag set
     /// and all its elements, in every mode. Of any other, `MakeZeroCopyToList` gives a flagged one
-    /// as it is, and one without the flag as `rebuild_by_take` does; `TrimElements` gives it
-    /// trimmed to `referenced_element_bounds`; `MakeExact` gives a flagged one trimmed, and one
-    /// without the flag as `rebuild_by_take` does, which refuses `Overflow`; `OverlapCompression`
-    /// refuses `NotImplemented`.
+    /// as it is, and one without the flag laid end to end; `TrimElements` gives it trimmed to
+    /// `referenced_element_bounds`; `MakeExact` gives a flagged one trimmed, and one without the
+    /// flag laid end to end; `OverlapCompression` refuses `NotImplemented`. Lists are laid end to
+    /// end as `rebuild_by_take` does where `should_use_take` says so of the total of the valid
+    /// sizes and the rows, else as `rebuild_by_runs` does; both refuse `Overflow`.
     pub fn rebuild(
         &self,
         alloc: Global,
@@ -257,7 +268,7 @@ impl ListViewArray {
         }
         match mode {
             ListViewRebuildMode::MakeZeroCopyToList | ListViewRebuildMode::MakeExact => {
-                self.rebuild_by_take(alloc)
+                self.lay_end_to_end(alloc)
             }
             ListViewRebuildMode::TrimElements => Ok(self.trim_to_bounds(alloc)?),
             ListViewRebuildMode::OverlapCompression => Err(VortexError::NotImplemented),

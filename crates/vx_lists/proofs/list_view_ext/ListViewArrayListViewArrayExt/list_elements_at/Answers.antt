@@ -5,7 +5,7 @@ use Rattle.vx_base.specs.Rows.{count_in}
 use Rattle.vx_tree.specs.Parts.{valid_of}
 use Rattle.vx_tree.specs.Meaning.{row_at, rows}
 use Rattle.vx_lists.proofs.ViewLayouts.{list_of_elements}
-use Rattle.vx_lists.proofs.list_view.ListViewArray.list_elements_at.Goals as goal
+use Rattle.vx_lists.proofs.list_view_ext.ListViewArrayListViewArrayExt.list_elements_at.Goals as goal
 
 pub returns-clause-list : goal.returns-clause-list
 returns-clause-list c =

@@ -2,7 +2,7 @@ use Rattle.std.proofs.Common.{◌≡◌, ◌+◌, ◌-◌, ap, ◌∙◌, arith}
 use Rattle.vx_tree.specs.Meaning.{tree_len}
 use Rattle.vx_tree.specs.Parts.{valid_of}
 use Rattle.vx_lists.proofs.ReferencedElements.{bounds_referenced, bounds_within, bounds_of_flagged}
-use Rattle.vx_lists.proofs.list_view.ListViewArray.referenced_element_bounds.Goals as goal
+use Rattle.vx_lists.proofs.list_view.ListViewArray.element_bounds.Goals as goal
 
 pub returns-then-parts-clause-ok : goal.returns-then-parts-clause-ok
 returns-then-parts-clause-ok c =

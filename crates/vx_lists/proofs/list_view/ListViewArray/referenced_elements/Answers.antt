@@ -2,7 +2,7 @@ use Rattle.std.proofs.Common.{◌∙◌, sym, subst}
 use Rattle.vx_tree.specs.Parts.{valid_of}
 use Rattle.vx_lists.specs.ListReferences.{MarksReferenced}
 use Rattle.vx_lists.proofs.ReferencedElements.{marked_within, marks_referenced}
-use Rattle.vx_lists.proofs.list_view.ListViewArray.compute_referenced_elements_mask.Goals as goal
+use Rattle.vx_lists.proofs.list_view.ListViewArray.referenced_elements.Goals as goal
 
 pub mark_lists-requires-clause-within : goal.mark_lists-requires-clause-within
 mark_lists-requires-clause-within c =
