@@ -1,12 +1,13 @@
 -- The numbers of a rebuilt list view, by the rows that it has.
-use Rattle.std.proofs.Common.{◌≡◌, ℕ, ◌+◌, ◌<◌, ◌≤◌, List, [], ◌∷◌, ◌++◌, length, take, map, get_or, sum, Option, sym, ◌∙◌, ap, subst, arith}
+use Rattle.std.proofs.Common.{◌≡◌, ℕ, ◌+◌, ◌<◌, ◌≤◌, List, [], ◌∷◌, ◌++◌, length, take, map, get_or, sum, Option, true, refl, sym, ◌∙◌, ap, subst, arith}
 use Rattle.std.proofs.lemmas.List.{take_more, take_all}
 use Rattle.vx_base.specs.Rows.{Row, count_in}
 use Rattle.std.specs.List.{flat_map}
-use Rattle.vx_tree.specs.Tree.{Tree}
-use Rattle.vx_tree.specs.Meaning.{tree_len, row_at, rows}
+use Rattle.vx_base.specs.Kinds.{lists, is_nullable_kind}
+use Rattle.vx_tree.specs.Tree.{Tree, bools, primitive, constant, dictionary, fixed_list, list_view, structure, view_array}
+use Rattle.vx_tree.specs.Meaning.{tree_len, kind_of, row_at, rows}
 use Rattle.vx_lists.specs.ListLayout.{items_of, size_of, starts_from}
-use Rattle.vx_lists.specs.ListViews.{elements_of, offsets_of, counts_in, list_rows, IsRebuilt}
+use Rattle.vx_lists.specs.ListViews.{is_list_view, elements_of, offsets_of, counts_in, list_rows, IsRebuilt}
 
 pub rebuilt_offsets : (t r : Tree) → IsRebuilt t r → counts_in (offsets_of r) ≡ starts_from 0 (map size_of (list_rows t))
 rebuilt_offsets t r is = ap (λ l. l.offsets) is.canonical_layout
@@ -18,6 +19,17 @@ rebuilt_elements t r is = ap (λ l. l.elements) is.canonical_layout
 pub rebuilt_count : ((t : Tree) → length (rows t) ≡ tree_len t) → ((ls : List (Option (List Row))) → length (flat_map items_of ls) ≡ sum (map size_of ls))
     → (t r : Tree) → IsRebuilt t r → tree_len (elements_of r) ≡ sum (map size_of (list_rows t))
 rebuilt_count row_count joined t r is = sym (row_count (elements_of r)) ∙ ap length (rebuilt_elements t r is) ∙ joined (list_rows t)
+
+-- lists are of the kind of their elements
+pub list_kind : (r : Tree) → is_list_view r ≡ true → kind_of r ≡ lists (kind_of (elements_of r)) (is_nullable_kind (kind_of r))
+list_kind (list_view e o s v f) is = refl
+list_kind (bools bits v) is = cc
+list_kind (primitive t bs v) is = cc
+list_kind (constant k r n) is = cc
+list_kind (dictionary c v f) is = cc
+list_kind (fixed_list e k v n) is = cc
+list_kind (structure ns ts v n) is = cc
+list_kind (view_array vs bs k v) is = cc
 
 -- ---- the offsets, one after another
 

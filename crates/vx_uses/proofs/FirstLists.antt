@@ -1,5 +1,5 @@
 -- The lists [3, 4], [1], [2, 3] over the elements 1 to 4, rebuilt.
-use Rattle.std.proofs.Common.{◌≡◌, ℕ, ◌+◌, ◌<◌, Bool, true, false, List, [], ◌∷◌, length, map, get_or, Option, Some, refl, sym, ◌∙◌, ap, arith}
+use Rattle.std.proofs.Common.{◌≡◌, ℕ, ◌+◌, ◌<◌, Bool, true, false, List, [], ◌∷◌, length, map, get_or, Option, Some, sym, ◌∙◌, ap, arith}
 use Rattle.std.specs.Prelude.{◌≢◌, ℤ, pos, slice_range}
 use Rattle.std.specs.List.{range_with_len, flat_map}
 use Rattle.vx_base.specs.Rows.{Row, null, items, whole, count_in, list_in}

@@ -1,4 +1,9 @@
 pub mod RowLists
 pub mod FoundFaults
 pub mod EndToEnd
+pub mod OrderedPages
+pub mod ListOffsets
+pub mod PickedValues
+pub mod ComparedLists
 pub mod FirstLists
+pub mod RebuildModes

@@ -9,7 +9,7 @@ use std::alloc::Global;
 use vx_base::{Buffer, NativePType, VortexError};
 use vx_leaves::PrimitiveArray;
 use vx_lists::laws::counts_stand_at_their_places;
-use vx_lists::{ListViewArray, ListViewRebuildMode};
+use vx_lists::{ListViewArray, ListViewArrayExt, ListViewRebuildMode};
 use vx_tree::row_laws::rows_stand_at_their_places;
 use vx_tree::{ArrayRef, TypedArray, Validity};
 

@@ -1,23 +1,31 @@
 //! Columns that a kernel cuts, regroups and reads, whatever their layout.
 
-ghost use Rattle.std.specs.Prelude.{◌≡◌, ◌<◌, ◌≤◌, ◌+◌, ◌-◌, true, count_by, is_some, replicate, IfOk, IsOkUnless, slice_range};
+ghost use Rattle.std.specs.Prelude.{◌≡◌, ◌<◌, ◌≤◌, ◌+◌, ◌-◌, ◌*◌, true, count_by, is_some, replicate, Option, IfOk, IfSome, IsOkUnless, slice_range};
 ghost use Rattle.std.specs.Option.{option_map};
 ghost use Rattle.vx_base.specs.Kinds.{is_integers, is_nullable_kind, or_nullable};
-ghost use Rattle.vx_base.specs.Refusals.{Refuses, or_else};
+ghost use Rattle.vx_base.specs.Refusals.{Refusal, Refuses, or_else};
 ghost use Rattle.vx_base.specs.Rows.{is_present, list_in};
 ghost use Rattle.vx_base.specs.declared.errors.VortexError.TheVariants.{Memory};
 ghost use Rattle.vx_tree.specs.Faults.{slice_fault};
 ghost use Rattle.vx_tree.specs.Meaning.{tree_len, kind_of, row_at, rows};
 ghost use Rattle.vx_tree.specs.Operations.{picks, positions};
+ghost use Rattle.vx_tree.specs.Tree.{non_nullable};
+ghost use Rattle.vx_lists.specs.FixedSizeLists.{fixed_list_fault};
+ghost use Rattle.vx_lists.specs.ListViews.{elements_of};
+ghost use Rattle.vx_uses.specs.Uses.{MayPassCounts, page_fault};
 
 use std::alloc::Global;
 use std::ops::Range;
 use vx_base::{Scalar, VortexError};
-use vx_lists::ListViewArray;
+use vx_lists::{FixedSizeListArray, FixedSizeListArrayExt, ListViewArray, ListViewArrayExt};
 use vx_tree::row_laws::{parts_of_parts_of_rows, rows_of_a_constant, rows_stand_at_their_places};
-use vx_tree::{ArrayRef, TypedArray};
+use vx_tree::{ArrayRef, TypedArray, Validity, fewer_rows_are_countable};
 
 /// A page of a column, in another order: the rows of `page` at the places that `order` names.
+/// Refuses `OutOfBounds` where the page does not lie within the column, `MismatchedTypes` where the
+/// order is of no integers, at its first faulty row `Negative` or `OutOfBounds`, then `Overflow`,
+/// which only lists of a fixed size and records meet, and only where the order is longer than the
+/// page.
 pub fn ordered_page(
     alloc: Global,
     column: &ArrayRef,
@@ -30,8 +38,12 @@ pub fn ordered_page(
         ≡ or_nullable (is_nullable_kind (kind_of order.now)) (kind_of column.now)) }
     ensures within { IfOk result (λ _. page.end ≤ tree_len column.now) }
     ensures integers { IfOk result (λ _. is_integers (kind_of order.now) ≡ true) }
+    ensures refuses { (passed : Option Refusal)
+        × (MayPassCounts column.now (page.end - page.start) order.now passed
+        × Refuses result (or_else (page_fault column.now page.start page.end order.now) passed)) }
 {
     let page = column.slice(alloc, page)?;
+    fewer_rows_are_countable(&page);
     page.take(alloc, order)
 }
 
@@ -44,6 +56,7 @@ pub fn inner_page(
 ) -> Result<ArrayRef, VortexError>
     ensures rows { IfOk result (λ a. rows a
         ≡ slice_range (rows column.now) (outer.start + inner.start) (outer.start + inner.end)) }
+    ensures kind { IfOk result (λ a. kind_of a ≡ kind_of column.now) }
     ensures refuses { Refuses result (or_else
         (slice_fault (tree_len column.now) outer.start outer.end)
         (slice_fault (outer.end - outer.start) inner.start inner.end)) }
@@ -72,12 +85,37 @@ pub fn list_of_row(
     requires { i < tree_len lists.now }
     ensures present { IfOk result (λ list. is_some list ≡ is_present (row_at lists.now i)) }
     ensures rows { IfOk result (λ list. option_map rows list ≡ list_in (row_at lists.now i)) }
+    ensures kind { IfOk result (λ list.
+        IfSome list (λ a. kind_of a ≡ kind_of (elements_of lists.now))) }
     ensures err { IsOkUnless result Memory }
 {
     if !lists.as_array().is_valid(alloc, i)? {
         return Ok(None);
     }
     Ok(Some(lists.list_elements_at(alloc, i)?))
+}
+
+/// Vector `i` of so many vectors of a width, whose numbers or other elements are those of one
+/// column, one vector after another. Asks a vector below the number of them. Refuses
+/// `DegenerateElements` where the width is 0 and there are elements; of another width `Overflow`
+/// where so many vectors have more elements than can be counted, then `LengthMismatch` where the
+/// column has not so many.
+pub fn vector_at(
+    alloc: Global,
+    column: ArrayRef,
+    width: u32,
+    count: usize,
+    i: usize,
+) -> Result<ArrayRef, VortexError>
+    requires { i < count }
+    ensures rows { IfOk result (λ a.
+        rows a ≡ slice_range (rows column) (i * width) ((i + 1) * width)) }
+    ensures len { IfOk result (λ a. tree_len a ≡ width) }
+    ensures kind { IfOk result (λ a. kind_of a ≡ kind_of column) }
+    ensures refuses { Refuses result (fixed_list_fault column width non_nullable count) }
+{
+    let vectors = FixedSizeListArray::try_new(alloc, column, width, Validity::NonNullable, count)?;
+    Ok(vectors.fixed_size_list_elements_at(alloc, i)?)
 }
 
 /// How many rows of a column of numbers are not null.

@@ -2,8 +2,12 @@
 //! them, proved over the public contracts alone.
 #![tactic(auto)]
 
+pub mod comparison;
 pub mod converter;
+pub mod encoder;
 pub mod first;
 pub mod kernel;
+pub mod modes;
 pub mod reader;
 pub mod texts;
+pub mod writer;

@@ -77,8 +77,10 @@ pub fn read_lists(alloc: Global, elements: ArrayRef, offsets: ArrayRef, sizes: A
     first_fault_is_least();
     match ListViewArray::try_new(alloc, elements, offsets, sizes, Validity::NonNullable) {
         Ok(lists) => Lists::Read(lists),
-        Err(VortexError::Negative { row }) => Lists::NegativeRow(row),
-        Err(VortexError::OutOfBounds { index, .. }) => Lists::EndsPast(index),
-        Err(refusal) => Lists::Refused(refusal),
+        Err(refusal) => match refusal {
+            VortexError::Negative { row } => Lists::NegativeRow(row),
+            VortexError::OutOfBounds { index, .. } => Lists::EndsPast(index),
+            _ => Lists::Refused(refusal),
+        },
     }
 }

@@ -1,8 +1,9 @@
 use Rattle.std.proofs.Common.{◌≡◌, ◌<◌, ◌≤◌, [], ◌∷◌, ◌++◌, map, sym, ◌∙◌, ap, arith}
-use Rattle.vx_tree.specs.Meaning.{tree_len}
+use Rattle.vx_base.specs.Kinds.{lists, is_nullable_kind}
+use Rattle.vx_tree.specs.Meaning.{tree_len, kind_of}
 use Rattle.vx_lists.specs.ListLayout.{size_of, starts_from}
-use Rattle.vx_lists.specs.ListViews.{offsets_of, list_rows}
-use Rattle.vx_uses.proofs.EndToEnd.{one_more, all_read, rebuilt_offsets, rebuilt_count}
+use Rattle.vx_lists.specs.ListViews.{elements_of, offsets_of, list_rows}
+use Rattle.vx_uses.proofs.EndToEnd.{one_more, all_read, rebuilt_offsets, rebuilt_count, list_kind}
 use Rattle.vx_uses.proofs.converter.lists_end_to_end.Goals as goal
 
 pub loop-i-preserved : goal.loop-i-preserved
@@ -22,3 +23,10 @@ returns-clause-offsets c =
     c.in_ok-push-2.ensures.items
     ∙ ap (λ xs. xs ++ c.len-2.result ∷ []) (read ∙ rebuilt_offsets t c.in_ok-rebuilt.rebuilt is)
     ∙ ap (λ n. starts_from 0 (map size_of (list_rows t)) ++ n ∷ []) (c.len-2.ensures ∙ ap tree_len c.elements.ensures ∙ rebuilt_count c.rows_stand_at_their_places.ensures.len c.joined_rows_have_all_elements.ensures t c.in_ok-rebuilt.rebuilt is)
+
+pub returns-clause-kind : goal.returns-clause-kind
+returns-clause-kind c =
+    let r = c.in_ok-rebuilt.rebuilt in
+    let is = c.in_ok-rebuilt.ensures.rebuilt in
+    let cloned : c.in_ok-elements.elements ≡ elements_of r = c.in_ok-elements.ensures ∙ c.elements-2.ensures in
+    sym is.kind ∙ list_kind r is.is_view ∙ ap (λ e. lists (kind_of e) (is_nullable_kind (kind_of r))) (sym cloned) ∙ ap (λ k. lists (kind_of c.in_ok-elements.elements) (is_nullable_kind k)) is.kind

@@ -1,5 +1,4 @@
-use Rattle.std.proofs.Common.{◌≡◌, ◌<◌, Some, refl, ◌∙◌, ap, arith}
-use Rattle.std.specs.Prelude.{pos}
+use Rattle.std.proofs.Common.{refl, ◌∙◌, ap, arith}
 use Rattle.vx_base.specs.Rows.{number_in}
 use Rattle.vx_base.specs.Kinds.{is_integers}
 use Rattle.vx_uses.proofs.FirstLists.{ArePlaced, IsFirst, IsThird, first_rebuilt, first_integers, third_read}

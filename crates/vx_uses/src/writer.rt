@@ -1,0 +1,57 @@
+//! Values as a writer lays them out: views, and the buffers that they refer to.
+
+ghost use Rattle.std.specs.Prelude.{◌≡◌, ◌<◌, ◌≤◌, ℕ, List, [], length, map, slice_index_or, IfOk};
+ghost use Rattle.vx_base.specs.Refusals.{Refuses};
+ghost use Rattle.vx_views.specs.BuildFaults.{lengths_of, build_fault, IsPieceCount};
+ghost use Rattle.vx_views.specs.Cut.{IsCut};
+ghost use Rattle.vx_views.specs.Places.{value_at};
+ghost use Rattle.vx_views.specs.Views.{view_value, Resolves};
+
+use std::alloc::Global;
+use vx_base::{Buffer, ByteBuffer, NativePType, VortexError};
+use vx_views::{BinaryView, build_views};
+
+/// Values as a column of views stores them. Each view resolves.
+#[derive(Drop)]
+pub struct ValueColumn {
+    /// The bytes of the longer values.
+    pub buffers: Vec<ByteBuffer>,
+    /// One view a row.
+    pub views: Buffer<BinaryView>,
+    ghost resolve: { (row : ℕ) → row < length views → Resolves buffers.items (slice_index_or views row []) },
+}
+
+impl ValueColumn {
+    /// The value of a row. Asks a row below the length.
+    pub fn value(&self, row: usize) -> &[u8]
+        requires { row < length self.now.views }
+        ensures { result.now
+            ≡ view_value self.now.buffers.items (slice_index_or self.now.views row []) }
+    {
+        self.views.as_slice()[row].value_in(&self.buffers)
+    }
+}
+
+/// Writes values that stand one after another in a heap and have these lengths, in buffers of at
+/// most `limit` bytes. Each row reads back its value, and no cut of the heap at the ends of values
+/// into pieces of at most `limit` bytes has fewer pieces than there are buffers. Refuses what
+/// `build_views` does.
+pub fn write_values<P: NativePType>(
+    alloc: Global,
+    limit: usize,
+    heap: ByteBuffer,
+    lens: &[P],
+) -> Result<ValueColumn, VortexError>
+    ensures len { IfOk result (λ c. length c.views ≡ length lens.now) }
+    ensures read_back { IfOk result (λ c. (row : ℕ) → row < length lens.now →
+        view_value c.buffers.items (slice_index_or c.views row [])
+        ≡ value_at heap (lengths_of (map P.value lens.now)) row) }
+    ensures fewest { IfOk result (λ c. (others : List ℕ) →
+        IsCut limit (lengths_of (map P.value lens.now)) others →
+        length c.buffers.items ≤ length others) }
+    ensures refuses { (pieces : ℕ) × (IsPieceCount limit (lengths_of (map P.value lens.now)) pieces
+        × Refuses result (build_fault 0 limit (length heap) (map P.value lens.now) pieces)) }
+{
+    let (buffers, views) = build_views(alloc, 0, limit, heap, lens)?;
+    Ok(ValueColumn { buffers, views })
+}
