@@ -4,6 +4,8 @@
 #![tactic(auto)]
 
 #[cfg(test)]
+mod steps;
+#[cfg(test)]
 mod tests;
 
 use std::process::ExitCode;

@@ -1,3 +1,6 @@
 pub mod Decimals
 pub mod Counts
 pub mod Fields
+pub mod StepRuns
+pub mod StepResults
+pub mod StepPositions

@@ -1,8 +1,8 @@
 // The commands of the script language.
 
 use crate::faults::LineFault;
-use crate::literals::{Literal, boolean_array, constant_array, integer_array};
-use crate::operands::{RegisterWord, ValidityWord, dtype_named, whole_number};
+use crate::literals::{Literal, boolean_array, constant_array, integer_array, text_array};
+use crate::operands::{RegisterWord, ValidityWord, dtype_named, list_size, whole_number};
 use crate::words::Words;
 use std::alloc::Global;
 use vx_base::DType;
@@ -11,16 +11,13 @@ use vx_lists::ListViewRebuildMode;
 // A line that is in the grammar, with its operands.
 #[derive(Drop)]
 pub(crate) enum Command {
-    // `ints T LIST`, `bools T LIST`, `const T ITEM N`: the array that the line spells out, or why
-    // it is refused.
+    // `ints T LIST`, `bools T LIST`, `texts T LIST`, `const T ITEM N`: the array that the line
+    // spells out, or why it is refused.
     Literal(Literal),
     // `listview R R R V`: a list view.
-    ListView {
-        elements: RegisterWord,
-        offsets: RegisterWord,
-        sizes: RegisterWord,
-        validity: ValidityWord,
-    },
+    ListView(ListViewWords),
+    // `fixed R N V N`: lists of one size.
+    FixedSizeList(FixedSizeListWords),
     // `dict R R`: a dictionary.
     Dictionary {
         codes: RegisterWord,
@@ -70,6 +67,24 @@ pub(crate) enum Command {
     },
 }
 
+// The parts of a list view, as a line names them.
+#[derive(Clone, Copy, Debug)]
+pub(crate) struct ListViewWords {
+    pub elements: RegisterWord,
+    pub offsets: RegisterWord,
+    pub sizes: RegisterWord,
+    pub validity: ValidityWord,
+}
+
+// The parts of lists of one size, as a line names them.
+#[derive(Clone, Copy, Debug)]
+pub(crate) struct FixedSizeListWords {
+    pub elements: RegisterWord,
+    pub size: u32,
+    pub validity: ValidityWord,
+    pub len: usize,
+}
+
 // The command of a line without its line feed, or `None` where the line has no words. Refuses
 // `Syntax` where the line is not in the grammar, or memory.
 pub(crate) fn parse_command(alloc: Global, line: &[u8]) -> Result<Option<Command>, LineFault> {
@@ -77,32 +92,39 @@ pub(crate) fn parse_command(alloc: Global, line: &[u8]) -> Result<Option<Command
     let Some(name) = words.next() else {
         return Ok(None);
     };
-    let command = match name {
-        b"ints" => integers(alloc, &mut words)?,
-        b"bools" => booleans(alloc, &mut words)?,
-        b"const" => constant(alloc, &mut words)?,
-        b"listview" => list_view(&mut words)?,
-        b"dict" => dictionary(&mut words)?,
-        b"slice" => slice(&mut words)?,
-        b"take" => take(&mut words)?,
-        b"filter" => filter(&mut words)?,
-        b"mask" => mask(&mut words)?,
-        b"concat" => concat(alloc, &mut words)?,
-        b"rebuild" => rebuild(&mut words)?,
-        b"narrow" => Command::Narrow {
-            array: register(&mut words)?,
-        },
-        b"show" => Command::Show {
-            array: register(&mut words)?,
-        },
-        b"parts" => Command::Parts {
-            array: register(&mut words)?,
-        },
-        _ => return Err(LineFault::Syntax),
-    };
+    let command = command_named(alloc, name, &mut words)?;
     match words.next() {
         None => Ok(Some(command)),
         Some(_) => Err(LineFault::Syntax),
+    }
+}
+
+// The command of this name, with the operands that it takes from the words after it.
+fn command_named(alloc: Global, name: &[u8], words: &mut Words<'_>) -> Result<Command, LineFault> {
+    match name {
+        b"ints" => integers(alloc, words),
+        b"bools" => booleans(alloc, words),
+        b"texts" => texts(alloc, words),
+        b"const" => constant(alloc, words),
+        b"listview" => list_view(words),
+        b"fixed" => fixed_size_list(words),
+        b"dict" => dictionary(words),
+        b"slice" => slice(words),
+        b"take" => take(words),
+        b"filter" => filter(words),
+        b"mask" => mask(words),
+        b"concat" => concat(alloc, words),
+        b"rebuild" => rebuild(words),
+        b"narrow" => Ok(Command::Narrow {
+            array: register(words)?,
+        }),
+        b"show" => Ok(Command::Show {
+            array: register(words)?,
+        }),
+        b"parts" => Ok(Command::Parts {
+            array: register(words)?,
+        }),
+        _ => Err(LineFault::Syntax),
     }
 }
 
@@ -122,6 +144,15 @@ fn booleans(alloc: Global, words: &mut Words<'_>) -> Result<Command, LineFault> 
     Ok(Command::Literal(array))
 }
 
+fn texts(alloc: Global, words: &mut Words<'_>) -> Result<Command, LineFault> {
+    let dtype = dtype(words)?;
+    if !matches!(dtype, DType::Utf8(_) | DType::Binary(_)) {
+        return Err(LineFault::Syntax);
+    }
+    let array = text_array(alloc, dtype, word(words)?)?;
+    Ok(Command::Literal(array))
+}
+
 fn constant(alloc: Global, words: &mut Words<'_>) -> Result<Command, LineFault> {
     let dtype = dtype(words)?;
     let item = word(words)?;
@@ -130,12 +161,21 @@ fn constant(alloc: Global, words: &mut Words<'_>) -> Result<Command, LineFault> 
 }
 
 fn list_view(words: &mut Words<'_>) -> Result<Command, LineFault> {
-    Ok(Command::ListView {
+    Ok(Command::ListView(ListViewWords {
         elements: register(words)?,
         offsets: register(words)?,
         sizes: register(words)?,
-        validity: ValidityWord::from_word(word(words)?).ok_or(LineFault::Syntax)?,
-    })
+        validity: validity(words)?,
+    }))
+}
+
+fn fixed_size_list(words: &mut Words<'_>) -> Result<Command, LineFault> {
+    Ok(Command::FixedSizeList(FixedSizeListWords {
+        elements: register(words)?,
+        size: list_size(word(words)?).ok_or(LineFault::Syntax)?,
+        validity: validity(words)?,
+        len: number(words)?,
+    }))
 }
 
 fn dictionary(words: &mut Words<'_>) -> Result<Command, LineFault> {
@@ -207,6 +247,11 @@ fn dtype(words: &mut Words<'_>) -> Result<DType, LineFault> {
 // The register that the next word names.
 fn register(words: &mut Words<'_>) -> Result<RegisterWord, LineFault> {
     RegisterWord::from_word(word(words)?).ok_or(LineFault::Syntax)
+}
+
+// The validity that the next word names.
+fn validity(words: &mut Words<'_>) -> Result<ValidityWord, LineFault> {
+    ValidityWord::from_word(word(words)?).ok_or(LineFault::Syntax)
 }
 
 // The number that the next word writes.

@@ -8,17 +8,23 @@ use vx_base::{ByteBuffer, VortexError};
 
 // The bytes that a word writes. Refuses `Syntax` where it is not `x` and an even count of digits.
 pub(crate) fn read_bytes(alloc: Global, word: &[u8]) -> Result<ByteBuffer, LineFault> {
+    let mut bytes = Vec::with_capacity(alloc, word.len() / 2)?;
+    append_bytes(word, &mut bytes)?;
+    Ok(ByteBuffer::from_vec(alloc, bytes)?)
+}
+
+// Adds the bytes that a word writes. Refuses as `read_bytes` does.
+pub(crate) fn append_bytes(word: &[u8], bytes: &mut Vec<u8>) -> Result<(), LineFault> {
     let [b'x', digits @ ..] = word else {
         return Err(LineFault::Syntax);
     };
     if digits.len() % 2 != 0 {
         return Err(LineFault::Syntax);
     }
-    let mut bytes = Vec::with_capacity(alloc, digits.len() / 2)?;
     for pair in digits.chunks_exact(2) {
         bytes.push(byte_of(pair).ok_or(LineFault::Syntax)?)?;
     }
-    Ok(ByteBuffer::from_vec(alloc, bytes)?)
+    Ok(())
 }
 
 // Adds these bytes to a text.

@@ -1,6 +1,8 @@
-//! Runs scripts that build columnar arrays, rebuild them and print them.
+//! Runs scripts that build columnar arrays, rebuild them and print them, and lists of steps on
+//! arrays.
 #![tactic(auto)]
 
+mod byte_items;
 mod command;
 mod faults;
 mod hexadecimal;
@@ -9,9 +11,13 @@ mod literals;
 mod operands;
 mod parts;
 mod registers;
-mod run;
+mod run_steps;
+mod script;
 mod show;
 mod show_scalar;
+mod steps;
 mod words;
 
-pub use crate::run::run_script;
+pub use crate::run_steps::{RunFault, run};
+pub use crate::script::run_script;
+pub use crate::steps::Step;

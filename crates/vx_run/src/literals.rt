@@ -1,6 +1,7 @@
 // Arrays that a line spells out. Each is the refusal `HasNulls` where it has a null that may not
 // be.
 
+use crate::byte_items::ByteItems;
 use crate::faults::LineFault;
 use crate::hexadecimal::read_bytes;
 use crate::operands::{integer_of, integer_within, truth_value};
@@ -8,9 +9,10 @@ use num_traits::Zero;
 use std::alloc::Global;
 use vx_base::{
     BitBufferMut, BufferMut, DType, NativePType, Nullability, PType, Scalar, ScalarValue,
-    VortexError,
+    VortexError, call_native,
 };
 use vx_leaves::{BoolArray, PrimitiveArray};
+use vx_text::VarBinViewArray;
 use vx_tree::{ArrayRef, TypedArray, Validity};
 
 // The array that a line spells out, or why it is refused once the whole line was read.
@@ -23,63 +25,27 @@ pub(crate) fn integer_array(
     nullability: Nullability,
     list: &[u8],
 ) -> Result<Literal, LineFault> {
-    match ptype {
-        PType::U8 => primitive_array(
-            alloc,
-            nullability,
-            &items(alloc, list, integer_within::<u8>)?,
-        ),
-        PType::U16 => primitive_array(
-            alloc,
-            nullability,
-            &items(alloc, list, integer_within::<u16>)?,
-        ),
-        PType::U32 => primitive_array(
-            alloc,
-            nullability,
-            &items(alloc, list, integer_within::<u32>)?,
-        ),
-        PType::U64 => primitive_array(
-            alloc,
-            nullability,
-            &items(alloc, list, integer_within::<u64>)?,
-        ),
-        PType::I8 => primitive_array(
-            alloc,
-            nullability,
-            &items(alloc, list, integer_within::<i8>)?,
-        ),
-        PType::I16 => primitive_array(
-            alloc,
-            nullability,
-            &items(alloc, list, integer_within::<i16>)?,
-        ),
-        PType::I32 => primitive_array(
-            alloc,
-            nullability,
-            &items(alloc, list, integer_within::<i32>)?,
-        ),
-        PType::I64 => primitive_array(
-            alloc,
-            nullability,
-            &items(alloc, list, integer_within::<i64>)?,
-        ),
-    }
+    let items = list_items(alloc, list)?;
+    call_native!(ptype, primitive_array(alloc, nullability, &items))
 }
 
-// The same of items that were read, with 0 where one is null.
+// The same of the items, with 0 where one is null.
 fn primitive_array<T: NativePType + Drop>(
     alloc: Global,
     nullability: Nullability,
-    items: &[Option<T>],
+    items: &[Option<&[u8]>],
 ) -> Result<Literal, LineFault> {
+    let mut values = BufferMut::<T>::with_capacity(alloc, items.len())?;
+    for item in items {
+        let value = match *item {
+            None => T::zero(),
+            Some(word) => integer_within(word).ok_or(LineFault::Syntax)?,
+        };
+        values.push(value)?;
+    }
     let Some(validity) = validity_of(alloc, nullability, items)? else {
         return Ok(Err(VortexError::HasNulls));
     };
-    let mut values = BufferMut::with_capacity(alloc, items.len())?;
-    for item in items {
-        values.push(item.unwrap_or(T::zero()))?;
-    }
     let array = PrimitiveArray::try_new(alloc, values.freeze()?, validity)?;
     Ok(Ok(array.into_array()))
 }
@@ -91,16 +57,31 @@ pub(crate) fn boolean_array(
     nullability: Nullability,
     list: &[u8],
 ) -> Result<Literal, LineFault> {
-    let items = items(alloc, list, truth_value)?;
+    let items = list_items(alloc, list)?;
+    let mut bits = BitBufferMut::with_capacity(alloc, items.len())?;
+    for item in &items {
+        let bit = match *item {
+            None => false,
+            Some(word) => truth_value(word).ok_or(LineFault::Syntax)?,
+        };
+        bits.append(bit)?;
+    }
     let Some(validity) = validity_of(alloc, nullability, &items)? else {
         return Ok(Err(VortexError::HasNulls));
     };
-    let mut bits = BitBufferMut::with_capacity(alloc, items.len())?;
-    for item in &items {
-        bits.append(item.unwrap_or(false))?;
-    }
     let array = BoolArray::try_new(alloc, bits.freeze()?, validity)?;
     Ok(Ok(array.into_array()))
+}
+
+// The texts or byte lists of a list; refused as `VarBinViewArray::from_iter` refuses them: at the
+// first faulty item `HasNulls` or, of texts, `NotUtf8`. Refuses `Syntax` where an item is none.
+pub(crate) fn text_array(alloc: Global, dtype: DType, list: &[u8]) -> Result<Literal, LineFault> {
+    let values = ByteItems::read(alloc, &list_items(alloc, list)?)?;
+    let items = values.lend(alloc)?;
+    match VarBinViewArray::from_iter(alloc, items.into_iter(), dtype) {
+        Ok(array) => Ok(Ok(array.into_array())),
+        Err(refusal) => Ok(Err(refusal)),
+    }
 }
 
 // One item, `len` times; `MismatchedTypes` where it is a text that is not UTF-8. Refuses `Syntax`
@@ -136,35 +117,27 @@ fn scalar_value(alloc: Global, dtype: &DType, item: &[u8]) -> Result<ScalarValue
     .ok_or(LineFault::Syntax)
 }
 
-// The items of a list, `None` for a null: none for `-`, else those that commas join, each read by
-// `parse`. Refuses `Syntax` where an item is not one of its kind.
-fn items<T: Copy, F: Fn(&[u8]) -> Option<T>>(
-    alloc: Global,
-    list: &[u8],
-    parse: F,
-) -> Result<Vec<Option<T>>, LineFault>
-    requires { F.IsAlwaysCallable parse }
-{
+// The items of a list, `None` for a null: none for `-`, else those that commas join.
+fn list_items(alloc: Global, list: &[u8]) -> Result<Vec<Option<&[u8]>>, VortexError> {
     let mut items = Vec::new(alloc);
     if list == b"-".as_slice() {
         return Ok(items);
     }
     for word in list.split(|byte| *byte == b',') {
-        let item = match word {
+        items.push(match word {
             b"null" => None,
-            word => Some(parse(word).ok_or(LineFault::Syntax)?),
-        };
-        items.push(item)?;
+            word => Some(word),
+        })?;
     }
     Ok(items)
 }
 
 // The validity of items, of which those that are `None` are null; `None` where one is and none may
 // be.
-fn validity_of<T: Copy>(
+fn validity_of(
     alloc: Global,
     nullability: Nullability,
-    items: &[Option<T>],
+    items: &[Option<&[u8]>],
 ) -> Result<Option<Validity>, VortexError> {
     let has_nulls = items.iter().any(|item| item.is_none());
     match nullability {

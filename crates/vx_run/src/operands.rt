@@ -90,6 +90,14 @@ pub(crate) fn whole_number(word: &[u8]) -> Option<usize>
     }
 }
 
+// The size of each list of a column that a word of decimal digits writes, or `None` where the word
+// is no such number or it passes `u32`.
+pub(crate) fn list_size(word: &[u8]) -> Option<u32>
+    ensures { IfSome result (λ size. size ≡ decimal word.now) }
+{
+    u32::try_from(whole_number(word)?).ok()
+}
+
 // The integer that a word writes by an optional `-` and one to twenty digits, or `None` where the
 // word writes none or its digits pass `usize`.
 fn integer(word: &[u8]) -> Option<i128>

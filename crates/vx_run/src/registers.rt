@@ -1,6 +1,6 @@
 // The arrays that a script has made, and the commands on them.
 
-use crate::command::Command;
+use crate::command::{Command, FixedSizeListWords, ListViewWords};
 use crate::faults::LineFault;
 use crate::operands::{RegisterWord, ValidityWord};
 use crate::parts::show_parts;
@@ -8,7 +8,7 @@ use crate::show::show_array;
 use std::alloc::Global;
 use vx_base::VortexError;
 use vx_leaves::{DictArray, PrimitiveArray, PrimitiveArrayExt};
-use vx_lists::{ListViewArray, ListViewRebuildMode};
+use vx_lists::{FixedSizeListArray, ListViewArray, ListViewRebuildMode};
 use vx_tree::{ArrayRef, TypedArray, Validity};
 
 // The arrays that a script has made, by the numbers of their registers.
@@ -46,12 +46,8 @@ impl Registers {
     ) -> Result<Option<String>, LineFault> {
         let array = match command {
             Command::Literal(array) => array?,
-            Command::ListView {
-                elements,
-                offsets,
-                sizes,
-                validity,
-            } => self.list_view(alloc, elements, offsets, sizes, validity)?,
+            Command::ListView(parts) => self.list_view(alloc, parts)?,
+            Command::FixedSizeList(parts) => self.fixed_size_list(alloc, parts)?,
             Command::Dictionary { codes, values } => self.dictionary(alloc, codes, values)?,
             Command::Slice { array, start, end } => self.get(array)?.slice(alloc, start..end)?,
             Command::Take { array, indices } => self.get(array)?.take(alloc, self.get(indices)?)?,
@@ -76,18 +72,11 @@ impl Registers {
     }
 
     // A list view over three registers.
-    fn list_view(
-        &self,
-        alloc: Global,
-        elements: RegisterWord,
-        offsets: RegisterWord,
-        sizes: RegisterWord,
-        validity: ValidityWord,
-    ) -> Result<ArrayRef, LineFault> {
-        let elements = self.get(elements)?;
-        let offsets = self.get(offsets)?;
-        let sizes = self.get(sizes)?;
-        let validity = self.validity(alloc, validity)?;
+    fn list_view(&self, alloc: Global, parts: ListViewWords) -> Result<ArrayRef, LineFault> {
+        let elements = self.get(parts.elements)?;
+        let offsets = self.get(parts.offsets)?;
+        let sizes = self.get(parts.sizes)?;
+        let validity = self.validity(alloc, parts.validity)?;
         let list_view = ListViewArray::try_new(
             alloc,
             elements.try_clone(alloc)?,
@@ -96,6 +85,24 @@ impl Registers {
             validity,
         )?;
         Ok(list_view.into_array())
+    }
+
+    // Lists of one size over a register.
+    fn fixed_size_list(
+        &self,
+        alloc: Global,
+        parts: FixedSizeListWords,
+    ) -> Result<ArrayRef, LineFault> {
+        let elements = self.get(parts.elements)?;
+        let validity = self.validity(alloc, parts.validity)?;
+        let lists = FixedSizeListArray::try_new(
+            alloc,
+            elements.try_clone(alloc)?,
+            parts.size,
+            validity,
+            parts.len,
+        )?;
+        Ok(lists.into_array())
     }
 
     // The values of one register that the codes of another name.

@@ -3,7 +3,7 @@
 ghost use Rattle.std.specs.Prelude.{◌≡◌, ◌≤◌};
 ghost use Rattle.vx_base.specs.declared.errors.VortexError.TheVariants.{Memory};
 ghost use Rattle.vx_run.specs.declared.faults.LineFault.TheVariants.{Refused};
-ghost use Rattle.vx_run.specs.declared.run.Stop.TheVariants.{Fault};
+ghost use Rattle.vx_run.specs.declared.script.Stop.TheVariants.{Fault};
 
 use crate::command::parse_command;
 use crate::faults::LineFault;

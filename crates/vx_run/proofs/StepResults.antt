@@ -1,0 +1,162 @@
+-- What each step appends, by what its call gives.
+use Rattle.std.proofs.Common.{◌≡◌, ℕ, zero, suc, Bool, true, false, cond, List, [], ◌∷◌, length, map, refl, sym, ◌∙◌, ap, subst, arith}
+use Rattle.std.specs.Prelude.{◌≢◌, ◌<◌, slice_range, Option, Some, None}
+use Rattle.std.specs.Global.{Vec}
+use Rattle.std.specs.List.{All, flat_map, range_with_len}
+use Rattle.std.proofs.lemmas.Bool.{ne_eqb}
+use Rattle.std.proofs.lemmas.List.Folds.{flat_map-map}
+use Rattle.std.proofs.lemmas.Simd.{map-map}
+use Rattle.vx_base.specs.Kinds.{Kind, integers, is_nullable_kind, or_nullable}
+use Rattle.vx_base.specs.Refusals.{empty_input, not_implemented}
+use Rattle.vx_base.specs.Rows.{Row, truth_of}
+use Rattle.vx_tree.specs.Tree.{Tree, bools, primitive, constant, dictionary, fixed_list, list_view, structure, view_array, non_nullable, by_array}
+use Rattle.vx_tree.specs.Meaning.{tree_len, kind_of, row_at, rows, nullable, valid_mask}
+use Rattle.vx_tree.specs.Concatenated.{concat_fault}
+use Rattle.vx_tree.specs.Flags.{is_flagged}
+use Rattle.vx_tree.specs.Joined.{joined_state}
+use Rattle.vx_tree.specs.Layouts.{is_constant, is_list_view, is_primitive}
+use Rattle.vx_tree.specs.OneValue.{HasOneValue}
+use Rattle.vx_tree.specs.Operations.{picks, positions, truths}
+use Rattle.vx_tree.specs.Plain.{IsPlain}
+use Rattle.vx_tree.specs.Shapes.{tree_state, shape_of, taken_shape}
+use Rattle.vx_tree.proofs.RowLists.{length-valid_mask}
+use Rattle.vx_leaves.specs.Narrow.{IsNarrowed}
+use Rattle.vx_lists.specs.declared.rebuild.ListViewRebuildMode.{ListViewRebuildMode}
+use Rattle.vx_lists.specs.declared.rebuild.ListViewRebuildMode.TheVariants.{MakeZeroCopyToList, TrimElements, MakeExact, OverlapCompression}
+use Rattle.vx_lists.specs.ListReferences.{IsTrimmedToBounds}
+use Rattle.vx_lists.specs.ListViewFaults.{rebuild_fault}
+use Rattle.vx_lists.specs.ListViews.{flag_of, with_flag, IsRebuilt}
+use Rattle.vx_lists.specs.RebuildModes.{IsMadeBy, IsRebuiltBy}
+use Rattle.vx_run.specs.declared.steps.Step.TheVariants.{Take, Concat, Rebuild, Narrow}
+use Rattle.vx_run.specs.Steps.{typed_rows, rows_of, joined_kind, narrowed_kind, array_at, arrays_at, IsStep}
+
+typed_rows-same : (k l : Kind) (rs ss : List Row) → k ≡ l → rs ≡ ss → typed_rows k rs ≡ typed_rows l ss
+typed_rows-same k l rs ss kinds same = λ i. typed_rows (kinds i) (same i)
+
+-- ---- rows at positions and under masks
+
+pub step-take : (arrays : List Tree) (array indices : ℕ) (t u r : Tree) → t ≡ array_at arrays array → u ≡ array_at arrays indices
+    → kind_of r ≡ or_nullable (is_nullable_kind (kind_of u)) (kind_of t) → rows r ≡ picks (rows t) (positions (rows u))
+    → shape_of r ≡ taken_shape (shape_of t) (tree_state u) → (is_constant t ≡ true → HasOneValue r) → IsStep (Take array indices) arrays r
+step-take arrays array indices t u r is at kind same shape one = record {
+  same_rows = typed_rows-same _ _ _ _ (kind ∙ (λ i. or_nullable (is_nullable_kind (kind_of (at i))) (kind_of (is i)))) (same ∙ (λ i. picks (rows (is i)) (positions (rows (at i)))));
+  layout = (shape ∙ (λ i. taken_shape (shape_of (is i)) (tree_state (at i))), λ constant. one (ap is_constant is ∙ constant));
+}
+
+-- the mask of an array is its truth values
+pub mask-truths : (u : Tree) (n : ℕ) → tree_len u ≡ n → valid_mask (by_array u) n ≡ truths (rows u)
+mask-truths u n len = ap (valid_mask (by_array u)) (sym len) ∙ sym (map-map truth_of (row_at u) (range_with_len 0 (tree_len u)))
+
+pub ruleset plain_masks = (mask-truths, length-valid_mask)
+
+-- ---- arrays that are joined
+
+-- their kind is that of the first, which there is
+joined-kind : (arrays : List Tree) (is : List ℕ) (r : Tree) → concat_fault (arrays_at arrays is) ≡ None → All (λ t. kind_of t ≡ kind_of r) (arrays_at arrays is)
+    → kind_of r ≡ joined_kind is (λ i. rows_of (array_at arrays i))
+joined-kind arrays [] r none alike = absurd (cc)
+joined-kind arrays (i ∷ is) r none alike = sym (alike 0 (array_at arrays i) (omega arith))
+
+pub step-concat : (arrays : List Tree) (v : Vec ℕ) (found : List Tree) (r : Tree) → found ≡ arrays_at arrays v.items → concat_fault found ≡ None
+    → rows r ≡ flat_map rows found → All (λ t. kind_of t ≡ kind_of r) found → IsPlain r → tree_state r ≡ joined_state found → is_flagged r ≡ false
+    → IsStep (Concat v) arrays r
+step-concat arrays v found r is none same alike plain state flag = record {
+  same_rows = typed_rows-same _ _ _ _ (joined-kind arrays v.items r (ap concat_fault (sym is) ∙ none) (subst (All (λ t. kind_of t ≡ kind_of r)) is alike))
+      (same ∙ ap (flat_map rows) is ∙ flat_map-map rows (array_at arrays) v.items);
+  layout = (plain, state ∙ ap joined_state is, flag);
+}
+
+-- ---- rebuilt and narrowed arrays
+
+-- the clauses of `rebuild` on success
+pub record IsRebuildAnswer (mode : ListViewRebuildMode) (t r : Tree) : Type 0 where
+  pub empty : tree_len t ≡ 0 → r ≡ with_flag true t
+  pub flagged : mode ≡ MakeZeroCopyToList → flag_of t ≡ true → r ≡ t
+  pub rebuilt : mode ≡ MakeZeroCopyToList → tree_len t ≢ 0 → flag_of t ≡ false → IsRebuilt t r
+  pub trimmed : mode ≡ TrimElements → tree_len t ≢ 0 → IsTrimmedToBounds t r
+  pub exact_flagged : mode ≡ MakeExact → tree_len t ≢ 0 → flag_of t ≡ true → IsTrimmedToBounds t r
+  pub exact : mode ≡ MakeExact → tree_len t ≢ 0 → flag_of t ≡ false → IsRebuilt t r
+  pub same : rows r ≡ rows t
+  pub refuses : rebuild_fault mode t ≡ None
+
+not-refused : (t : Tree) → tree_len t ≢ 0 → rebuild_fault OverlapCompression t ≡ None → ⊥
+not-refused t some none = refused (ap (λ b. cond b None (Some not_implemented)) (sym (ne_eqb (tree_len t) 0 some)) ∙ none)
+  where
+    refused : Some not_implemented ≡ None → ⊥
+    refused h = cc
+
+made-by : (mode : ListViewRebuildMode) (flag : Bool) (t r : Tree) → flag_of t ≡ flag → tree_len t ≢ 0 → IsRebuildAnswer mode t r → IsMadeBy mode flag t r
+made-by MakeZeroCopyToList true t r is some answer = answer.flagged refl is
+made-by MakeZeroCopyToList false t r is some answer = answer.rebuilt refl some is
+made-by TrimElements true t r is some answer = answer.trimmed refl some
+made-by TrimElements false t r is some answer = answer.trimmed refl some
+made-by MakeExact true t r is some answer = answer.exact_flagged refl some is
+made-by MakeExact false t r is some answer = answer.exact refl some is
+made-by OverlapCompression true t r is some answer = absurd (not-refused t some answer.refuses)
+made-by OverlapCompression false t r is some answer = absurd (not-refused t some answer.refuses)
+
+rebuilt-by : (mode : ListViewRebuildMode) (t r : Tree) → IsRebuildAnswer mode t r → IsRebuiltBy mode t r
+rebuilt-by mode t r answer = record { no_rows = answer.empty; some_rows = λ some. made-by mode (flag_of t) t r refl some answer }
+
+flagged-kind : (t : Tree) → is_list_view t ≡ true → kind_of (with_flag true t) ≡ kind_of t
+flagged-kind (list_view e o s v f) view = refl
+flagged-kind (bools bits v) view = absurd (cc)
+flagged-kind (primitive p bs v) view = absurd (cc)
+flagged-kind (constant k r n) view = absurd (cc)
+flagged-kind (dictionary c v f) view = absurd (cc)
+flagged-kind (fixed_list e k v n) view = absurd (cc)
+flagged-kind (structure ns ts v n) view = absurd (cc)
+flagged-kind (view_array vs bs k v) view = absurd (cc)
+
+made-kind : (mode : ListViewRebuildMode) (flag : Bool) (t r : Tree) → IsMadeBy mode flag t r → kind_of r ≡ kind_of t
+made-kind MakeZeroCopyToList true t r made = ap kind_of made
+made-kind MakeZeroCopyToList false t r made = made.kind
+made-kind TrimElements true t r made = made.3.kind
+made-kind TrimElements false t r made = made.3.kind
+made-kind MakeExact true t r made = made.3.kind
+made-kind MakeExact false t r made = made.kind
+made-kind OverlapCompression true t r made = absurd made
+made-kind OverlapCompression false t r made = absurd made
+
+rebuilt-kind : (n : ℕ) (mode : ListViewRebuildMode) (t r : Tree) → tree_len t ≡ n → is_list_view t ≡ true → IsRebuiltBy mode t r → kind_of r ≡ kind_of t
+rebuilt-kind zero mode t r len view made = ap kind_of (made.no_rows len) ∙ flagged-kind t view
+rebuilt-kind (suc n) mode t r len view made = made-kind mode (flag_of t) t r (made.some_rows (λ none. omega (arith, len, none)))
+
+-- the list view that `rebuild` gives of the array t, as an array
+pub step-rebuild : (arrays : List Tree) (array : ℕ) (mode : ListViewRebuildMode) (t r out : Tree) → t ≡ array_at arrays array
+    → is_list_view (array_at arrays array) ≡ true → IsRebuildAnswer mode t r → out ≡ r → is_list_view out ≡ true → IsStep (Rebuild array mode) arrays out
+step-rebuild arrays array mode t r out is view answer same laid =
+    let made = rebuilt-by mode t r answer in
+    let kind = rebuilt-kind (tree_len t) mode t r refl (ap is_list_view is ∙ view) made in
+    subst (λ u. IsStep (Rebuild array mode) arrays u) (sym same) (record {
+      same_rows = typed_rows-same _ _ _ _ (kind ∙ ap kind_of is) (answer.same ∙ ap rows is);
+      layout = (ap is_list_view (sym same) ∙ laid, subst (λ u. IsRebuiltBy mode u r) is made);
+    })
+
+narrow-kind : (t r : Tree) → is_primitive t ≡ true → is_primitive r ≡ true → IsNarrowed t r → kind_of r ≡ narrowed_kind (kind_of t) (rows t)
+narrow-kind (primitive p bs v) (primitive q cs w) of laid made = λ i. integers (made.ptype i) (nullable (made.validity i))
+narrow-kind (primitive p bs v) (bools bits w) of laid made = absurd (cc)
+narrow-kind (primitive p bs v) (constant k r n) of laid made = absurd (cc)
+narrow-kind (primitive p bs v) (dictionary c w f) of laid made = absurd (cc)
+narrow-kind (primitive p bs v) (fixed_list e k w n) of laid made = absurd (cc)
+narrow-kind (primitive p bs v) (list_view e o s w f) of laid made = absurd (cc)
+narrow-kind (primitive p bs v) (structure ns ts w n) of laid made = absurd (cc)
+narrow-kind (primitive p bs v) (view_array vs cs k w) of laid made = absurd (cc)
+narrow-kind (bools bits v) r of laid made = absurd (cc)
+narrow-kind (constant k s n) r of laid made = absurd (cc)
+narrow-kind (dictionary c v f) r of laid made = absurd (cc)
+narrow-kind (fixed_list e k v n) r of laid made = absurd (cc)
+narrow-kind (list_view e o s v f) r of laid made = absurd (cc)
+narrow-kind (structure ns ts v n) r of laid made = absurd (cc)
+narrow-kind (view_array vs bs k v) r of laid made = absurd (cc)
+
+-- the numbers that `narrow` gives of the array t, as an array
+pub step-narrow : (arrays : List Tree) (array : ℕ) (t r out : Tree) → t ≡ array_at arrays array → is_primitive (array_at arrays array) ≡ true → IsNarrowed t r
+    → out ≡ r → is_primitive out ≡ true → IsStep (Narrow array) arrays out
+step-narrow arrays array t r out is of made same laid =
+    let plain : is_primitive r ≡ true = ap is_primitive (sym same) ∙ laid in
+    let kind = narrow-kind t r (ap is_primitive is ∙ of) plain made in
+    subst (λ u. IsStep (Narrow array) arrays u) (sym same) (record {
+      same_rows = typed_rows-same _ _ _ _ (kind ∙ (λ i. narrowed_kind (kind_of (is i)) (rows (is i)))) (made.same_rows ∙ ap rows is);
+      layout = (plain, subst (λ u. IsNarrowed u r) is made);
+    })
