@@ -1,12 +1,12 @@
-//! Tests of public calls of the crates above the tree, by the crate that has them: each with ample
-//! memory, on values from outside.
+//! Tests of public calls of lists, of texts and of callers: each with ample memory, on values from
+//! outside.
 #![tactic(auto)]
 
 #[cfg(test)]
-mod leaves;
+mod fixed_lists;
 #[cfg(test)]
 mod lists;
 #[cfg(test)]
-mod nested;
+mod texts;
 #[cfg(test)]
 mod uses;

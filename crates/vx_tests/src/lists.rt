@@ -1,9 +1,11 @@
 // Lists that are read, trimmed and rebuilt.
 
+mod parts;
+
 use std::alloc::Global;
 use std::test::Fail;
 use vx_base::{BitBuffer, Buffer, DType, NativePType, Nullability, PType, Scalar, VortexError};
-use vx_lists::{ListViewArray, ListViewRebuildMode};
+use vx_lists::{ListViewArray, ListViewArrayExt, ListViewRebuildMode};
 use vx_tree::{ArrayRef, TypedArray, Validity};
 
 fn ints<T: NativePType>(alloc: Global, items: &[T]) -> Result<ArrayRef, VortexError> {
@@ -392,6 +394,22 @@ fn more_elements_than_positions_fit_are_rebuilt(rt: HostRuntime) -> Result<(), F
     let rebuilt = long_list(rt.alloc())?.rebuild_by_runs(rt.alloc())?;
     assert!(rt; has_ranges(&rebuilt, &[(0, 1_152_921_504_606_846_976)]));
     assert!(rt; rebuilt.elements().len() == 1_152_921_504_606_846_976);
+    Ok(())
+}
+
+// Whether rebuilding by a mode gives one list of 2^60 elements, flagged, with wide offsets.
+fn rebuilds_a_long_list(alloc: Global, mode: ListViewRebuildMode) -> Result<bool, VortexError> {
+    let rebuilt = long_list(alloc)?.rebuild(alloc, mode)?;
+    let is_long = rebuilt.elements().len() == 1_152_921_504_606_846_976;
+    let has_one = has_ranges(&rebuilt, &[(0, 1_152_921_504_606_846_976)]);
+    let is_wide = has_type(rebuilt.offsets(), PType::U64);
+    Ok(is_long && has_one && is_wide && rebuilt.is_zero_copy_to_list())
+}
+
+#[test]
+fn rebuilding_copies_long_lists_by_runs(rt: HostRuntime) -> Result<(), Fail> {
+    assert!(rt; rebuilds_a_long_list(rt.alloc(), ListViewRebuildMode::MakeZeroCopyToList)?);
+    assert!(rt; rebuilds_a_long_list(rt.alloc(), ListViewRebuildMode::MakeExact)?);
     Ok(())
 }
 

@@ -1,5 +1,7 @@
 // Each caller on values worked by hand.
 
+mod columns;
+mod layouts;
 mod refusals;
 
 use std::alloc::Global;
@@ -10,7 +12,9 @@ use vx_lists::ListViewArray;
 use vx_tree::{ArrayRef, TypedArray, Validity};
 use vx_uses::converter::lists_end_to_end;
 use vx_uses::first::{column, third_list};
-use vx_uses::kernel::{inner_page, list_of_row, ordered_page, repeated_row, valid_count};
+use vx_uses::kernel::{
+    inner_page, list_of_row, ordered_page, repeated_row, valid_count, vector_at,
+};
 use vx_uses::reader::{Lists, column_of_bytes, nullable_column, read_lists};
 use vx_uses::texts::text_of_row;
 use vx_views::BinaryView;
@@ -84,12 +88,36 @@ fn faulty_rows_are_named(rt: HostRuntime) -> Result<(), Fail> {
 }
 
 #[test]
+fn parts_without_a_faulty_row_are_read_or_refused(rt: HostRuntime) -> Result<(), Fail> {
+    let alloc = rt.alloc();
+    let elements = column::<i32>(alloc, &[1, 2, 3])?;
+    let lists = read_lists(
+        alloc,
+        elements.try_clone(alloc)?,
+        column::<i8>(alloc, &[0, 1])?,
+        column::<u8>(alloc, &[3])?,
+    );
+    assert!(rt; matches!(lists, Lists::Refused(VortexError::LengthMismatch { .. })));
+    let lists = read_lists(
+        alloc,
+        elements,
+        column::<i8>(alloc, &[0, 1])?,
+        column::<u8>(alloc, &[3, 2])?,
+    );
+    assert!(rt; matches!(lists, Lists::Read(_)));
+    Ok(())
+}
+
+#[test]
 fn pages_are_ordered(rt: HostRuntime) -> Result<(), Fail> {
     let alloc = rt.alloc();
     let column_of_five = column::<i64>(alloc, &[10, 11, 12, 13, 14])?;
     let order = column::<u8>(alloc, &[2, 0, 0])?;
     let page = ordered_page(alloc, &column_of_five, 1..4, &order)?;
     assert!(rt; has_numbers(&page, &[Some(13), Some(11), Some(11)]));
+    let past = column::<u8>(alloc, &[2, 3])?;
+    let refused = ordered_page(alloc, &column_of_five, 1..4, &past);
+    assert!(rt; matches!(refused, Err(VortexError::OutOfBounds { index: 3, len: 3 })));
     let page = inner_page(alloc, &column_of_five, 1..4, 1..3)?;
     assert!(rt; has_numbers(&page, &[Some(12), Some(13)]));
     let refused = inner_page(alloc, &column_of_five, 1..4, 1..4);
@@ -102,6 +130,21 @@ fn rows_repeat(rt: HostRuntime) -> Result<(), Fail> {
     let seven = Scalar::int(7, PType::U8, Nullability::NonNullable);
     let column = repeated_row(rt.alloc(), seven, 3)?;
     assert!(rt; has_numbers(&column, &[Some(7), Some(7), Some(7)]));
+    Ok(())
+}
+
+#[test]
+fn vectors_are_parts_of_their_column(rt: HostRuntime) -> Result<(), Fail> {
+    let alloc = rt.alloc();
+    let numbers = column::<i32>(alloc, &[1, 2, 3, 4, 5, 6])?;
+    assert!(rt;
+        has_numbers(
+            &vector_at(alloc, numbers.try_clone(alloc)?, 3, 2, 1)?,
+            &[Some(4), Some(5), Some(6)]
+        )
+    );
+    let refused = vector_at(alloc, numbers, 4, 2, 0);
+    assert!(rt; matches!(refused, Err(VortexError::LengthMismatch { .. })));
     Ok(())
 }
 

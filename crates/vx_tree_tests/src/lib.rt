@@ -1,10 +1,7 @@
-//! Tests of public calls of the crates up to the tree, by the crate that has them: each with ample
-//! memory, on values from outside.
+//! Tests of public calls of the tree: each with ample memory, on values from outside.
 #![tactic(auto)]
 
 #[cfg(test)]
-mod base;
+mod nested;
 #[cfg(test)]
 mod tree;
-#[cfg(test)]
-mod views;

@@ -21,6 +21,7 @@ mod joined_validities;
 mod masks;
 mod plain_constants;
 mod records;
+mod runs;
 mod scalars;
 mod validities;
 mod views;

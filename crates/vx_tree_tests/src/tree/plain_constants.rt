@@ -150,3 +150,26 @@ fn no_records(rt: HostRuntime) -> Result<(), VortexError> {
     assert!(rt; none.is_empty() && matches!(none.layout(), Layout::Struct { .. }));
     Ok(())
 }
+
+#[test]
+fn lists_that_do_not_stand(rt: HostRuntime) -> Result<(), VortexError> {
+    let value = list_value(rt.alloc(), &[Some(1), Some(2)])?;
+    let none = plain(rt.alloc(), lists(rt.alloc())?, Some(value), 0)?;
+    let Layout::ListView { elements, .. } = none.layout() else {
+        panic!(rt; "no list view");
+    };
+    assert!(rt; none.is_empty() && elements.len() == 2);
+    Ok(())
+}
+
+#[test]
+fn texts_that_do_not_stand(rt: HostRuntime) -> Result<(), VortexError> {
+    let text = ScalarValue::Text(ByteBuffer::copy_from(rt.alloc(), b"thirteen byte")?);
+    let dtype = DType::Utf8(Nullability::NonNullable);
+    let none = plain(rt.alloc(), dtype, Some(text), 0)?;
+    let Layout::VarBinView { buffers, .. } = none.layout() else {
+        panic!(rt; "no texts");
+    };
+    assert!(rt; none.is_empty() && buffers.len() == 1);
+    Ok(())
+}

@@ -2,7 +2,7 @@ use Rattle.std.proofs.Common.{ℕ, zero, suc, ◌<◌, ◌≡◌, true, false, L
 use Rattle.std.specs.Prelude.{slice_index_or}
 use Rattle.vx_base.specs.Bits.{bool_at}
 use Rattle.vx_tree.proofs.ViewArrays.{empty_is_zeroes}
-use Rattle.vx_tests.proofs.nested.layouts.texts.Goals as goal
+use Rattle.vx_tree_tests.proofs.nested.layouts.texts.Goals as goal
 
 -- the second row alone is null
 second : (a b x y z : List ℕ) → b ≡ replicate 16 0 → (i : ℕ) → i < 5 → bool_at (true ∷ false ∷ true ∷ true ∷ true ∷ []) i ≡ false → slice_index_or (a ∷ b ∷ x ∷ y ∷ z ∷ []) i [] ≡ replicate 16 0

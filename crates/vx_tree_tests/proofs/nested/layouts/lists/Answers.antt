@@ -6,7 +6,7 @@ use Rattle.vx_base.specs.declared.ptypes.PType.TheVariants.{U8}
 use Rattle.vx_tree.specs.Tree.{Tree, primitive, non_nullable}
 use Rattle.vx_tree.specs.Meaning.{tree_len, row_at}
 use Rattle.vx_tree.specs.Formed.{IsListView}
-use Rattle.vx_tests.proofs.nested.layouts.lists.Goals as goal
+use Rattle.vx_tree_tests.proofs.nested.layouts.lists.Goals as goal
 
 abbrev starts : Tree
 starts = primitive U8 (0 ∷ 3 ∷ 2 ∷ []) non_nullable

@@ -54,6 +54,18 @@ fn the_first_fault_is_named(rt: HostRuntime) {
 }
 
 #[test]
+fn inlined_values_may_be_padded_with_anything(rt: HostRuntime) {
+    let view = BinaryView::from(0x00ff626100000002);
+    let mask = Mask::new_true(1);
+    for budget in [0, 12, usize::MAX] {
+        let answer = check_views(rt.alloc(), &[view], &mask, &[], true, budget);
+        assert_eq!(rt; answer, Ok(()));
+    }
+    assert_eq!(rt; view.len(), 2);
+    assert_eq!(rt; view.prefix(), *b"ab\xFF\0");
+}
+
+#[test]
 fn inlined_values_are_checked(rt: HostRuntime) {
     let view = BinaryView::new_inlined(b"\xFF");
     let mask = Mask::new_true(1);

@@ -1,7 +1,7 @@
 use Rattle.std.proofs.Common.{ap, ◌∙◌}
 use Rattle.vx_base.specs.Integers.{numbers}
 use Rattle.vx_tree.specs.Meaning.{tree_len}
-use Rattle.vx_tests.proofs.nested.layouts.pairs_by_codes.Goals as goal
+use Rattle.vx_tree_tests.proofs.nested.layouts.pairs_by_codes.Goals as goal
 
 pub from_parts-requires : goal.from_parts-requires
 unfolding numbers

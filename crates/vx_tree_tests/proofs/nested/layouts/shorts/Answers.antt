@@ -1,6 +1,6 @@
 use Rattle.std.proofs.Common.{refl}
 use Rattle.vx_base.specs.Integers.{numbers}
-use Rattle.vx_tests.proofs.nested.layouts.shorts.Goals as goal
+use Rattle.vx_tree_tests.proofs.nested.layouts.shorts.Goals as goal
 
 pub from_parts-requires : goal.from_parts-requires
 unfolding numbers

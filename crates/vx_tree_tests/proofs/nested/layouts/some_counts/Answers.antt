@@ -1,6 +1,6 @@
 use Rattle.std.proofs.Common.{refl, sym, ◌∙◌, arith}
-use Rattle.vx_tests.proofs.ByteNumbers.{byte_numbers}
-use Rattle.vx_tests.proofs.nested.layouts.some_counts.Goals as goal
+use Rattle.vx_tree_tests.proofs.ByteNumbers.{byte_numbers}
+use Rattle.vx_tree_tests.proofs.nested.layouts.some_counts.Goals as goal
 
 pub from_parts-requires : goal.from_parts-requires
 from_parts-requires c =

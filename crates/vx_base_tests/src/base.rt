@@ -5,7 +5,7 @@ ghost use Rattle.vx_base.specs.DTypes.{field_names, field_kinds};
 ghost use Rattle.vx_base.specs.Fields.{kind_count};
 
 mod masks;
-pub(crate) mod scalars;
+mod scalars;
 mod selections;
 
 use std::alloc::Global;

@@ -1,0 +1,229 @@
+// Lists of one size: their parts, their faults, their elements and their data.
+
+use std::alloc::Global;
+use std::rc::Rc;
+use std::test::Fail;
+use vx_base::{BitBuffer, Buffer, DType, NativePType, Nullability, PType, VortexError};
+use vx_leaves::ConstantArray;
+use vx_lists::{FixedSizeListArray, FixedSizeListArrayExt, FixedSizeListData, FixedSizeListSlots};
+use vx_tree::{ArrayRef, TypedArray, Validity};
+
+fn ints<T: NativePType>(alloc: Global, items: &[T]) -> Result<ArrayRef, VortexError> {
+    let bytes = Buffer::copy_from(alloc, items)?.into_byte_buffer(alloc)?;
+    ArrayRef::primitive(alloc, T::PTYPE, bytes, Validity::NonNullable)
+}
+
+fn validity_of(alloc: Global, items: &[bool]) -> Result<Validity, VortexError> {
+    let bits = BitBuffer::from_bools(alloc, items)?;
+    Ok(Validity::Array(ArrayRef::bools(alloc, bits, Validity::NonNullable)?))
+}
+
+// What making so many lists of a size of these elements comes to.
+fn lists(
+    alloc: Global,
+    elements: &[i32],
+    list_size: u32,
+    len: usize,
+) -> Result<FixedSizeListArray, VortexError> {
+    let elements = ints(alloc, elements)?;
+    FixedSizeListArray::try_new(alloc, elements, list_size, Validity::NonNullable, len)
+}
+
+// Whether these are the numbers of an array.
+fn has_numbers(array: &ArrayRef, wanted: &[i128]) -> bool {
+    if !array.dtype().is_int() || array.len() != wanted.len() {
+        return false;
+    }
+    for (i, number) in wanted.iter().enumerate() {
+        if array.int_at(i) != Some(*number) {
+            return false;
+        }
+    }
+    true
+}
+
+#[test]
+fn lists_of_no_elements(rt: HostRuntime) -> Result<(), Fail> {
+    let empty = lists(rt.alloc(), &[], 0, 3)?;
+    assert!(rt; empty.len() == 3 && empty.list_size() == 0);
+    assert!(rt; empty.fixed_size_list_elements_at(rt.alloc(), 2)?.is_empty());
+    assert!(rt; empty.as_array().is_valid(rt.alloc(), 2)?);
+    Ok(())
+}
+
+#[test]
+fn more_elements_than_can_be_counted_are_refused(rt: HostRuntime) -> Result<(), Fail> {
+    let refused = lists(rt.alloc(), &[], 4_294_967_295, 8_589_934_592);
+    assert!(rt; matches!(refused, Err(VortexError::Overflow)));
+    Ok(())
+}
+
+#[test]
+fn lists_of_size_zero_have_no_elements(rt: HostRuntime) -> Result<(), Fail> {
+    let refused = lists(rt.alloc(), &[7], 0, 1);
+    assert!(rt; matches!(refused, Err(VortexError::DegenerateElements)));
+    Ok(())
+}
+
+#[test]
+fn a_missing_element_is_refused(rt: HostRuntime) -> Result<(), Fail> {
+    let refused = lists(rt.alloc(), &[1, 2, 3, 4, 5], 2, 3);
+    assert!(rt;
+        matches!(
+            refused,
+            Err(VortexError::LengthMismatch {
+                expected: 6,
+                found: 5,
+            })
+        )
+    );
+    Ok(())
+}
+
+#[test]
+fn validities_are_tested_first(rt: HostRuntime) -> Result<(), Fail> {
+    let elements = ints::<u8>(rt.alloc(), &[7])?;
+    let validity = validity_of(rt.alloc(), &[true, true])?;
+    assert!(rt;
+        matches!(
+            FixedSizeListData::validate(&elements, 1, 0, &validity),
+            Err(VortexError::LengthMismatch {
+                expected: 1,
+                found: 2,
+            })
+        )
+    );
+    let numbers = Validity::Array(ints::<u8>(rt.alloc(), &[7])?);
+    assert_eq!(rt;
+        FixedSizeListData::validate(&elements, 1, 0, &numbers),
+        Err(VortexError::MismatchedTypes)
+    );
+    assert_eq!(rt;
+        FixedSizeListData::validate(&elements, 2, 0, &validity),
+        Err(VortexError::DegenerateElements)
+    );
+    assert_eq!(rt;
+        FixedSizeListData::validate(&elements, 1, 1, &Validity::AllInvalid),
+        Ok(())
+    );
+    Ok(())
+}
+
+// The lists `[1, 2]`, null and `[5, 6]`.
+fn three_lists(alloc: Global) -> Result<FixedSizeListArray, VortexError> {
+    let elements = ints::<i16>(alloc, &[1, 2, 3, 4, 5, 6])?;
+    let validity = validity_of(alloc, &[true, false, true])?;
+    FixedSizeListData::validate(&elements, 3, 2, &validity)?;
+    FixedSizeListArray::new(alloc, elements, 2, validity, 3)
+}
+
+#[test]
+fn elements_of_lists_of_two(rt: HostRuntime) -> Result<(), Fail> {
+    let pairs = three_lists(rt.alloc())?;
+    assert!(rt; pairs.len() == 3 && !pairs.is_empty());
+    assert!(rt; has_numbers(pairs.elements(), &[1, 2, 3, 4, 5, 6]));
+    assert!(rt; has_numbers(&pairs.fixed_size_list_elements_at(rt.alloc(), 2)?, &[5, 6]));
+    assert!(rt; has_numbers(&pairs.fixed_size_list_elements_at(rt.alloc(), 1)?, &[3, 4]));
+    Ok(())
+}
+
+#[test]
+fn data_types_of_lists_of_two(rt: HostRuntime) -> Result<(), Fail> {
+    let pairs = three_lists(rt.alloc())?.try_clone(rt.alloc())?;
+    let (items, size, nullability) = pairs.dtype_parts();
+    assert!(rt; *items == DType::Primitive(PType::I16, Nullability::NonNullable));
+    assert_eq!(rt; (size, nullability), (2, Nullability::Nullable));
+    assert!(rt; pairs.list_size() == 2);
+    assert!(rt;
+        matches!(
+            pairs.dtype(),
+            DType::FixedSizeList(_, 2, Nullability::Nullable)
+        )
+    );
+    Ok(())
+}
+
+#[test]
+fn validities_of_lists_of_one_size(rt: HostRuntime) -> Result<(), Fail> {
+    let validity = three_lists(rt.alloc())?.fixed_size_list_validity(rt.alloc())?;
+    assert!(rt; validity.is_valid(rt.alloc(), 0)? && !validity.is_valid(rt.alloc(), 1)?);
+    let own = lists(rt.alloc(), &[1], 1, 1)?.fixed_size_list_validity(rt.alloc())?;
+    assert!(rt; matches!(own, Validity::NonNullable));
+    Ok(())
+}
+
+#[test]
+fn slots_of_lists_of_two(rt: HostRuntime) -> Result<(), Fail> {
+    let FixedSizeListSlots { elements, validity } = three_lists(rt.alloc())?.slots(rt.alloc())?;
+    assert!(rt; has_numbers(&elements, &[1, 2, 3, 4, 5, 6]));
+    let Some(slot) = validity else {
+        return Err(VortexError::MismatchedTypes.into());
+    };
+    assert!(rt; slot.len() == 3 && !slot.execute_scalar(rt.alloc(), 1)?.as_bool());
+    Ok(())
+}
+
+#[test]
+fn lists_without_nulls_have_no_slot_of_validity(rt: HostRuntime) -> Result<(), Fail> {
+    let own = lists(rt.alloc(), &[1], 1, 1)?.slots(rt.alloc())?;
+    assert!(rt; own.validity.is_none());
+    Ok(())
+}
+
+#[test]
+fn the_slot_of_null_lists_of_no_elements(rt: HostRuntime) -> Result<(), Fail> {
+    let elements = ints::<u8>(rt.alloc(), &[])?;
+    let alloc = rt.alloc();
+    let nulls = FixedSizeListArray::try_new(alloc, elements, 0, Validity::AllInvalid, 2)?;
+    let FixedSizeListSlots { validity, .. } = nulls.slots(rt.alloc())?;
+    let Some(slot) = validity else {
+        return Err(VortexError::MismatchedTypes.into());
+    };
+    assert!(rt; slot.len() == 2 && !slot.execute_scalar(rt.alloc(), 1)?.as_bool());
+    assert!(rt; ConstantArray::try_from_array(slot).is_ok());
+    Ok(())
+}
+
+#[test]
+fn parts_of_lists_of_two(rt: HostRuntime) -> Result<(), Fail> {
+    let parts = three_lists(rt.alloc())?.into_data_parts(rt.alloc())?;
+    assert!(rt; has_numbers(&parts.elements, &[1, 2, 3, 4, 5, 6]));
+    assert!(rt; !parts.validity.is_valid(rt.alloc(), 1)?);
+    let items = Rc::new(
+        rt.alloc(),
+        DType::Primitive(PType::I16, Nullability::NonNullable),
+    )?;
+    assert!(rt; parts.dtype == DType::FixedSizeList(items, 2, Nullability::Nullable));
+    Ok(())
+}
+
+#[test]
+fn data_of_lists_of_no_elements(rt: HostRuntime) -> Result<(), Fail> {
+    let data = lists(rt.alloc(), &[], 0, 3)?.to_data(rt.alloc())?.clone()?;
+    assert!(rt; format!(in rt.alloc(); "{data}")?.as_str() == "degenerate_len: 3");
+    let elements = ints::<u8>(rt.alloc(), &[])?;
+    FixedSizeListData::validate(&elements, usize::MAX, 0, &Validity::AllValid)?;
+    let built = FixedSizeListData::build(elements, 0, Validity::AllValid, usize::MAX);
+    assert!(rt;
+        format!(in rt.alloc(); "{built}")?.as_str() == "degenerate_len: 18446744073709551615"
+    );
+    Ok(())
+}
+
+#[test]
+fn data_of_lists_of_two(rt: HostRuntime) -> Result<(), Fail> {
+    let data = three_lists(rt.alloc())?.to_data(rt.alloc())?;
+    assert!(rt; format!(in rt.alloc(); "{data}")?.as_str() == "degenerate_len: 0");
+    assert!(rt;
+        format!(in rt.alloc(); "{data:?}")?.as_str() == "FixedSizeListData { degenerate_len: 0 }"
+    );
+    Ok(())
+}
+
+#[test]
+fn lists_of_one_size_come_back(rt: HostRuntime) -> Result<(), Fail> {
+    let array = three_lists(rt.alloc())?.into_array();
+    assert!(rt; FixedSizeListArray::try_from_array(array).is_ok());
+    assert!(rt; FixedSizeListArray::try_from_array(ints::<u8>(rt.alloc(), &[1])?).is_err());
+    Ok(())
+}

@@ -1,0 +1,61 @@
+// Columns that are encoded and written.
+
+use super::{column_of_bits, has_numbers};
+use std::test::Fail;
+use vx_base::{Buffer, ByteBuffer, DType, PType, VortexError};
+use vx_leaves::{DictArrayExt, PrimitiveArray};
+use vx_tree::{TypedArray, Validity};
+use vx_uses::encoder::{flagged_dictionary, narrowed_column};
+use vx_uses::first::column;
+use vx_uses::writer::write_values;
+
+#[test]
+fn numbers_get_the_narrowest_type(rt: HostRuntime) -> Result<(), Fail> {
+    let alloc = rt.alloc();
+    let narrowed = narrowed_column(alloc, column::<i64>(alloc, &[-1, 128])?)?;
+    assert!(rt; matches!(narrowed.dtype(), DType::Primitive(PType::I16, _)));
+    assert!(rt; has_numbers(&narrowed, &[Some(-1), Some(128)]));
+    let bits = narrowed_column(alloc, column_of_bits(alloc, &[true, false])?)?;
+    assert!(rt; matches!(bits.dtype(), DType::Bool(_)) && bits.len() == 2);
+    Ok(())
+}
+
+#[test]
+fn a_null_row_widens_no_type(rt: HostRuntime) -> Result<(), Fail> {
+    let alloc = rt.alloc();
+    let valid = column_of_bits(alloc, &[true, false])?;
+    let numbers = Buffer::copy_from(alloc, &[7u32, 70000])?;
+    let column = PrimitiveArray::try_new(alloc, numbers, Validity::Array(valid))?;
+    let narrowed = narrowed_column(alloc, column.into_array())?;
+    assert!(rt; matches!(narrowed.dtype(), DType::Primitive(PType::U8, _)));
+    assert!(rt; has_numbers(&narrowed, &[Some(7), None]));
+    Ok(())
+}
+
+#[test]
+fn the_flag_tells_that_all_values_are_in_use(rt: HostRuntime) -> Result<(), Fail> {
+    let alloc = rt.alloc();
+    let values = column::<i32>(alloc, &[5, 6])?;
+    let codes = column::<u8>(alloc, &[1, 0, 1])?;
+    let all = flagged_dictionary(alloc, codes, values.try_clone(alloc)?)?;
+    assert!(rt; all.has_all_values_referenced());
+    assert!(rt; has_numbers(all.as_array(), &[Some(6), Some(5), Some(6)]));
+    let codes = column::<u8>(alloc, &[1, 1])?;
+    let some = flagged_dictionary(alloc, codes, values.try_clone(alloc)?)?;
+    assert!(rt; !some.has_all_values_referenced());
+    let refused = flagged_dictionary(alloc, column::<u8>(alloc, &[0, 2])?, values);
+    assert!(rt; matches!(refused, Err(VortexError::OutOfBounds { index: 2, .. })));
+    Ok(())
+}
+
+#[test]
+fn values_come_back_from_fewest_buffers(rt: HostRuntime) -> Result<(), Fail> {
+    let alloc = rt.alloc();
+    let heap = ByteBuffer::copy_from(alloc, b"a longer value!abcanother long one")?;
+    let written = write_values::<u8>(alloc, 20, heap, &[15, 3, 16])?;
+    assert!(rt; written.buffers.len() == 2 && written.views.len() == 3);
+    assert!(rt; written.value(0) == b"a longer value!".as_slice());
+    assert!(rt; written.value(1) == b"abc".as_slice());
+    assert!(rt; written.value(2) == b"another long one".as_slice());
+    Ok(())
+}

@@ -1,0 +1,71 @@
+// Rows in runs.
+
+use super::{booleans, expect_bool, expect_list, lists};
+use std::alloc::Global;
+use std::process::Abort;
+use vx_base::{Nullability, PType, Scalar, VortexError};
+use vx_tree::{ArrayRef, Layout};
+
+// 2 to the 60, and half of what can be counted.
+const HUGE: usize = 1152921504606846976;
+
+const HALF: usize = 9223372036854775808;
+
+// The rows of two runs, that are to lie within.
+fn two_runs(
+    rt: &impl Abort,
+    alloc: Global,
+    array: &ArrayRef,
+    first: (usize, usize),
+    second: (usize, usize),
+) -> Result<ArrayRef, VortexError> {
+    assert!(rt; first.0 <= first.1 && first.1 <= array.len());
+    assert!(rt; second.0 <= second.1 && second.1 <= array.len());
+    array.take_runs(alloc, &[first, second])
+}
+
+#[test]
+fn booleans_in_runs(rt: HostRuntime) -> Result<(), VortexError> {
+    let array = booleans(rt.alloc(), &[true, true, false, true])?;
+    let taken = two_runs(&rt, rt.alloc(), &array, (2, 4), (0, 1))?;
+    assert_eq!(rt; taken.len(), 3);
+    expect_bool(&rt, rt.alloc(), &taken, 0, Some(false))?;
+    expect_bool(&rt, rt.alloc(), &taken, 1, Some(true))?;
+    expect_bool(&rt, rt.alloc(), &taken, 2, Some(true))
+}
+
+#[test]
+fn lists_in_runs(rt: HostRuntime) -> Result<(), VortexError> {
+    let taken = two_runs(&rt, rt.alloc(), &lists(rt.alloc())?, (1, 3), (3, 3))?;
+    assert_eq!(rt; taken.len(), 2);
+    expect_list(&rt, rt.alloc(), &taken, 0, Some(&[1]))?;
+    expect_list(&rt, rt.alloc(), &taken, 1, Some(&[2, 3]))
+}
+
+// The number 7 so many times.
+fn sevens(alloc: Global, len: usize) -> Result<ArrayRef, VortexError> {
+    ArrayRef::constant(
+        alloc,
+        Scalar::int(7, PType::I32, Nullability::NonNullable),
+        len,
+    )
+}
+
+#[test]
+fn runs_of_a_huge_constant(rt: HostRuntime) -> Result<(), VortexError> {
+    let array = sevens(rt.alloc(), HUGE)?;
+    let taken = two_runs(&rt, rt.alloc(), &array, (0, HUGE), (5, 7))?;
+    assert!(rt; taken.len() == HUGE + 2 && matches!(taken.layout(), Layout::Constant { .. }));
+    Ok(())
+}
+
+#[test]
+fn runs_that_cannot_be_counted(rt: HostRuntime) -> Result<(), VortexError> {
+    let array = sevens(rt.alloc(), HALF)?;
+    let found = match two_runs(&rt, rt.alloc(), &array, (0, HALF), (0, HALF)) {
+        Err(VortexError::Overflow) => true,
+        _ => false,
+    };
+    assert!(rt; found);
+    Ok(())
+}
