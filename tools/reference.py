@@ -1,6 +1,6 @@
 """A second reading of the rules of the script language, in rows: for comparison with `vx`."""
 import re
-from typing import Any, Dict, List, NamedTuple, Optional
+from typing import Any, Dict, List, NamedTuple, Optional, Tuple
 
 RANGES: Dict[str, range] = {f"u{bits}": range(0, 2**bits) for bits in (8, 16, 32, 64)}
 RANGES.update({f"i{bits}": range(-(2 ** (bits - 1)), 2 ** (bits - 1)) for bits in (8, 16, 32, 64)})
@@ -8,6 +8,13 @@ REBUILT = {"u8": "u32", "u16": "u32", "u32": "u32", "u64": "u64"}
 REBUILT.update({"i8": "i32", "i16": "i32", "i32": "i32", "i64": "i64"})
 VALIDITIES = ("nonnull", "allvalid", "allinvalid")
 MODES = ("zctl", "trim", "exact", "overlap")
+LITERAL_KINDS = {"ints": tuple(RANGES), "bools": ("bool",), "texts": ("utf8", "binary")}
+OPERANDS = {name: (1, 1) for name in ("narrow", "show", "parts")}  # the least and most words
+OPERANDS.update({name: (2, 2) for name in (*LITERAL_KINDS, "dict", "take", "filter", "mask")})
+OPERANDS.update({"rebuild": (2, 2), "const": (3, 3), "slice": (3, 3), "listview": (4, 4)})
+OPERANDS.update({"fixed": (4, 4), "concat": (0, None), "struct": (2, None), "project": (1, None)})
+PLAIN_LAYOUTS = {"bool": "bool", "utf8": "views", "binary": "views"}
+PLAIN_LAYOUTS.update({"list": "listview", "fixed": "fixed", "record": "struct"})
 
 
 class Fault(Exception):
@@ -15,18 +22,21 @@ class Fault(Exception):
 
 
 class Array(NamedTuple):
-    layout: str  # bool, primitive, constant, dict, listview or views
-    kind: str  # bool, utf8, binary, list or an integer type
+    layout: str  # bool, primitive, constant, dict, fixed, listview, struct or views
+    kind: str  # bool, utf8, binary, list, fixed (lists of one size), record or an integer type
     nullable: bool
-    rows: List[Any]  # None where a row is null
+    rows: List[Any]  # None where a row is null; a record is a tuple of its names and rows
     elements: Optional["Array"] = None  # of lists, also of those that a dictionary names
+    size: int = 0  # of lists of one size
+    names: Tuple[str, ...] = ()  # of records
+    columns: Tuple["Array", ...] = ()
     offsets: Optional["Array"] = None
     sizes: Optional["Array"] = None
     codes: Optional["Array"] = None
     count: int = 0  # of a dictionary's values
-    buffers: int = 0  # that its texts or byte lists have in plain layout
+    buffers: Optional[int] = 0  # that its texts have in plain layout; None where no rule says it
     flag: bool = False
-    is_exact: bool = True  # whether a rule fixes each offset and size
+    is_exact: bool = True  # whether a rule fixes each number that `parts` prints
 
     def is_plain_integers(self) -> bool:
         return self.kind in RANGES and not self.nullable
@@ -44,6 +54,10 @@ def read_type(word: str):
     kind = word[:-1] if word.endswith("?") else word
     want(kind in ("bool", "utf8", "binary") or kind in RANGES, "Syntax")
     return kind, word.endswith("?")
+
+
+def is_name(word: str) -> bool:
+    return re.fullmatch(r"[A-Za-z0-9_]+", word) is not None
 
 
 def read_item(kind: str, word: str):
@@ -68,6 +82,11 @@ def fits(kind: str, item) -> bool:
         return False
 
 
+def is_long(item) -> bool:
+    """Whether an item is a text or a byte list that needs a buffer."""
+    return isinstance(item, bytes) and len(item) > 12
+
+
 def read_number(word: str, limit: Optional[int] = 2**64) -> int:
     want(re.fullmatch(r"[0-9]+", word) and (limit is None or int(word) < limit), "Syntax")
     return int(word)
@@ -90,22 +109,69 @@ def list_rows(elements: Array, offsets: List[int], sizes: List[int], mask: List[
     return [elements.rows[o : o + s] if there else None for o, s, there in spans]
 
 
+def is_mask(validity) -> bool:
+    """Whether a validity is a state, or an array of plain booleans."""
+    return isinstance(validity, str) or (validity.kind == "bool" and not validity.nullable)
+
+
+def mask_of(validity, count: int) -> List[bool]:
+    """Which of so many rows a validity says are there."""
+    if isinstance(validity, str):
+        return [validity != "allinvalid"] * count
+    want(len(validity.rows) == count, "LengthMismatch")
+    return validity.rows
+
+
 def list_view(elements: Array, offsets: Array, sizes: Array, validity) -> Array:
     want(offsets.is_plain_integers() and sizes.is_plain_integers(), "MismatchedTypes")
+    want(is_mask(validity), "MismatchedTypes")
     count = len(offsets.rows)
-    if isinstance(validity, Array):
-        want(validity.kind == "bool" and not validity.nullable, "MismatchedTypes")
-        want(len(sizes.rows) == count and len(validity.rows) == count, "LengthMismatch")
-        mask = validity.rows
-    else:
-        want(len(sizes.rows) == count, "LengthMismatch")
-        mask = [validity != "allinvalid"] * count
+    want(len(sizes.rows) == count, "LengthMismatch")
+    mask = mask_of(validity, count)
     for offset, size in zip(offsets.rows, sizes.rows):
         want(offset >= 0 and size >= 0, "Negative")
         want(offset + size < 2**64, "Overflow")
         want(offset + size <= len(elements.rows), "OutOfBounds")
     rows = list_rows(elements, offsets.rows, sizes.rows, mask)
-    return Array("listview", "list", validity != "nonnull", rows, elements, offsets, sizes)
+    parts = {"elements": elements, "offsets": offsets, "sizes": sizes}
+    return Array("listview", "list", validity != "nonnull", rows, **parts)
+
+
+def fixed_lists(elements: Array, size: int, validity, count: int) -> Array:
+    want(is_mask(validity), "MismatchedTypes")
+    mask = mask_of(validity, count)
+    want(size > 0 or not elements.rows, "DegenerateElements")
+    want(count * size < 2**64, "Overflow")
+    want(len(elements.rows) == count * size, "LengthMismatch")
+    offsets = [row * size for row in range(count)]
+    rows = list_rows(elements, offsets, [size] * count, mask)
+    return Array("fixed", "fixed", validity != "nonnull", rows, elements=elements, size=size)
+
+
+def records(count: int, validity, names: List[str], columns: List[Array]) -> Array:
+    want(is_mask(validity), "MismatchedTypes")
+    mask = mask_of(validity, count)
+    want(all(len(column.rows) == count for column in columns), "LengthMismatch")
+    fields = [tuple((n, c.rows[row]) for n, c in zip(names, columns)) for row in range(count)]
+    rows = [record if there else None for record, there in zip(fields, mask)]
+    parts = {"names": tuple(names), "columns": tuple(columns)}
+    return Array("struct", "record", validity != "nonnull", rows, **parts)
+
+
+def project(array: Array, names: List[str]) -> Array:
+    want(array.layout == "struct", "MismatchedTypes")
+    want(all(name in array.names for name in names), "UnknownField")
+    places = [array.names.index(name) for name in names]
+    rows = [None if row is None else tuple(row[i] for i in places) for row in array.rows]
+    columns = tuple(array.columns[i] for i in places)
+    return array._replace(rows=rows, names=tuple(names), columns=columns)
+
+
+def texts(kind: str, nullable: bool, rows: List[Any]) -> Array:
+    for row in rows:
+        want(nullable or row is not None, "HasNulls")
+        want(fits(kind, row), "NotUtf8")
+    return Array("views", kind, nullable, rows, buffers=int(any(map(is_long, rows))))
 
 
 def dictionary(codes: Array, values: Array) -> Array:
@@ -114,9 +180,10 @@ def dictionary(codes: Array, values: Array) -> Array:
         want(code is None or code >= 0, "Negative")
         want(code is None or code < len(values.rows), "OutOfBounds")
     rows = [None if code is None else values.rows[code] for code in codes.rows]
+    kept = values.buffers if values.rows or values.buffers == 0 else None
+    parts = {"codes": codes, "count": len(values.rows), "buffers": kept, "is_exact": True}
     nullable = values.nullable or codes.nullable
-    kept = {"elements": values.elements, "buffers": values.buffers if values.rows else 0}
-    return Array("dict", values.kind, nullable, rows, codes=codes, count=len(values.rows), **kept)
+    return values._replace(layout="dict", nullable=nullable, rows=rows, flag=False, **parts)
 
 
 def narrow(array: Array) -> Array:
@@ -175,11 +242,21 @@ def slice_array(array: Array, start: int, end: int) -> Array:
     return array
 
 
+def fits_usize(array: Array, count: int) -> bool:
+    """Whether the elements of so many rows can be counted, of lists of one size at any depth."""
+    if array.layout == "struct":
+        return all(fits_usize(column, count) for column in array.columns)
+    if array.layout != "fixed":
+        return True
+    return count * array.size < 2**64 and fits_usize(array.elements, count * array.size)
+
+
 def take(array: Array, indices: Array) -> Array:
     want(indices.kind in RANGES, "MismatchedTypes")
     for index in indices.rows:
         want(index is None or index >= 0, "Negative")
         want(index is None or index < len(array.rows), "OutOfBounds")
+    want(fits_usize(array, len(indices.rows)), "Overflow")
     rows = [None if index is None else array.rows[index] for index in indices.rows]
     taken = array._replace(rows=rows, nullable=array.nullable or indices.nullable)
     if array.layout == "listview":
@@ -219,25 +296,36 @@ def mask_array(array: Array, mask: Array) -> Array:
     return masked
 
 
+def type_of(array: Array):
+    """The data type of an array, with those of its elements or columns."""
+    inner = [array.elements] if array.kind in ("list", "fixed") else array.columns
+    return array.kind, array.nullable, array.size, array.names, [type_of(part) for part in inner]
+
+
 def same_type(array: Array, other: Array) -> bool:
-    if (array.kind, array.nullable) != (other.kind, other.nullable):
-        return False
-    return array.kind != "list" or same_type(array.elements, other.elements)
+    return type_of(array) == type_of(other)
 
 
 def concat(*arrays: Array) -> Array:
     want(arrays, "EmptyInput")
-    kind = arrays[0].kind
     want(all(same_type(arrays[0], array) for array in arrays), "DifferingDtypes")
-    rows = [row for array in arrays for row in array.rows]
-    layouts = {"bool": "bool", "utf8": "views", "binary": "views", "list": "listview"}
-    buffers = sum(array.buffers for array in arrays)
-    joined = Array(layouts.get(kind, "primitive"), kind, arrays[0].nullable, rows, buffers=buffers)
+    kind = arrays[0].kind
+    counts = [array.buffers for array in arrays]
+    buffers = None if None in counts else sum(counts)
+    joined = arrays[0]._replace(
+        layout=PLAIN_LAYOUTS.get(kind, "primitive"),
+        rows=[row for array in arrays for row in array.rows],
+        columns=tuple(map(concat, *[array.columns for array in arrays])),
+        buffers=buffers,
+        flag=False,
+        is_exact=buffers is not None,
+    )
+    if kind in ("list", "fixed"):
+        joined = joined._replace(elements=concat(*[array.elements for array in arrays]))
     if kind != "list":
         return joined
-    joined = joined._replace(elements=concat(*[array.elements for array in arrays]))
     if not all(array.layout == "listview" and array.is_exact for array in arrays):
-        zeroes = Array("primitive", "u64", False, [0] * len(rows))
+        zeroes = Array("primitive", "u64", False, [0] * len(joined.rows))
         return joined._replace(offsets=zeroes, sizes=zeroes, is_exact=False)
     before = [sum(len(array.elements.rows) for array in arrays[:i]) for i in range(len(arrays))]
     offsets = [n + base for array, base in zip(arrays, before) for n in array.offsets.rows]
@@ -254,6 +342,8 @@ def concat(*arrays: Array) -> Array:
 def row_text(row) -> str:
     if isinstance(row, list):
         return "[" + ",".join(map(row_text, row)) + "]"
+    if isinstance(row, tuple):
+        return "{" + ",".join(f"{name}:{row_text(field)}" for name, field in row) + "}"
     if isinstance(row, bytes):
         return "x" + row.hex()
     return "null" if row is None else str(row).lower()
@@ -267,6 +357,10 @@ def parts_text(array: Array) -> str:
         return f"listview offsets {counts[0]} sizes {counts[1]} elements {count} flag {flag}"
     if array.layout == "dict":
         return f"dict codes {row_text(array.codes.rows)} values {array.count} flag false"
+    if array.layout == "fixed":
+        return f"fixed {array.size} elements {len(array.rows) * array.size}"
+    if array.layout == "struct":
+        return f"struct {len(array.rows)} {','.join(array.names) or '-'}"
     if array.layout == "views":
         return f"views {len(array.rows)} buffers {array.buffers}"
     kind = f" {array.kind}" if array.layout == "primitive" else ""
@@ -276,54 +370,94 @@ def parts_text(array: Array) -> str:
 # ---- scripts
 
 
-def run_line(arrays: List[Array], words: List[str]) -> Optional[str]:
-    """Runs a line: makes the next array, or answers what it prints."""
-    name, *operands = words
+def read_items(kind: str, word: str) -> List[Any]:
+    return [] if word == "-" else [read_item(kind, item) for item in word.split(",")]
 
-    def get(register: int) -> Array:
-        want(register < len(arrays), "NoRegister")
-        return arrays[register]
 
-    counts = {"ints": 2, "bools": 2, "const": 3, "listview": 4, "slice": 3, "take": 2}
-    counts.update({"filter": 2, "mask": 2, "rebuild": 2, "dict": 2, "narrow": 1})
-    want(name == "concat" or len(operands) == counts.get(name, 1), "Syntax")
-    if name in ("ints", "bools"):
-        kind, nullable = read_type(operands[0])
-        want(kind == "bool" if name == "bools" else kind in RANGES, "Syntax")
-        items = [] if operands[1] == "-" else operands[1].split(",")
-        rows = [read_item(kind, item) for item in items]
-        arrays.append(literal("bool" if kind == "bool" else "primitive", kind, nullable, rows))
-    elif name == "const":
-        kind, nullable = read_type(operands[0])
+def read_validity(word: str):
+    return word if word in VALIDITIES else read_register(word)
+
+
+def spelled(name: str, operands: List[str]) -> Array:
+    """The array that a line spells out."""
+    kind, nullable = read_type(operands[0])
+    if name == "const":
         item = read_item(kind, operands[1])
         count = read_number(operands[2])
         want(nullable or item is not None, "HasNulls")
         want(fits(kind, item), "MismatchedTypes")
         constant = literal("constant", kind, nullable, [item] * count)
-        is_long = isinstance(item, bytes) and len(item) > 12
-        arrays.append(constant._replace(buffers=int(is_long)))
-    elif name == "listview":
+        return constant._replace(buffers=int(is_long(item)))
+    want(kind in LITERAL_KINDS[name], "Syntax")
+    rows = read_items(kind, operands[1])
+    if name == "texts":
+        return texts(kind, nullable, rows)
+    return literal("bool" if kind == "bool" else "primitive", kind, nullable, rows)
+
+
+def read_struct(words: List[str]):
+    """The names and the registers of the columns of records."""
+    fields = [word.partition("=") for word in words]
+    want(all(is_name(name) and equals for name, equals, _ in fields), "Syntax")
+    return [name for name, _, _ in fields], [read_register(word) for _, _, word in fields]
+
+
+def made_of_parts(name: str, operands: List[str], get) -> Array:
+    """The list view, lists of one size or records over parts that a line names."""
+    if name == "listview":
         registers = [read_register(word) for word in operands[:3]]
-        validity = operands[3] if operands[3] in VALIDITIES else read_register(operands[3])
-        parts = [get(register) for register in registers]
-        arrays.append(list_view(*parts, validity if isinstance(validity, str) else get(validity)))
-    elif name == "slice":
+        validity = read_validity(operands[3])
+        return list_view(*map(get, registers), get(validity))
+    if name == "fixed":
+        elements, size = read_register(operands[0]), read_number(operands[1], 2**32)
+        validity, count = read_validity(operands[2]), read_number(operands[3])
+        return fixed_lists(get(elements), size, get(validity), count)
+    count, validity = read_number(operands[0]), read_validity(operands[1])
+    names, registers = read_struct(operands[2:])
+    return records(count, get(validity), names, list(map(get, registers)))
+
+
+def called(name: str, operands: List[str], get) -> Array:
+    """The array that a line makes of other arrays."""
+    if name == "slice":
         register, start, end = read_register(operands[0]), *map(read_number, operands[1:])
-        arrays.append(slice_array(get(register), start, end))
-    elif name in ("take", "filter", "mask", "concat", "dict", "narrow"):
-        registers = [read_register(word) for word in operands]
-        calls = {"take": take, "filter": filter_array, "mask": mask_array, "concat": concat}
-        call = {**calls, "dict": dictionary, "narrow": narrow}[name]
-        arrays.append(call(*[get(register) for register in registers]))
-    elif name == "rebuild":
+        return slice_array(get(register), start, end)
+    if name == "rebuild":
         register = read_register(operands[0])
         want(operands[1] in MODES, "Syntax")
-        arrays.append(rebuild(get(register), operands[1]))
-    elif name in ("show", "parts"):
+        return rebuild(get(register), operands[1])
+    if name == "project":
+        register = read_register(operands[0])
+        want(all(map(is_name, operands[1:])), "Syntax")
+        return project(get(register), operands[1:])
+    calls = {"take": take, "filter": filter_array, "mask": mask_array, "concat": concat}
+    call = {**calls, "dict": dictionary, "narrow": narrow}[name]
+    return call(*map(get, [read_register(word) for word in operands]))
+
+
+def run_line(arrays: List[Array], words: List[str]) -> Optional[str]:
+    """Runs a line: makes the next array, or answers what it prints."""
+    name, *operands = words
+
+    def get(register):
+        """The array of a register; a state of a validity stays."""
+        if isinstance(register, str):
+            return register
+        want(register < len(arrays), "NoRegister")
+        return arrays[register]
+
+    want(name in OPERANDS, "Syntax")
+    least, most = OPERANDS[name]
+    want(least <= len(operands) and (most is None or len(operands) <= most), "Syntax")
+    if name in ("show", "parts"):
         array = get(read_register(operands[0]))
         return row_text(array.rows) if name == "show" else parts_text(array)
+    if name in (*LITERAL_KINDS, "const"):
+        arrays.append(spelled(name, operands))
+    elif name in ("listview", "fixed", "struct"):
+        arrays.append(made_of_parts(name, operands, get))
     else:
-        raise Fault("Syntax")
+        arrays.append(called(name, operands, get))
     return None
 
 
