@@ -18,3 +18,12 @@ pub mod TrimmedLayouts
 pub mod ExactViews
 pub mod AlikeViews
 pub mod RebuiltTwice
+pub mod StructParts
+pub mod StructFaults
+pub mod PushedNulls
+pub mod NamedColumns
+pub mod StructColumns
+pub mod ColumnRows
+pub mod PlainColumns
+pub mod ConcatenatedRecords
+pub mod LentArrays

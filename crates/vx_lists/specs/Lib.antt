@@ -6,3 +6,7 @@ pub mod FixedSizeLists
 pub mod ListReferences
 pub mod PlannedRuns
 pub mod RebuildModes
+pub mod Records
+pub mod Structs
+pub mod StructFaults
+pub mod StructConcats
