@@ -7,6 +7,8 @@ mod fixed_lists;
 #[cfg(test)]
 mod lists;
 #[cfg(test)]
+mod structs;
+#[cfg(test)]
 mod texts;
 #[cfg(test)]
 mod uses;

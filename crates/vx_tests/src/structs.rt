@@ -1,0 +1,226 @@
+// Records by columns: their columns, their parts and their faults.
+
+ghost use Rattle.std.specs.Prelude.{◌≡◌, [], ◌∷◌};
+ghost use Rattle.vx_base.specs.Refusals.{Gives};
+ghost use Rattle.vx_tree.specs.Meaning.{tree_len};
+
+mod columns;
+mod faults;
+mod joined;
+mod pushed;
+
+use std::alloc::Global;
+use std::test::Fail;
+use vx_base::{BitBuffer, Buffer, DType, FieldNames, NativePType, Nullability, PType, VortexError};
+use vx_lists::{StructArray, StructArrayExt, StructDataParts, StructSlots};
+use vx_tree::{ArrayRef, TypedArray, Validity};
+
+// Numbers, none of them null.
+fn ints<T: NativePType>(alloc: Global, items: &[T]) -> Result<ArrayRef, VortexError> {
+    let bytes = Buffer::copy_from(alloc, items)?.into_byte_buffer(alloc)?;
+    ArrayRef::primitive(alloc, T::PTYPE, bytes, Validity::NonNullable)
+}
+
+// Truth values, none of them null.
+fn bools(alloc: Global, items: &[bool]) -> Result<ArrayRef, VortexError> {
+    let bits = BitBuffer::from_bools(alloc, items)?;
+    ArrayRef::bools(alloc, bits, Validity::NonNullable)
+}
+
+// Valid where these are true.
+fn validity_of(alloc: Global, items: &[bool]) -> Result<Validity, VortexError> {
+    Ok(Validity::Array(bools(alloc, items)?))
+}
+
+// One column.
+fn one(alloc: Global, column: ArrayRef) -> Result<Vec<ArrayRef>, VortexError>
+    ensures { Gives result (λ columns. columns.items ≡ column ∷ []) }
+{
+    let mut columns = Vec::with_capacity(alloc, 1)?;
+    columns.push(column)?;
+    Ok(columns)
+}
+
+// Two columns, in order.
+fn both(alloc: Global, first: ArrayRef, second: ArrayRef) -> Result<Vec<ArrayRef>, VortexError> {
+    let mut columns = Vec::with_capacity(alloc, 2)?;
+    columns.push(first)?;
+    columns.push(second)?;
+    Ok(columns)
+}
+
+// The records `{a:1,b:true}` and `{a:2,b:false}`, null where the validity is false.
+fn two_records(alloc: Global, validity: Validity) -> Result<StructArray, VortexError> {
+    let names = FieldNames::try_new(alloc, &["a", "b"])?;
+    let first = ints::<u8>(alloc, &[1, 2])?;
+    let second = bools(alloc, &[true, false])?;
+    let columns = both(alloc, first, second)?;
+    StructArray::try_new(alloc, names, columns.into_iter(), 2, validity)
+}
+
+// Two records of one column, which is asked to have two rows.
+fn asked(alloc: Global, column: ArrayRef) -> Result<StructArray, VortexError>
+    requires { tree_len column ≡ 2 }
+{
+    let names = FieldNames::try_new(alloc, &["a"])?;
+    let columns = one(alloc, column)?;
+    StructArray::new(alloc, names, columns.into_iter(), 2, Validity::AllValid)
+}
+
+// Whether these are the rows of a column of numbers.
+fn has_numbers(column: &ArrayRef, wanted: &[Option<i128>]) -> bool {
+    if !column.dtype().is_int() || column.len() != wanted.len() {
+        return false;
+    }
+    for (i, number) in wanted.iter().enumerate() {
+        if column.int_at(i) != *number {
+            return false;
+        }
+    }
+    true
+}
+
+// Whether a column of truth values is true, then false.
+fn is_true_false(alloc: Global, column: &ArrayRef) -> Result<bool, VortexError> {
+    if column.len() != 2 {
+        return Ok(false);
+    }
+    let first = column.execute_scalar(alloc, 0)?;
+    let second = column.execute_scalar(alloc, 1)?;
+    Ok(first.is_valid() && first.as_bool() && second.is_valid() && !second.as_bool())
+}
+
+#[test]
+fn records_of_two_columns(rt: HostRuntime) -> Result<(), Fail> {
+    let records = two_records(rt.alloc(), Validity::NonNullable)?;
+    assert!(rt; records.len() == 2 && records.fields().len() == 2);
+    assert!(rt; has_numbers(records.unmasked_field(0), &[Some(1), Some(2)]));
+    assert!(rt; is_true_false(rt.alloc(), records.unmasked_field(1))?);
+    assert!(rt; records.as_array().is_valid(rt.alloc(), 1)?);
+    assert_eq!(rt; records.nullability(), Nullability::NonNullable);
+    Ok(())
+}
+
+#[test]
+fn records_of_a_column_that_fits(rt: HostRuntime) -> Result<(), Fail> {
+    let column = ints::<i16>(rt.alloc(), &[-1, 9])?;
+    assert!(rt; column.len() == 2);
+    let records = asked(rt.alloc(), column)?;
+    assert!(rt; records.len() == 2 && records.fields().len() == 1);
+    assert!(rt; has_numbers(records.unmasked_field(0), &[Some(-1), Some(9)]));
+    assert_eq!(rt; records.nullability(), Nullability::Nullable);
+    Ok(())
+}
+
+#[test]
+fn columns_come_in_order(rt: HostRuntime) -> Result<(), Fail> {
+    let records = two_records(rt.alloc(), Validity::NonNullable)?;
+    let mut columns = records.iter_unmasked_fields();
+    assert_eq!(rt; columns.len(), 2);
+    let Some(first) = columns.next() else {
+        return Err(VortexError::UnknownField.into());
+    };
+    assert!(rt; has_numbers(first, &[Some(1), Some(2)]));
+    assert_eq!(rt; columns.len(), 1);
+    assert!(rt; columns.next().is_some() && columns.next().is_none());
+    Ok(())
+}
+
+#[test]
+fn names_of_records(rt: HostRuntime) -> Result<(), Fail> {
+    let records = two_records(rt.alloc(), Validity::NonNullable)?;
+    let names = records.names();
+    assert!(rt; names.len() == 2 && names.get(1).as_str() == "b");
+    assert_eq!(rt; names.find("a"), Some(0));
+    let fields = records.struct_fields();
+    assert_eq!(rt; fields.find("b"), Some(1));
+    let own = fields.fields();
+    assert!(rt; own.len() == 2);
+    assert!(rt; own[0] == DType::Primitive(PType::U8, Nullability::NonNullable));
+    assert!(rt; own[1] == DType::Bool(Nullability::NonNullable));
+    Ok(())
+}
+
+#[test]
+fn columns_by_place(rt: HostRuntime) -> Result<(), Fail> {
+    let records = two_records(rt.alloc(), Validity::AllInvalid)?;
+    let Some(first) = records.unmasked_field_opt(0) else {
+        return Err(VortexError::UnknownField.into());
+    };
+    assert!(rt; has_numbers(first, &[Some(1), Some(2)]));
+    assert!(rt; records.unmasked_field_opt(2).is_none());
+    Ok(())
+}
+
+#[test]
+fn columns_by_name(rt: HostRuntime) -> Result<(), Fail> {
+    let records = two_records(rt.alloc(), Validity::NonNullable)?;
+    let named = records.unmasked_field_by_name("a")?;
+    assert!(rt; has_numbers(named, &[Some(1), Some(2)]));
+    let refused = records.unmasked_field_by_name("z");
+    assert!(rt; matches!(refused, Err(VortexError::UnknownField)));
+    assert!(rt; records.unmasked_field_by_name_opt("b").is_some());
+    assert!(rt; records.unmasked_field_by_name_opt("z").is_none());
+    Ok(())
+}
+
+#[test]
+fn records_that_may_be_null(rt: HostRuntime) -> Result<(), Fail> {
+    let validity = validity_of(rt.alloc(), &[true, false])?;
+    let records = two_records(rt.alloc(), validity)?.try_clone(rt.alloc())?;
+    assert_eq!(rt; records.nullability(), Nullability::Nullable);
+    assert!(rt; !records.as_array().is_valid(rt.alloc(), 1)?);
+    let own = records.struct_validity(rt.alloc())?;
+    assert!(rt; own.is_valid(rt.alloc(), 0)? && !own.is_valid(rt.alloc(), 1)?);
+    Ok(())
+}
+
+#[test]
+fn records_of_no_columns(rt: HostRuntime) -> Result<(), Fail> {
+    let records = StructArray::new_fieldless_with_len(rt.alloc(), 3)?;
+    assert!(rt; records.len() == 3 && records.fields().is_empty());
+    assert!(rt; records.as_array().is_valid(rt.alloc(), 2)?);
+    assert!(rt; matches!(records.dtype(), DType::Struct(_, Nullability::NonNullable)));
+    Ok(())
+}
+
+#[test]
+fn slots_of_records(rt: HostRuntime) -> Result<(), Fail> {
+    let slots = two_records(rt.alloc(), Validity::AllValid)?.slots(rt.alloc())?;
+    assert!(rt; slots.fields.len() == 2 && slots.validity.is_none());
+    assert!(rt; has_numbers(&slots.fields[0], &[Some(1), Some(2)]));
+    Ok(())
+}
+
+#[test]
+fn the_slot_of_null_records(rt: HostRuntime) -> Result<(), Fail> {
+    let records = two_records(rt.alloc(), Validity::AllInvalid)?;
+    let StructSlots { validity, .. } = records.slots(rt.alloc())?;
+    let Some(slot) = validity else {
+        return Err(VortexError::MismatchedTypes.into());
+    };
+    assert!(rt; slot.len() == 2 && !slot.execute_scalar(rt.alloc(), 1)?.as_bool());
+    Ok(())
+}
+
+#[test]
+fn parts_of_records(rt: HostRuntime) -> Result<(), Fail> {
+    let records = two_records(rt.alloc(), Validity::AllValid)?;
+    let StructDataParts {
+        struct_fields,
+        fields,
+        validity,
+    } = records.into_data_parts(rt.alloc())?;
+    assert_eq!(rt; struct_fields.find("b"), Some(1));
+    assert!(rt; fields.len() == 2 && has_numbers(&fields[0], &[Some(1), Some(2)]));
+    assert!(rt; matches!(validity, Validity::AllValid));
+    Ok(())
+}
+
+#[test]
+fn records_come_back(rt: HostRuntime) -> Result<(), Fail> {
+    let array = two_records(rt.alloc(), Validity::NonNullable)?.into_array();
+    assert!(rt; StructArray::try_from_array(array).is_ok());
+    assert!(rt; StructArray::try_from_array(ints::<u8>(rt.alloc(), &[1])?).is_err());
+    Ok(())
+}

@@ -1,0 +1,206 @@
+// Parts of records that are refused.
+
+use super::{bools, both, ints, one, two_records, validity_of};
+use std::alloc::Global;
+use std::test::Fail;
+use vx_base::{FieldNames, VortexError};
+use vx_lists::{StructArray, StructArrayExt};
+use vx_tree::{ArrayRef, Validity};
+
+// How two records of these names and of one column of these numbers are refused.
+fn fault_of(
+    alloc: Global,
+    names: &[&str],
+    numbers: &[u8],
+    validity: Validity,
+) -> Result<Option<VortexError>, VortexError> {
+    let names = FieldNames::try_new(alloc, names)?;
+    let columns = one(alloc, ints(alloc, numbers)?)?;
+    match StructArray::try_new(alloc, names, columns.into_iter(), 2, validity) {
+        Ok(_) => Ok(None),
+        Err(fault) => Ok(Some(fault)),
+    }
+}
+
+#[test]
+fn names_are_counted_first(rt: HostRuntime) -> Result<(), Fail> {
+    let numbers = Validity::Array(ints::<u8>(rt.alloc(), &[1])?);
+    let fault = fault_of(rt.alloc(), &["a", "b"], &[1], numbers)?;
+    assert!(rt;
+        matches!(
+            fault,
+            Some(VortexError::LengthMismatch {
+                expected: 2,
+                found: 1,
+            })
+        )
+    );
+    Ok(())
+}
+
+#[test]
+fn validities_are_tested_next(rt: HostRuntime) -> Result<(), Fail> {
+    let numbers = Validity::Array(ints::<u8>(rt.alloc(), &[1])?);
+    let fault = fault_of(rt.alloc(), &["a"], &[1], numbers)?;
+    assert!(rt; matches!(fault, Some(VortexError::MismatchedTypes)));
+    let long = validity_of(rt.alloc(), &[true, true, true])?;
+    let fault = fault_of(rt.alloc(), &["a"], &[1], long)?;
+    assert!(rt;
+        matches!(
+            fault,
+            Some(VortexError::LengthMismatch {
+                expected: 2,
+                found: 3,
+            })
+        )
+    );
+    Ok(())
+}
+
+#[test]
+fn columns_are_measured_last(rt: HostRuntime) -> Result<(), Fail> {
+    let fault = fault_of(rt.alloc(), &["a"], &[1], Validity::AllValid)?;
+    assert!(rt;
+        matches!(
+            fault,
+            Some(VortexError::LengthMismatch {
+                expected: 2,
+                found: 1,
+            })
+        )
+    );
+    assert!(rt; fault_of(rt.alloc(), &["a"], &[1, 2], Validity::AllValid)?.is_none());
+    Ok(())
+}
+
+// How two records of the data types of `{a:1,b:true}` and of these columns are refused.
+fn typed_fault_of(
+    alloc: Global,
+    columns: Vec<ArrayRef>,
+    validity: Validity,
+) -> Result<Option<VortexError>, VortexError> {
+    let like = two_records(alloc, Validity::NonNullable)?;
+    let fields = like.struct_fields().try_clone(alloc)?;
+    match StructArray::try_new_with_dtype(alloc, columns.into_iter(), fields, 2, validity) {
+        Ok(_) => Ok(None),
+        Err(fault) => Ok(Some(fault)),
+    }
+}
+
+// The columns of these numbers and of these truth values.
+fn pair(alloc: Global, numbers: &[u8], truths: &[bool]) -> Result<Vec<ArrayRef>, VortexError> {
+    both(alloc, ints(alloc, numbers)?, bools(alloc, truths)?)
+}
+
+#[test]
+fn columns_of_data_types(rt: HostRuntime) -> Result<(), Fail> {
+    let columns = pair(rt.alloc(), &[1, 2], &[true, false])?;
+    assert!(rt; typed_fault_of(rt.alloc(), columns, Validity::AllValid)?.is_none());
+    Ok(())
+}
+
+#[test]
+fn columns_of_data_types_are_counted(rt: HostRuntime) -> Result<(), Fail> {
+    let numbers = Validity::Array(ints::<u8>(rt.alloc(), &[1])?);
+    let columns = one(rt.alloc(), ints::<i8>(rt.alloc(), &[1])?)?;
+    let fault = typed_fault_of(rt.alloc(), columns, numbers)?;
+    assert!(rt;
+        matches!(
+            fault,
+            Some(VortexError::LengthMismatch {
+                expected: 2,
+                found: 1,
+            })
+        )
+    );
+    Ok(())
+}
+
+#[test]
+fn validities_come_before_data_types(rt: HostRuntime) -> Result<(), Fail> {
+    let columns = pair(rt.alloc(), &[1], &[true, false])?;
+    let long = validity_of(rt.alloc(), &[true, true, true])?;
+    let fault = typed_fault_of(rt.alloc(), columns, long)?;
+    assert!(rt; matches!(fault, Some(VortexError::LengthMismatch { found: 3, .. })));
+    Ok(())
+}
+
+#[test]
+fn columns_of_another_data_type(rt: HostRuntime) -> Result<(), Fail> {
+    let first = ints::<i16>(rt.alloc(), &[1])?;
+    let columns = both(rt.alloc(), first, bools(rt.alloc(), &[true])?)?;
+    let fault = typed_fault_of(rt.alloc(), columns, Validity::AllValid)?;
+    assert!(rt; matches!(fault, Some(VortexError::MismatchedTypes)));
+    Ok(())
+}
+
+#[test]
+fn shorter_columns_of_data_types(rt: HostRuntime) -> Result<(), Fail> {
+    let first = ints::<u8>(rt.alloc(), &[1])?;
+    let columns = both(rt.alloc(), first, ints::<u8>(rt.alloc(), &[1, 2])?)?;
+    let fault = typed_fault_of(rt.alloc(), columns, Validity::AllValid)?;
+    assert!(rt;
+        matches!(
+            fault,
+            Some(VortexError::LengthMismatch {
+                expected: 2,
+                found: 1,
+            })
+        )
+    );
+    Ok(())
+}
+
+// No column, and so no name.
+fn no_columns(alloc: Global) -> Vec<(&'static str, ArrayRef)> {
+    Vec::new(alloc)
+}
+
+#[test]
+fn no_column_tells_no_length(rt: HostRuntime) -> Result<(), Fail> {
+    let refused = StructArray::try_from_iter(rt.alloc(), no_columns(rt.alloc()).into_iter());
+    assert!(rt; matches!(refused, Err(VortexError::EmptyInput)));
+    let refused = StructArray::from_fields(rt.alloc(), &no_columns(rt.alloc()));
+    assert!(rt; matches!(refused, Err(VortexError::EmptyInput)));
+    let numbers = Validity::Array(ints::<u8>(rt.alloc(), &[1])?);
+    let none = no_columns(rt.alloc()).into_iter();
+    let refused = StructArray::try_from_iter_with_validity(rt.alloc(), none, numbers);
+    assert!(rt; matches!(refused, Err(VortexError::EmptyInput)));
+    Ok(())
+}
+
+// The columns a and b of so many numbers.
+fn uneven(
+    alloc: Global,
+    first: &[u8],
+    second: &[u8],
+) -> Result<Vec<(&'static str, ArrayRef)>, VortexError> {
+    let mut fields = Vec::with_capacity(alloc, 2)?;
+    fields.push(("a", ints(alloc, first)?))?;
+    fields.push(("b", ints(alloc, second)?))?;
+    Ok(fields)
+}
+
+#[test]
+fn columns_are_as_long_as_the_first(rt: HostRuntime) -> Result<(), Fail> {
+    let fields = uneven(rt.alloc(), &[1], &[1, 2])?;
+    let refused = StructArray::from_fields(rt.alloc(), &fields);
+    assert!(rt;
+        matches!(
+            refused,
+            Err(VortexError::LengthMismatch {
+                expected: 1,
+                found: 2,
+            })
+        )
+    );
+    let fields = uneven(rt.alloc(), &[1, 2], &[])?.into_iter();
+    let refused = StructArray::try_from_iter(rt.alloc(), fields);
+    assert!(rt;
+        matches!(
+            refused,
+            Err(VortexError::LengthMismatch { expected: 2, .. })
+        )
+    );
+    Ok(())
+}

@@ -1,0 +1,57 @@
+// Arrays of records, one after another.
+
+use super::{both, has_numbers, ints, two_records};
+use std::alloc::Global;
+use std::test::Fail;
+use vx_base::{FieldNames, VortexError};
+use vx_lists::{StructArray, StructArrayExt};
+use vx_tree::{TypedArray, Validity};
+
+// One record of two numbers, both under the name data.
+fn chunk(alloc: Global, first: i32, second: i32) -> Result<StructArray, VortexError> {
+    let names = FieldNames::try_new(alloc, &["data", "data"])?;
+    let columns = both(alloc, ints(alloc, &[first])?, ints(alloc, &[second])?)?;
+    StructArray::try_new(alloc, names, columns.into_iter(), 1, Validity::NonNullable)
+}
+
+#[test]
+fn columns_of_one_name_go_by_place(rt: HostRuntime) -> Result<(), Fail> {
+    let (first, second) = (chunk(rt.alloc(), 1, 3)?, chunk(rt.alloc(), 2, 4)?);
+    let chunks = [&first, &second];
+    let all = StructArray::try_concat(rt.alloc(), chunks.iter().copied())?;
+    assert!(rt; all.len() == 2 && all.fields().len() == 2);
+    assert!(rt; has_numbers(all.unmasked_field(0), &[Some(1), Some(2)]));
+    assert!(rt; has_numbers(all.unmasked_field(1), &[Some(3), Some(4)]));
+    let named = all.unmasked_field_by_name("data")?;
+    assert!(rt; has_numbers(named, &[Some(1), Some(2)]));
+    Ok(())
+}
+
+#[test]
+fn validities_are_joined(rt: HostRuntime) -> Result<(), Fail> {
+    let first = two_records(rt.alloc(), Validity::AllInvalid)?;
+    let second = two_records(rt.alloc(), Validity::AllValid)?;
+    let chunks = [&first, &second];
+    let all = StructArray::try_concat(rt.alloc(), chunks.iter().copied())?;
+    assert!(rt; all.len() == 4 && !all.as_array().is_valid(rt.alloc(), 1)?);
+    assert!(rt; all.as_array().is_valid(rt.alloc(), 2)?);
+    Ok(())
+}
+
+#[test]
+fn no_records_are_joined(rt: HostRuntime) -> Result<(), Fail> {
+    let chunks: [&StructArray; 0] = [];
+    let refused = StructArray::try_concat(rt.alloc(), chunks.iter().copied());
+    assert!(rt; matches!(refused, Err(VortexError::EmptyInput)));
+    Ok(())
+}
+
+#[test]
+fn other_data_types_are_not_joined(rt: HostRuntime) -> Result<(), Fail> {
+    let first = chunk(rt.alloc(), 1, 3)?;
+    let second = two_records(rt.alloc(), Validity::NonNullable)?;
+    let chunks = [&first, &second];
+    let refused = StructArray::try_concat(rt.alloc(), chunks.iter().copied());
+    assert!(rt; matches!(refused, Err(VortexError::DifferingDtypes)));
+    Ok(())
+}

@@ -1,0 +1,74 @@
+// Nulls of records, pushed into their columns.
+
+use super::{has_numbers, ints, validity_of};
+use std::alloc::Global;
+use std::test::Fail;
+use vx_base::{Nullability, VortexError};
+use vx_lists::{StructArray, StructArrayExt};
+use vx_tree::{ArrayRef, TypedArray, Validity};
+
+// The column a of the numbers 1 and 2.
+fn column(alloc: Global) -> Result<Vec<(&'static str, ArrayRef)>, VortexError> {
+    let mut fields = Vec::with_capacity(alloc, 1)?;
+    fields.push(("a", ints::<u8>(alloc, &[1, 2])?))?;
+    Ok(fields)
+}
+
+// The records `{a:1}` and `{a:2}`, null where the validity is false.
+fn records(alloc: Global, validity: Validity) -> Result<StructArray, VortexError> {
+    StructArray::try_from_iter_with_validity(alloc, column(alloc)?.into_iter(), validity)
+}
+
+// Whether records have one column, of these numbers.
+fn has_column(records: &StructArray, wanted: &[Option<i128>]) -> bool {
+    match records.unmasked_field_opt(0) {
+        Some(column) => records.fields().len() == 1 && has_numbers(column, wanted),
+        None => false,
+    }
+}
+
+#[test]
+fn a_null_record_becomes_a_record_of_nulls(rt: HostRuntime) -> Result<(), Fail> {
+    let validity = validity_of(rt.alloc(), &[true, false])?;
+    let pushed = records(rt.alloc(), validity)?.push_validity_into_children(rt.alloc(), true)?;
+    assert!(rt; pushed.len() == 2 && has_column(&pushed, &[Some(1), None]));
+    assert_eq!(rt; pushed.nullability(), Nullability::NonNullable);
+    assert!(rt; pushed.as_array().is_valid(rt.alloc(), 1)?);
+    let dtypes = pushed.struct_fields().fields();
+    assert!(rt; dtypes.len() == 1 && dtypes[0].is_nullable());
+    Ok(())
+}
+
+#[test]
+fn null_records_stay(rt: HostRuntime) -> Result<(), Fail> {
+    let validity = validity_of(rt.alloc(), &[true, false])?;
+    let pushed = records(rt.alloc(), validity)?.push_validity_into_children(rt.alloc(), false)?;
+    assert!(rt; pushed.len() == 2 && has_column(&pushed, &[Some(1), None]));
+    assert_eq!(rt; pushed.nullability(), Nullability::Nullable);
+    let array = pushed.as_array();
+    assert!(rt; array.is_valid(rt.alloc(), 0)? && !array.is_valid(rt.alloc(), 1)?);
+    Ok(())
+}
+
+#[test]
+fn records_that_are_all_null(rt: HostRuntime) -> Result<(), Fail> {
+    let nulls = records(rt.alloc(), Validity::AllInvalid)?;
+    let pushed = nulls.push_validity_into_children(rt.alloc(), true)?;
+    assert!(rt; has_column(&pushed, &[None, None]));
+    assert_eq!(rt; pushed.nullability(), Nullability::NonNullable);
+    let kept = nulls.push_validity_into_children(rt.alloc(), false)?;
+    assert!(rt; matches!(kept.struct_validity(rt.alloc())?, Validity::AllInvalid));
+    Ok(())
+}
+
+#[test]
+fn columns_stay_where_no_record_is_null(rt: HostRuntime) -> Result<(), Fail> {
+    let own = records(rt.alloc(), Validity::AllValid)?;
+    let pushed = own.push_validity_into_children(rt.alloc(), true)?;
+    assert!(rt; has_column(&pushed, &[Some(1), Some(2)]));
+    let dtypes = pushed.struct_fields().fields();
+    assert!(rt; dtypes.len() == 1 && !dtypes[0].is_nullable());
+    let kept = own.push_validity_into_children(rt.alloc(), false)?;
+    assert_eq!(rt; kept.nullability(), Nullability::Nullable);
+    Ok(())
+}
