@@ -2,10 +2,12 @@
 
 use crate::faults::LineFault;
 use crate::literals::{Literal, boolean_array, constant_array, integer_array, text_array};
-use crate::operands::{RegisterWord, ValidityWord, dtype_named, list_size, whole_number};
+use crate::operands::{
+    RegisterWord, ValidityWord, dtype_named, field_name, list_size, named_register, whole_number,
+};
 use crate::words::Words;
 use std::alloc::Global;
-use vx_base::DType;
+use vx_base::{DType, FieldName, FieldNames};
 use vx_lists::ListViewRebuildMode;
 
 // A line that is in the grammar, with its operands.
@@ -23,6 +25,8 @@ pub(crate) enum Command {
         codes: RegisterWord,
         values: RegisterWord,
     },
+    // `struct N V NAME=R ...`: records.
+    Struct(StructWords),
     // `slice R N N`: the rows from `start` up to `end`.
     Slice {
         array: RegisterWord,
@@ -57,6 +61,11 @@ pub(crate) enum Command {
     Narrow {
         array: RegisterWord,
     },
+    // `project R NAME ...`: records with the first field of each of these names.
+    Project {
+        array: RegisterWord,
+        names: Vec<FieldName>,
+    },
     // `show R`: prints the rows.
     Show {
         array: RegisterWord,
@@ -85,6 +94,16 @@ pub(crate) struct FixedSizeListWords {
     pub len: usize,
 }
 
+// The parts of records, as a line names them.
+#[derive(Drop)]
+pub(crate) struct StructWords {
+    pub len: usize,
+    pub validity: ValidityWord,
+    pub names: FieldNames,
+    // One a name.
+    pub columns: Vec<RegisterWord>,
+}
+
 // The command of a line without its line feed, or `None` where the line has no words. Refuses
 // `Syntax` where the line is not in the grammar, or memory.
 pub(crate) fn parse_command(alloc: Global, line: &[u8]) -> Result<Option<Command>, LineFault> {
@@ -109,6 +128,7 @@ fn command_named(alloc: Global, name: &[u8], words: &mut Words<'_>) -> Result<Co
         b"listview" => list_view(words),
         b"fixed" => fixed_size_list(words),
         b"dict" => dictionary(words),
+        b"struct" => records(alloc, words),
         b"slice" => slice(words),
         b"take" => take(words),
         b"filter" => filter(words),
@@ -118,6 +138,7 @@ fn command_named(alloc: Global, name: &[u8], words: &mut Words<'_>) -> Result<Co
         b"narrow" => Ok(Command::Narrow {
             array: register(words)?,
         }),
+        b"project" => project(alloc, words),
         b"show" => Ok(Command::Show {
             array: register(words)?,
         }),
@@ -185,6 +206,24 @@ fn dictionary(words: &mut Words<'_>) -> Result<Command, LineFault> {
     })
 }
 
+fn records(alloc: Global, words: &mut Words<'_>) -> Result<Command, LineFault> {
+    let len = number(words)?;
+    let validity = validity(words)?;
+    let mut names = Vec::new(alloc);
+    let mut columns = Vec::new(alloc);
+    for word in words.by_ref() {
+        let (name, column) = named_register(word).ok_or(LineFault::Syntax)?;
+        names.push(name)?;
+        columns.push(column)?;
+    }
+    Ok(Command::Struct(StructWords {
+        len,
+        validity,
+        names: FieldNames::try_new(alloc, &names)?,
+        columns,
+    }))
+}
+
 fn slice(words: &mut Words<'_>) -> Result<Command, LineFault> {
     Ok(Command::Slice {
         array: register(words)?,
@@ -232,6 +271,16 @@ fn rebuild(words: &mut Words<'_>) -> Result<Command, LineFault> {
         _ => return Err(LineFault::Syntax),
     };
     Ok(Command::Rebuild { array, mode })
+}
+
+fn project(alloc: Global, words: &mut Words<'_>) -> Result<Command, LineFault> {
+    let array = register(words)?;
+    let mut names = Vec::new(alloc);
+    for word in words.by_ref() {
+        let name = field_name(word).ok_or(LineFault::Syntax)?;
+        names.push(FieldName::try_new(alloc, name)?)?;
+    }
+    Ok(Command::Project { array, names })
 }
 
 // The next word, which the grammar asks for.

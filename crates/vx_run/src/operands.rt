@@ -78,6 +78,27 @@ impl ValidityWord {
     }
 }
 
+// The name of a field that a word writes, or `None` where the word is not ASCII letters, digits and
+// `_` alone, at least one.
+pub(crate) fn field_name(word: &[u8]) -> Option<&str>
+    ensures { IfSome result (λ name. name.now ≡ word.now) }
+{
+    let is_name_byte = |byte: &u8| byte.is_ascii_alphanumeric() || *byte == b'_';
+    if word.is_empty() || !word.iter().all(is_name_byte) {
+        return None;
+    }
+    std::str::from_utf8(word).ok()
+}
+
+// The name of a field and the register of its column, or `None` where the word is not a name, `=`
+// and a register.
+pub(crate) fn named_register(word: &[u8]) -> Option<(&str, RegisterWord)> {
+    let name_len = word.iter().position(|byte| *byte == b'=')?;
+    let name = field_name(&word[..name_len])?;
+    let register = RegisterWord::from_word(&word[name_len + 1..])?;
+    Some((name, register))
+}
+
 // The number that a word of decimal digits writes, or `None` where the word is no such number or
 // it passes `usize`.
 pub(crate) fn whole_number(word: &[u8]) -> Option<usize>

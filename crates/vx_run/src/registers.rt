@@ -1,14 +1,14 @@
 // The arrays that a script has made, and the commands on them.
 
-use crate::command::{Command, FixedSizeListWords, ListViewWords};
+use crate::command::{Command, FixedSizeListWords, ListViewWords, StructWords};
 use crate::faults::LineFault;
 use crate::operands::{RegisterWord, ValidityWord};
 use crate::parts::show_parts;
 use crate::show::show_array;
 use std::alloc::Global;
-use vx_base::VortexError;
+use vx_base::{FieldName, VortexError};
 use vx_leaves::{DictArray, PrimitiveArray, PrimitiveArrayExt};
-use vx_lists::{FixedSizeListArray, ListViewArray, ListViewRebuildMode};
+use vx_lists::{FixedSizeListArray, ListViewArray, ListViewRebuildMode, StructArray};
 use vx_tree::{ArrayRef, TypedArray, Validity};
 
 // The arrays that a script has made, by the numbers of their registers.
@@ -49,6 +49,7 @@ impl Registers {
             Command::ListView(parts) => self.list_view(alloc, parts)?,
             Command::FixedSizeList(parts) => self.fixed_size_list(alloc, parts)?,
             Command::Dictionary { codes, values } => self.dictionary(alloc, codes, values)?,
+            Command::Struct(parts) => self.records(alloc, parts)?,
             Command::Slice { array, start, end } => self.get(array)?.slice(alloc, start..end)?,
             Command::Take { array, indices } => self.get(array)?.take(alloc, self.get(indices)?)?,
             Command::Filter { array, mask } => self.filter(alloc, array, mask)?,
@@ -56,6 +57,7 @@ impl Registers {
             Command::Concat { arrays } => self.concat(alloc, &arrays)?,
             Command::Rebuild { array, mode } => self.rebuild(alloc, array, mode)?,
             Command::Narrow { array } => self.narrow(alloc, array)?,
+            Command::Project { array, names } => self.project(alloc, array, &names)?,
             Command::Show { array } => return Ok(Some(self.show(alloc, array)?)),
             Command::Parts { array } => return Ok(Some(self.parts(alloc, array)?)),
         };
@@ -69,6 +71,19 @@ impl Registers {
             .number()
             .and_then(|number| self.arrays.get(number))
             .ok_or(LineFault::NoRegister)
+    }
+
+    // The arrays of registers, shared.
+    fn get_all(
+        &self,
+        alloc: Global,
+        registers: &[RegisterWord],
+    ) -> Result<Vec<ArrayRef>, LineFault> {
+        let mut arrays = Vec::with_capacity(alloc, registers.len())?;
+        for register in registers {
+            arrays.push(self.get(*register)?.try_clone(alloc)?)?;
+        }
+        Ok(arrays)
     }
 
     // A list view over three registers.
@@ -122,6 +137,20 @@ impl Registers {
         Ok(dictionary.into_array())
     }
 
+    // Records whose columns are registers.
+    fn records(&self, alloc: Global, parts: StructWords) -> Result<ArrayRef, LineFault> {
+        let columns = self.get_all(alloc, &parts.columns)?;
+        let validity = self.validity(alloc, parts.validity)?;
+        let records = StructArray::try_new(
+            alloc,
+            parts.names,
+            columns.into_iter(),
+            parts.len,
+            validity,
+        )?;
+        Ok(records.into_array())
+    }
+
     // The validity that a word names.
     fn validity(&self, alloc: Global, validity: ValidityWord) -> Result<Validity, LineFault> {
         Ok(match validity {
@@ -151,10 +180,7 @@ impl Registers {
 
     // The rows of several registers, one array after another.
     fn concat(&self, alloc: Global, registers: &[RegisterWord]) -> Result<ArrayRef, LineFault> {
-        let mut arrays = Vec::with_capacity(alloc, registers.len())?;
-        for register in registers {
-            arrays.push(self.get(*register)?.try_clone(alloc)?)?;
-        }
+        let arrays = self.get_all(alloc, registers)?;
         Ok(ArrayRef::concat(alloc, &arrays)?)
     }
 
@@ -180,6 +206,21 @@ impl Registers {
             return Err(LineFault::Refused(VortexError::MismatchedTypes));
         };
         Ok(numbers.narrow(alloc)?.into_array())
+    }
+
+    // Records with the first field of each of some names. Refuses `MismatchedTypes` where the
+    // register does not hold records by columns.
+    fn project(
+        &self,
+        alloc: Global,
+        array: RegisterWord,
+        names: &[FieldName],
+    ) -> Result<ArrayRef, LineFault> {
+        let array = self.get(array)?.try_clone(alloc)?;
+        let Ok(records) = StructArray::try_from_array(array) else {
+            return Err(LineFault::Refused(VortexError::MismatchedTypes));
+        };
+        Ok(records.project(alloc, names)?.into_array())
     }
 
     // The rows of a register, and a line feed.
