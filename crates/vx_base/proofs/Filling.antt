@@ -1,13 +1,16 @@
 -- Runs of bits that are written.
-use Rattle.std.proofs.Common.{ℕ, zero, suc, ◌+◌, ◌-◌, ◌*◌, ◌/◌, ◌%◌, ◌<◌, ◌≤◌, ◌≡◌, ◌≢◌, Bool, true, false, eqb, List, ◌++◌, length, get_or, set, take, drop, replicate, refl, sym, ◌∙◌, ap, zero-add, inl, inr, arith}
-use Rattle.std.specs.Int.{bit_at}
-use Rattle.std.proofs.lemmas.Bool.{cases_lt}
-use Rattle.std.proofs.lemmas.Nat.Bits.{bit_at-zero}
+use Rattle.std.proofs.Common.{ℕ, zero, suc, ◌+◌, ◌-◌, ◌*◌, ◌/◌, ◌%◌, ◌^◌, ◌<◌, ◌≤◌, ◌≡◌, ◌≢◌, Bool, true, false, eqb, List, ◌++◌, length, get_or, set, take, drop, replicate, refl, sym, ◌∙◌, ap, zero-add, inl, inr, arith}
+use Rattle.std.specs.Prelude.{bit_and, bit_or}
+use Rattle.std.specs.Int.{w8, bit_at, bit_not}
+use Rattle.std.proofs.lemmas.Bool.{cases_lt, cases_eq}
+use Rattle.std.proofs.lemmas.Nat.{mod_below}
+use Rattle.std.proofs.lemmas.Nat.Bits.{bit_at-zero, bit_at-lt, bit_at_or, bit_at_and, bit_at_not, bit_at_ones, bit_at_ones_above}
 use Rattle.std.proofs.lemmas.List.{get_or-set_same, get_or-set_other, same_lists, get_or_append_left, get_or-append_right, get_or-replicate, get_or-take, get_or-drop, length-append, length-take-le, length-replicate, length-drop}
 use Rattle.std.proofs.lemmas.Slice.{take-put_mid, take-put_mid_below, drop-put_mid}
 use borrow.Rule.Slice.PartMut.{put_mid}
 use Rattle.vx_base.specs.Bits.{bit_of, byte_like, unpacked, Written, Filled}
 use Rattle.vx_base.proofs.PackedBits.{get_unpacked, length_unpacked}
+use Rattle.vx_base.proofs.PackedBytes.{bit_at-shr, bit_at-shl_low, bit_at-shl_high, bit_at-low}
 
 pub written_none : (bs : List ℕ) (start : ℕ) (f : ℕ → Bool) → Written bs bs start start f
 written_none bs start f = (λ k h l. absurd (omega arith), λ k h. refl, λ k h. refl)
@@ -111,6 +114,75 @@ like_bit true (suc (suc (suc (suc (suc zero))))) h = refl
 like_bit true (suc (suc (suc (suc (suc (suc zero)))))) h = refl
 like_bit true (suc (suc (suc (suc (suc (suc (suc zero))))))) h = refl
 like_bit true (suc (suc (suc (suc (suc (suc (suc (suc i)))))))) h = absurd (omega arith)
+
+-- ---- bits of one byte
+
+-- `(MAX >> (8 - count)) << place`
+abbrev mask_of : ℕ → ℕ → ℕ
+mask_of place count = (2 ^ 8 - 1) / 2 ^ (8 - count) * 2 ^ place % 2 ^ 8
+
+mask_before : (place count i : ℕ) → place < 8 → i < place → bit_at (mask_of place count) i ≡ 0
+mask_before place count i p h = bit_at-low 8 ((2 ^ 8 - 1) / 2 ^ (8 - count) * 2 ^ place) i (omega arith) ∙ bit_at-shl_low ((2 ^ 8 - 1) / 2 ^ (8 - count)) place i h
+
+mask_from : (place count i : ℕ) → i < 8 → place ≤ i → bit_at (mask_of place count) i ≡ bit_at (2 ^ 8 - 1) (8 - count + (i - place))
+mask_from place count i p h =
+    bit_at-low 8 ((2 ^ 8 - 1) / 2 ^ (8 - count) * 2 ^ place) i p ∙ bit_at-shl_high ((2 ^ 8 - 1) / 2 ^ (8 - count)) place i h ∙ bit_at-shr (2 ^ 8 - 1) (8 - count) (i - place)
+
+mask_within : (place count i : ℕ) → i < 8 → place ≤ i → i < place + count → count ≤ 8 → bit_at (mask_of place count) i ≡ 1
+mask_within place count i p h l c = mask_from place count i p h ∙ bit_at_ones 8 (8 - count + (i - place)) (omega arith)
+
+mask_after : (place count i : ℕ) → i < 8 → place + count ≤ i → bit_at (mask_of place count) i ≡ 0
+mask_after place count i p h = mask_from place count i p (omega arith) ∙ bit_at_ones_above 8 (8 - count + (i - place)) (omega arith)
+
+-- a byte whose bits are written from a place on
+filled_byte : (old : List ℕ) (start end byte : ℕ) (value : Bool) → start ≤ end → end ≤ 8 * (start / 8) + 8 → start / 8 < length old
+    → ((i : ℕ) → i < 8 → bit_at (mask_of (start % 8) (end - start)) i ≡ 1 → eqb (bit_at byte i) 1 ≡ value)
+    → ((i : ℕ) → i < 8 → bit_at (mask_of (start % 8) (end - start)) i ≡ 0 → bit_at byte i ≡ bit_at (get_or old (start / 8) 0) i)
+    → Filled old (set old (start / 8) byte) start end value
+filled_byte old start end byte value le one within written kept = (
+  λ k h l.
+      let place : k / 8 ≡ start / 8 = omega arith in
+      rw (place, get_or-set_same) (written (k % 8) (mod_below k 8 (omega arith)) (mask_within (start % 8) (end - start) (k % 8) (mod_below k 8 (omega arith)) (omega arith) (omega arith) (omega arith))),
+  λ k h. other k (λ e. mask_before (start % 8) (end - start) (k % 8) (mod_below start 8 (omega arith)) (omega arith)),
+  λ k h. other k (λ e. mask_after (start % 8) (end - start) (k % 8) (mod_below k 8 (omega arith)) (omega arith)),
+)
+  where
+    other : (k : ℕ) → (k / 8 ≡ start / 8 → bit_at (mask_of (start % 8) (end - start)) (k % 8) ≡ 0) → bit_of (set old (start / 8) byte) k ≡ bit_of old k
+    other k none = elim (cases_eq (k / 8) (start / 8)) [
+      | inl e ↦ rw (e, get_or-set_same) (ap (λ (b : ℕ). eqb b 1) (kept (k % 8) (mod_below k 8 (omega arith)) (none e)))
+      | inr apart ↦ rw get_or-set_other
+    ]
+
+-- `bytes[start / 8] |= mask`
+pub filled_true : (old : List ℕ) (start end : ℕ) → start ≤ end → end ≤ 8 * (start / 8) + 8 → start / 8 < length old
+    → Filled old (set old (start / 8) (bit_or (get_or old (start / 8) 0) (mask_of (start % 8) (end - start)))) start end true
+filled_true old start end le one within = filled_byte old start end (bit_or byte mask) true le one within
+    (λ i h m. let bit : bit_at (bit_or byte mask) i ≡ 1 = omega (arith, bit_at_or byte mask i, m, bit_at-lt byte i) in ap (λ (b : ℕ). eqb b 1) bit)
+    (λ i h m. omega (arith, bit_at_or byte mask i, m, bit_at-lt byte i))
+  where
+    byte : ℕ
+    byte = get_or old (start / 8) 0
+
+    mask : ℕ
+    mask = mask_of (start % 8) (end - start)
+
+-- `bytes[start / 8] &= !mask`
+pub filled_false : (old : List ℕ) (start end : ℕ) → start ≤ end → end ≤ 8 * (start / 8) + 8 → start / 8 < length old
+    → Filled old (set old (start / 8) (bit_and (get_or old (start / 8) 0) (bit_not w8 (mask_of (start % 8) (end - start))))) start end false
+filled_false old start end le one within = filled_byte old start end (bit_and byte (bit_not w8 mask)) false le one within
+    (λ i h m. let bit : bit_at (bit_and byte (bit_not w8 mask)) i ≡ 0 = omega (arith, bit_at_and byte (bit_not w8 mask) i, flipped i h, m, bit_at-lt byte i) in ap (λ (b : ℕ). eqb b 1) bit)
+    (λ i h m. omega (arith, bit_at_and byte (bit_not w8 mask) i, flipped i h, m, bit_at-lt byte i))
+  where
+    byte : ℕ
+    byte = get_or old (start / 8) 0
+
+    mask : ℕ
+    mask = mask_of (start % 8) (end - start)
+
+    flipped : (i : ℕ) → i < 8 → bit_at (bit_not w8 mask) i ≡ 1 - bit_at mask i
+    flipped i h = bit_at_not w8 mask i (mod_below ((2 ^ 8 - 1) / 2 ^ (8 - (end - start)) * 2 ^ (start % 8)) (2 ^ 8) (omega arith)) h
+
+-- ---- lists of bits
 
 -- the booleans of the bytes
 pub filled_list : (old new : List ℕ) (start end len : ℕ) (value : Bool) → start ≤ end → end ≤ len → Filled old new start end value

@@ -21,8 +21,13 @@ pub mod FirstFaults
 pub mod Runs
 pub mod SizedLists
 pub mod TrueRuns
+pub mod MaskRuns
+pub mod SharedRuns
+pub mod MaskStretches
 pub mod StructKinds
 pub mod ValueFits
+pub mod Edges
+pub mod RunLoops
 pub mod Fields
 pub mod Defaults
 pub mod Unmixed

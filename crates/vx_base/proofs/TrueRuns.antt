@@ -1,76 +1,33 @@
 -- The runs in which a mask is true.
-use Rattle.std.proofs.Common.{ℕ, zero, suc, ◌+◌, ◌-◌, ◌<◌, ◌≤◌, ◌≡◌, ◌≢◌, Bool, true, false, cond, List, [], ◌∷◌, ◌++◌, length, replicate, refl, sym, ◌∙◌, ap, append-nil, map, arith}
+use Rattle.std.proofs.Common.{ℕ, zero, suc, ◌+◌, ◌-◌, ◌<◌, ◌≤◌, ◌≡◌, Bool, true, false, cond, List, [], ◌∷◌, ◌++◌, length, replicate, refl, sym, ◌∙◌, ap, append-nil, map, arith}
 use Rattle.std.specs.Prelude.{count_by}
 use Rattle.std.specs.List.{filter, flat_map, range_with_len}
 use Rattle.std.proofs.lemmas.List.{length-replicate, get_or-replicate}
-use Rattle.std.proofs.lemmas.List.Elements.{filter-append}
-use Rattle.std.proofs.lemmas.Grind.{flat_map-append}
-use Rattle.vx_base.specs.Bits.{bit_of, bool_at, unpacked, AreBits}
+use Rattle.vx_base.specs.Bits.{bool_at}
 use Rattle.vx_base.specs.Selections.{run_positions}
-use Rattle.vx_base.specs.Trues.{trues, AreAll, IsRunEnd}
-use Rattle.vx_base.proofs.PackedBits.{get_unpacked, length_unpacked}
+use Rattle.vx_base.specs.Trues.{trues}
 use Rattle.vx_base.proofs.Runs.{range_append}
 use Rattle.vx_base.proofs.MaskCounts.{count-true, count-false}
 use Rattle.std.proofs.lemmas.List.FromFn.{fill_by_all}
 
--- ---- the end of a run
-
--- where bits cease to be this one, the booleans that they hold do
-pub run_of_bits : (bs : List ℕ) (from len start end : ℕ) (value : Bool) → start ≤ len → from + start ≤ end → end ≤ from + len → AreBits bs (from + start) end value
-    → (end < from + len → bit_of bs end ≢ value) → IsRunEnd (unpacked bs from len) start (end - from) value
-run_of_bits bs from len start end value within low high alike other =
-    let long = length_unpacked bs from len in
-    record {
-      ordered = omega arith;
-      within = omega (arith, long);
-      same = λ k above below. get_unpacked bs from len k false (omega arith) ∙ alike (from + k) (omega arith) (omega arith);
-      ends = λ short same.
-          let place : from + (end - from) ≡ end = omega arith in
-          let small : end - from < len = omega (arith, long) in
-          other (omega arith) (ap (bit_of bs) (sym place) ∙ sym (get_unpacked bs from len (end - from) false small) ∙ same);
-    }
-
 -- ---- the positions that are kept of a range
 
-kept_none : (f : ℕ → Bool) (start n : ℕ) → ((k : ℕ) → start ≤ k → k < start + n → f k ≡ false) → filter f (range_with_len start n) ≡ []
+pub kept_none : (f : ℕ → Bool) (start n : ℕ) → ((k : ℕ) → start ≤ k → k < start + n → f k ≡ false) → filter f (range_with_len start n) ≡ []
 kept_none f start zero none = refl
 kept_none f start (suc n) none =
     rw (none start (omega arith) (omega arith)) (kept_none f (start + 1) n (λ k low high. none k (omega arith) (omega arith)))
 
-kept_all : (f : ℕ → Bool) (start n : ℕ) → ((k : ℕ) → start ≤ k → k < start + n → f k ≡ true) → filter f (range_with_len start n) ≡ range_with_len start n
+pub kept_all : (f : ℕ → Bool) (start n : ℕ) → ((k : ℕ) → start ≤ k → k < start + n → f k ≡ true) → filter f (range_with_len start n) ≡ range_with_len start n
 kept_all f start zero all = refl
 kept_all f start (suc n) all =
     rw (all start (omega arith) (omega arith)) (ap (λ ks. start ∷ ks) (kept_all f (start + 1) n (λ k low high. all k (omega arith) (omega arith))))
 
 -- a range in two parts
-range_split : (a b c : ℕ) → a ≤ b → b ≤ c → range_with_len a (c - a) ≡ range_with_len a (b - a) ++ range_with_len b (c - b)
+pub range_split : (a b c : ℕ) → a ≤ b → b ≤ c → range_with_len a (c - a) ≡ range_with_len a (b - a) ++ range_with_len b (c - b)
 range_split a b c low high =
     let place : a + (b - a) ≡ b = omega arith in
     let count : (b - a) + (c - b) ≡ c - a = omega arith in
     sym (ap (λ p. range_with_len a (b - a) ++ range_with_len p (c - b)) (sym place) ∙ range_append a (b - a) (c - b) ∙ ap (range_with_len a) count)
-
--- up to a place, the runs hold the positions that are true
-abbrev pub HoldTrues : List Bool → ℕ → List (ℕ × ℕ) → Type 0
-HoldTrues bits place runs = flat_map run_positions runs ≡ filter (bool_at bits) (range_with_len 0 (place - 0))
-
--- none is true up to a place
-pub HoldTrues-passed : (bits : List Bool) (place next : ℕ) (runs : List (ℕ × ℕ)) → place ≤ next → HoldTrues bits place runs → AreAll bits place next false → HoldTrues bits next runs
-HoldTrues-passed bits place next runs le held none =
-    held ∙ sym (ap (filter (bool_at bits)) (range_split 0 place next (omega arith) le) ∙ filter-append (bool_at bits) (range_with_len 0 (place - 0)) (range_with_len place (next - place))
-    ∙ ap (λ ks. filter (bool_at bits) (range_with_len 0 (place - 0)) ++ ks) (kept_none (bool_at bits) place (next - place) (λ k low high. none k low (omega arith)))
-    ∙ append-nil (filter (bool_at bits) (range_with_len 0 (place - 0))))
-
--- one run more
-pub HoldTrues-run : (bits : List Bool) (start end : ℕ) (runs : List (ℕ × ℕ)) → start ≤ end → HoldTrues bits start runs → AreAll bits start end true → HoldTrues bits end (runs ++ (start, end) ∷ [])
-HoldTrues-run bits start end runs le held all =
-    let f = bool_at bits in
-    flat_map-append run_positions runs ((start, end) ∷ []) ∙ ap (λ ks. flat_map run_positions runs ++ ks) (append-nil (range_with_len start (end - start)))
-    ∙ ap (λ ks. ks ++ range_with_len start (end - start)) held
-    ∙ sym (ap (filter f) (range_split 0 start end (omega arith) le) ∙ filter-append f (range_with_len 0 (start - 0)) (range_with_len start (end - start))
-    ∙ ap (λ ks. filter f (range_with_len 0 (start - 0)) ++ ks) (kept_all f start (end - start) (λ k low high. all k low (omega arith))))
-
-pub HoldTrues-none : (bits : List Bool) (end : ℕ) → AreAll bits 0 end false → HoldTrues bits end []
-HoldTrues-none bits end none = sym (kept_none (bool_at bits) 0 (end - 0) (λ k low high. none k low (omega arith)))
 
 -- ---- masks of one boolean
 

@@ -5,6 +5,7 @@ pub mod Trues
 pub mod Selections
 pub mod Picked
 pub mod Booleans
+pub mod MaskRuns
 pub mod Masks
 pub mod Lends
 pub mod Refusals

@@ -1,5 +1,5 @@
 -- The places at which a mask is true.
-use Rattle.std.specs.Prelude.{◌≡◌, ◌≢◌, ◌<◌, ◌≤◌, ℕ, Bool, List, length}
+use Rattle.std.specs.Prelude.{◌≡◌, ◌<◌, ◌≤◌, ℕ, Bool, List, length}
 use Rattle.std.specs.List.{filter, range_with_len}
 use Rattle.vx_base.specs.Bits.{bool_at}
 
@@ -10,10 +10,3 @@ trues mask = filter (bool_at mask) (range_with_len 0 (length mask))
 -- the booleans from a place up to another are all this one
 abbrev pub AreAll : List Bool → ℕ → ℕ → Bool → Type 0
 AreAll bits start end value = (k : ℕ) → start ≤ k → k < end → bool_at bits k ≡ value
-
--- where the booleans from start on cease to be this one: at another, or at the end
-pub record IsRunEnd (bits : List Bool) (start end : ℕ) (value : Bool) : Type 0 where
-  pub ordered : start ≤ end
-  pub within : end ≤ length bits
-  pub same : AreAll bits start end value
-  pub ends : end < length bits → bool_at bits end ≢ value

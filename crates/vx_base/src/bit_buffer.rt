@@ -11,11 +11,10 @@ ghost use Rattle.std.specs.Cmp.{bool_eq_equiv, on_equiv, partial_equiv_from_equi
 ghost use Rattle.std.specs.Cmp.Lexicographic.{pointwise, lists_equiv};
 ghost use Rattle.std.specs.Ordering.{on};
 ghost use Rattle.vx_base.specs.Bits.{packed, bits_of, bit_of, unpacked, bool_at, both, byte_from, byte_of, byte_like, Written};
-ghost use Rattle.vx_base.specs.Trues.{IsRunEnd};
 
 use crate::bit_buffer_mut::{fill_bits, put_bit};
 use crate::bit_buffer_view::{BitBufferMeta, BitBufferView};
-use crate::bit_words::{alike_end, bits_from};
+use crate::bit_words::bits_from;
 use crate::byte_buffer::ByteBuffer;
 use crate::errors::VortexError;
 use std::alloc::Global;
@@ -462,21 +461,13 @@ impl BitBuffer {
         (offset, len, bytes)
     }
 
-    // Where the booleans from `start` on cease to be this one.
-    #[inline]
-    pub(crate) fn run_end(&self, start: usize, value: bool) -> usize
-        requires { start ≤ length self.now.bits }
-        ensures { IsRunEnd self.now.bits start result value }
-    {
-        let end = self.offset + self.len;
-        alike_end(self.bytes.as_slice(), self.offset + start, end, value) - self.offset
-    }
-
-    // The booleans from place `start` on as the bits of a word, which holds 57 of them or more.
+    // The booleans from place `start` on as the bits of a word, which holds 57 of them or more: as
+    // many as its bytes have from there on.
     #[inline]
     pub(crate) fn word_at(&self, start: usize) -> u64
         requires { start ≤ length self.now.bits }
-        ensures { (i : ℕ) → i < 57 → start + i < length self.now.bits → (bit_at result i == 1) ≡ bool_at self.now.bits (start + i) }
+        ensures { (i : ℕ) → i < 64 - (self.now.offset + start) % 8 → start + i < length self.now.bits
+            → (bit_at result i == 1) ≡ bool_at self.now.bits (start + i) }
     {
         bits_from(self.bytes.as_slice(), self.offset + start)
     }

@@ -47,15 +47,23 @@ pub(crate) fn put_bit(bytes: &mut [u8], k: usize, value: bool)
     }
 }
 
-// Writes the bits from `start` up to, but not at, `end`, one by one.
-fn put_bits(bytes: &mut [u8], start: usize, end: usize, value: bool)
+// Writes the bits from `start` up to, but not at, `end`, all of them in one byte.
+#[inline]
+fn put_in_byte(bytes: &mut [u8], start: usize, end: usize, value: bool)
     requires start_le_end { start ≤ end }
     requires within { end ≤ 8 * length bytes.old }
+    requires one_byte { end ≤ 8 * (start / 8) + 8 }
     ensures len { length bytes.new ≡ length bytes.old }
     ensures filled { Filled bytes.old bytes.new start end value }
 {
-    for k in start..end {
-        put_bit(bytes, k, value);
+    if start == end {
+        return;
+    }
+    let mask = (u8::MAX >> (8 - (end - start))) << (start % 8);
+    if value {
+        bytes[start / 8] |= mask;
+    } else {
+        bytes[start / 8] &= !mask;
     }
 }
 
@@ -72,7 +80,7 @@ fn fill_bytes(bytes: &mut [u8], first: usize, last: usize, value: bool)
     }
 }
 
-// Writes the bits from `start` up to, but not at, `end`, the whole bytes between at once.
+// Writes the bits from `start` up to, but not at, `end`, each byte at once.
 pub(crate) fn fill_bits(bytes: &mut [u8], start: usize, end: usize, value: bool)
     requires start_le_end { start ≤ end }
     requires within { end ≤ 8 * length bytes.old }
@@ -81,13 +89,13 @@ pub(crate) fn fill_bits(bytes: &mut [u8], start: usize, end: usize, value: bool)
 {
     let first = start.div_ceil(8);
     let last = end / 8;
-    if last <= first {
-        put_bits(bytes, start, end, value);
+    if last < first {
+        put_in_byte(bytes, start, end, value);
         return;
     }
-    put_bits(bytes, start, 8 * first, value);
+    put_in_byte(bytes, start, 8 * first, value);
     fill_bytes(bytes, first, last, value);
-    put_bits(bytes, 8 * last, end, value);
+    put_in_byte(bytes, 8 * last, end, value);
 }
 
 // Adds a byte if bit `len` has none.

@@ -2,7 +2,7 @@
 
 ghost use Rattle.std.specs.Prelude.{ℕ, ◌≡◌, ◌≢◌, ◌≤◌, ◌<◌, ◌+◌, ◌-◌, ◌*◌, ◌/◌, ◌%◌, ◌^◌, ◌==◌, ◌↔◌, length};
 ghost use Rattle.std.specs.Int.{bit_at};
-ghost use Rattle.vx_base.specs.Bits.{bit_of, AreBits, Written};
+ghost use Rattle.vx_base.specs.Bits.{bit_of, bit_before, Written};
 
 use crate::bit_buffer::byte_or_zero;
 
@@ -44,57 +44,23 @@ fn last_word(bytes: &[u8], at: usize) -> u64
     ])
 }
 
-// A word whose bits are set where those of this word are not `value`.
-#[inline]
-fn unlike(word: u64, value: bool) -> u64
-    ensures { (i : ℕ) → i < 64 → (bit_at result i ≡ 0) ↔ ((bit_at word i == 1) ≡ value) }
-{
-    if value { !word } else { word }
-}
-
-// How many of the bits from `place` on are this one, as far as the word tells that begins at their
-// byte.
-#[inline]
-fn count_alike(bytes: &[u8], place: usize, value: bool) -> usize
-    ensures bound { result ≤ 64 - place % 8 }
-    ensures alike { AreBits bytes.now place (place + result) value }
-    ensures ends { result < 64 - place % 8 → bit_of bytes.now (place + result) ≢ value }
-{
-    let shift = place % 8;
-    let others = unlike(word_from(bytes, place / 8), value) >> shift;
-    (others.trailing_zeros() as usize).min(64 - shift)
-}
-
-// Where the bits from `start` on cease to be this one: at another, or at `end`.
-#[inline]
-pub(crate) fn alike_end(bytes: &[u8], start: usize, end: usize, value: bool) -> usize
-    requires { start ≤ end }
-    ensures ordered { start ≤ result }
-    ensures within { result ≤ end }
-    ensures alike { AreBits bytes.now start result value }
-    ensures ends { result < end → bit_of bytes.now result ≢ value }
-{
-    let mut place = start;
-    while place < end {
-        let most = 64 - place % 8;
-        let count = count_alike(bytes, place, value);
-        if end - place <= count {
-            return end;
-        }
-        place += count;
-        if count < most {
-            return place;
-        }
-    }
-    end
-}
-
-// The bits from `place` on, of which a word holds 57 or more.
+// The bits from `place` on, as far as the word holds them that begins at their byte: 57 or more.
 #[inline]
 pub(crate) fn bits_from(bytes: &[u8], place: usize) -> u64
-    ensures { (i : ℕ) → i < 57 → (bit_at result i == 1) ≡ bit_of bytes.now (place + i) }
+    ensures { (i : ℕ) → i < 64 - place % 8 → (bit_at result i == 1) ≡ bit_of bytes.now (place + i) }
 {
     word_from(bytes, place / 8) >> (place % 8)
+}
+
+// The edges among the first `count` bits of a word, each a bit that is not the one before it: the
+// first has this one before it.
+#[inline]
+pub(crate) fn edges_of(word: u64, before: bool, count: usize) -> u64
+    requires { (0 < count) × (count ≤ 64) }
+    ensures edges { (i : ℕ) → i < count → (bit_at result i ≡ 0) ↔ ((bit_at word i == 1) ≡ bit_before word before i) }
+    ensures none { (i : ℕ) → count ≤ i → bit_at result i ≡ 0 }
+{
+    (word ^ (word << 1 | before as u64)) & (u64::MAX >> (64 - count))
 }
 
 // The first `count` bits of a byte, and zeroes after them.

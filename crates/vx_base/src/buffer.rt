@@ -56,6 +56,19 @@ fn put_numbers<T: NativePType>(items: &[T], out: &mut [u8])
     }
 }
 
+// Lets go what stands before and behind a range of a list.
+fn keep_range<T: Copy>(items: &mut Vec<T>, range: Range<usize>)
+    requires start_le_end { range.start ≤ range.end }
+    requires in_bounds { range.end ≤ length items.old.items }
+    ensures { items.new.items ≡ slice_range items.old.items range.start range.end }
+{
+    let len = range.end - range.start;
+    if range.start > 0 {
+        items.as_mut_slice().copy_within(range, 0);
+    }
+    items.truncate(len);
+}
+
 /// Numbers of one type that are cut and shared with no copy.
 #[derive(Drop)]
 pub struct Buffer<T> {
@@ -149,6 +162,22 @@ impl<T: Copy> Buffer<T> {
         let mut copy = Vec::with_capacity(alloc, items.len())?;
         copy.extend_from_slice(items)?;
         Buffer::from_vec(alloc, copy)
+    }
+
+    /// The items as a list. They are copied only where another buffer shares them; where none does,
+    /// no memory is taken, and items that stand behind others in their list move to its front.
+    /// Fails only for want of memory.
+    pub fn into_vec(self, alloc: Global) -> Result<Vec<T>, VortexError>
+        ensures { Gives result (λ v. v.items ≡ self) }
+    {
+        let Buffer { items, start, len } = self;
+        match Rc::try_unwrap(items) {
+            Ok(mut own) => {
+                keep_range(&mut own, start..start + len);
+                Ok(own)
+            }
+            Err(shared) => Ok(Vec::from_slice(alloc, &shared.as_slice()[start..start + len])?),
+        }
     }
 
     /// The item at place `i`, counted from 0. Asks that there is one.

@@ -47,7 +47,7 @@ impl Scalar {
     /// data type. Refuses with `MismatchedTypes` just where the row does not fit the data type: it
     /// is of another kind, null where none may be, a number out of range, a list of another size
     /// than the fixed one, a record with another number of fields, a text that is not UTF-8, a
-    /// text or a byte list longer than 4294967295 bytes, or a row within it does not fit.
+    /// text or a byte list longer than `MAX_VALUE_LEN`, or a row within it does not fit.
     pub fn try_new(dtype: DType, value: Option<ScalarValue>) -> Result<Scalar, VortexError>
         ensures row { IfOk result (λ s. s ≡ typed_row (dtype_meaning dtype) (row_under (dtype_meaning dtype) value)) }
         ensures fits { IfOk result (λ _. Fits (dtype_meaning dtype) (row_under (dtype_meaning dtype) value)) }

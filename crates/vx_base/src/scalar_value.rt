@@ -16,6 +16,9 @@ use std::alloc::Global;
 use std::marker::Model;
 use std::rc::Rc;
 
+/// How many bytes a text or a byte list has at most: as many as the length in a view can tell.
+pub const MAX_VALUE_LEN: usize = 4294967295;
+
 /// The value of one row that is not null.
 #[cycle(value)]
 #[derive(Drop)]
@@ -161,7 +164,7 @@ fn is_short(bytes: &ByteBuffer) -> bool
     ensures value { IsTrue result ↔ IsShort bytes.now }
     ensures bytes { AreBytes bytes.now }
 {
-    bytes.as_slice().len() <= 4294967295
+    bytes.as_slice().len() <= MAX_VALUE_LEN
 }
 
 // Whether each of the rows fits the data type.

@@ -116,3 +116,128 @@ fn lent_bits(rt: HostRuntime) {
     assert!(rt; !bits.value(0) && !bits.value(1) && bits.value(2));
     assert!(rt; !bits.value(3) && bits.value(4) && bits.value(5));
 }
+
+// Whether these are the runs of a mask in which both values stand.
+fn has_runs(mask: &Mask, want: &[(usize, usize)]) -> bool {
+    match mask.values() {
+        Some(values) => values.runs() == want && mask.runs() == want,
+        None => false,
+    }
+}
+
+#[test]
+fn runs_of_masks(rt: HostRuntime) -> Result<(), VortexError> {
+    let mask = mask_of(rt.alloc(), &[true, false, true, true])?;
+    assert!(rt; has_runs(&mask, &[(0, 1), (2, 4)]));
+    assert_eq!(rt; mask.len(), 4);
+    assert!(rt; mask.true_count() == 3 && mask.value(3) && !mask.value(1));
+    assert!(rt; mask_of(rt.alloc(), &[true, true, true])?.values().is_none());
+    Ok(())
+}
+
+#[test]
+fn runs_of_even_masks(rt: HostRuntime) {
+    assert!(rt; Mask::new_true(3).runs() == [(0, 3)].as_slice());
+    assert!(rt; Mask::new_false(3).runs().is_empty() && Mask::new_true(0).runs().is_empty());
+}
+
+#[test]
+fn runs_of_an_alternating_mask(rt: HostRuntime) -> Result<(), VortexError> {
+    let mut bools = vec![in rt.alloc(); false; 1000]?;
+    for (row, value) in bools.iter_mut().enumerate() {
+        *value = row % 2 == 0;
+    }
+    let mask = mask_of(rt.alloc(), &bools)?;
+    assert_eq!(rt; mask.runs().len(), 500);
+    assert_eq!(rt; mask.len(), 1000);
+    let mut rows = mask.rows();
+    assert!(rt; rows.value(0) && !rows.value(1) && rows.value(2) && !rows.value(999));
+    assert!(rt; mask.value(998) && !mask.value(501));
+    Ok(())
+}
+
+#[test]
+fn runs_that_touch_are_joined(rt: HostRuntime) -> Result<(), VortexError> {
+    let alloc = rt.alloc();
+    let apart = both(
+        alloc,
+        mask_of(alloc, &[true, false])?,
+        mask_of(alloc, &[false, true])?,
+    )?;
+    assert!(rt; has_runs(&apart, &[(0, 1), (3, 4)]));
+    let joined = both(
+        alloc,
+        mask_of(alloc, &[false, true])?,
+        mask_of(alloc, &[true, false])?,
+    )?;
+    assert!(rt; has_runs(&joined, &[(1, 3)]));
+    Ok(())
+}
+
+#[test]
+fn masks_of_runs(rt: HostRuntime) -> Result<(), VortexError> {
+    let alloc = rt.alloc();
+    let mask = Mask::from_runs(4, vec![in alloc; (0, 1), (2, 4)]?);
+    assert!(rt; is_mask(alloc, &mask, &[true, false, true, true])?);
+    assert!(rt; Mask::from_runs(3, vec![in alloc; (0, 3)]?) == Mask::new_true(3));
+    assert!(rt; Mask::from_runs(3, Vec::new(alloc)) == Mask::new_false(3));
+    Ok(())
+}
+
+#[test]
+fn rows_true_in_both(rt: HostRuntime) -> Result<(), VortexError> {
+    let alloc = rt.alloc();
+    let first = mask_of(alloc, &[true, true, false, true, true, true])?;
+    let second = mask_of(alloc, &[false, true, true, true, false, true])?;
+    assert_eq!(rt; first.len(), 6);
+    assert_eq!(rt; second.len(), 6);
+    let shared = first.and(alloc, &second)?;
+    assert!(rt; has_runs(&shared, &[(1, 2), (3, 4), (5, 6)]));
+    assert!(rt; first.and(alloc, &Mask::new_true(6))? == first);
+    assert!(rt; first.and(alloc, &Mask::new_false(6))? == Mask::new_false(6));
+    Ok(())
+}
+
+#[test]
+fn masks_over_several_words(rt: HostRuntime) -> Result<(), VortexError> {
+    let alloc = rt.alloc();
+    let runs = vec![in alloc; (3, 57), (60, 64), (65, 200), (207, 208), (216, 300)]?;
+    let mask = Mask::from_runs(301, runs.to_vec(alloc)?);
+    let Some(values) = mask.values() else {
+        return Err(VortexError::EmptyInput);
+    };
+    let again = Mask::from_buffer(alloc, values.bit_buffer(alloc)?)?;
+    assert!(rt; again == mask && has_runs(&again, &runs));
+    Ok(())
+}
+
+#[test]
+fn masks_of_bits_at_an_offset(rt: HostRuntime) -> Result<(), VortexError> {
+    let alloc = rt.alloc();
+    let runs = vec![in alloc; (3, 57), (60, 64), (65, 200), (207, 208), (216, 300)]?;
+    let mask = Mask::from_runs(301, runs);
+    let Some(values) = mask.values() else {
+        return Err(VortexError::EmptyInput);
+    };
+    let bits = values.bit_buffer(alloc)?;
+    assert_eq!(rt; bits.len(), 301);
+    let shared = Mask::from_buffer(alloc, bits.slice(alloc, 61..300)?)?;
+    assert!(rt; has_runs(&shared, &[(0, 3), (4, 139), (146, 147), (155, 239)]));
+    Ok(())
+}
+
+#[test]
+fn bits_of_valid_rows(rt: HostRuntime) -> Result<(), VortexError> {
+    let alloc = rt.alloc();
+    let bits = BitBuffer::from_bools(alloc, &[true, true, false, true, true, true])?;
+    let valid = mask_of(alloc, &[false, true, true, true, false, true])?;
+    assert_eq!(rt; bits.len(), 6);
+    assert_eq!(rt; valid.len(), 6);
+    let told = Mask::from_buffer_within(alloc, &bits, &valid)?;
+    assert!(rt; has_runs(&told, &[(1, 2), (3, 4), (5, 6)]));
+    let told = Mask::from_buffer_within(alloc, &bits, &Mask::new_true(6))?;
+    assert!(rt; has_runs(&told, &[(0, 2), (3, 6)]));
+    let told = Mask::from_buffer_within(alloc, &bits, &Mask::new_false(6))?;
+    assert!(rt; told == Mask::new_false(6));
+    Ok(())
+}
