@@ -2,11 +2,10 @@
 use Rattle.std.proofs.Common.{◌≡◌, ℕ, zero, suc, ◌+◌, ◌-◌, ◌*◌, ◌^◌, ◌<◌, ◌≤◌, List, [], ◌∷◌, get_or, take, drop, sym, ◌∙◌, ap, inl, inr, arith}
 use Rattle.std.specs.Prelude.{bit_and}
 use Rattle.std.specs.Int.{w128, from_le_bytes}
-use Rattle.std.specs.Str.{IsUtf8, IsAscii}
+use Rattle.std.specs.Str.{IsAscii}
 use Rattle.std.proofs.lemmas.Bool.{cases_lt, cases_eq}
 use Rattle.std.proofs.lemmas.List.{get_or-drop}
 use Rattle.std.proofs.lemmas.Nat.{and_block}
-use Rattle.std.proofs.lemmas.Str.{IsUtf8-from_ascii}
 use Rattle.vx_views.specs.Views.{view_size, held_value, IsView}
 use Rattle.vx_views.specs.declared.view.TheConstants.{MAX_INLINED_SIZE}
 
@@ -50,8 +49,8 @@ take_ascii (suc n) [] low k = omega arith
 take_ascii (suc n) (b ∷ bs) low zero = low 0 (omega arith)
 take_ascii (suc n) (b ∷ bs) low (suc k) = take_ascii n bs (λ j inside. low (suc j) (omega arith)) k
 
--- a view without a high bit beyond its length holds a text
-pub held_ascii : (view : List ℕ) → IsView view → view_size view ≤ MAX_INLINED_SIZE → bit_and (from_le_bytes w128 view) 0x8080_8080_8080_8080_8080_8080_0000_0000 ≡ 0 → IsUtf8 (held_value view)
+-- a view without a high bit beyond its length holds bytes below 128
+pub held_ascii : (view : List ℕ) → IsView view → view_size view ≤ MAX_INLINED_SIZE → bit_and (from_le_bytes w128 view) 0x8080_8080_8080_8080_8080_8080_0000_0000 ≡ 0 → IsAscii (held_value view)
 held_ascii view formed inlined clear =
     let byte : ℕ → ℕ = λ k. get_or view k 0 in
     let parts : bit_and (number_from byte 4 12 * 2 ^ 32 + number_from byte 0 4) (number_from high_bit 4 12 * 2 ^ 32 + 0) ≡ bit_and (number_from byte 4 12) (number_from high_bit 4 12) * 2 ^ 32 + bit_and (number_from byte 0 4) 0 =
@@ -60,4 +59,4 @@ held_ascii view formed inlined clear =
     let twelve : bit_and (number_from byte 4 12) (number_from high_bit 4 12) ≡ 0 = omega (arith, parts, whole) in
     let low = high_bits_clear byte formed.bytes 4 12 twelve in
     let size : 4 + view_size view - 4 ≡ view_size view = omega arith in
-    rw size (IsUtf8-from_ascii (take (view_size view) (drop 4 view)) (take_ascii (view_size view) (drop 4 view) (λ k inside. omega (arith, get_or-drop 4 view k 0, low (4 + k) (omega arith) (omega arith)))))
+    rw size (take_ascii (view_size view) (drop 4 view) (λ k inside. omega (arith, get_or-drop 4 view k 0, low (4 + k) (omega arith) (omega arith))))

@@ -1,6 +1,6 @@
 -- The first faulty view: what a check that goes row by row knows, and what a view without a fault is.
-use Rattle.std.proofs.Common.{◌≡◌, ℕ, ◌+◌, ◌<◌, ◌≤◌, ◌⊎◌, ◌↔◌, Bool, true, false, cond, ◌∙◌, sym, ap, subst, refl, inl, inr, List, [], length, get_or, take, arith, le-leb, lt-ltb, le-ltb}
-use Rattle.std.specs.Prelude.{Option, Some, None, IsUtf8, bytes_eq, count_by}
+use Rattle.std.proofs.Common.{◌≡◌, ℕ, ◌+◌, ◌<◌, ◌≤◌, ◌⊎◌, ◌↔◌, Bool, true, false, cond, ◌∙◌, sym, ap, subst, refl, inl, inr, List, [], length, get_or, take, arith, rules, le-leb, lt-ltb, le-ltb}
+use Rattle.std.specs.Prelude.{Option, Some, None, Result, Ok, Err, OnOk, IsUtf8, bytes_eq, count_by}
 use Rattle.std.specs.Str.{is_utf8}
 use Rattle.std.proofs.lemmas.Bool.{cases_lt, cases_Bool, lt-leb, leb-false}
 use Rattle.std.proofs.lemmas.List.{get_or_default, get_or-replicate}
@@ -8,7 +8,7 @@ use Rattle.vx_base.proofs.MaskCounts.{all_true_from_count}
 use Rattle.std.proofs.lemmas.Slice.Eq.{bytes_eq-Decides}
 use Rattle.std.proofs.lemmas.Str.{IsUtf8-from_is_utf8, is_utf8-from_IsUtf8}
 use Rattle.vx_base.specs.Bits.{bool_at}
-use Rattle.vx_base.specs.Refusals.{Refusal, Names, refusal_of, not_utf8, first_fault}
+use Rattle.vx_base.specs.Refusals.{Refusal, Names, Tests, refusal_of, not_utf8, first_fault}
 use Rattle.vx_base.specs.declared.errors.VortexError.{VortexError}
 use Rattle.vx_base.proofs.FirstFaults.{or_else-second, or_else-none, first_fault-none_at, first_fault-of_none, first_fault-next}
 use Rattle.vx_views.proofs.FirstFaults.{first_fault-here}
@@ -110,6 +110,9 @@ place_fault-none buffers view row placed =
       (bytes_eq-Decides (view_prefix view) (take 4 (view_value buffers view))).1 placed.begins,
     )
 
+pub placed_there : (buffers : List (List ℕ)) (view : List ℕ) (row : ℕ) → place_fault buffers view row ≡ None → view_block view < length buffers
+placed_there buffers view row none = (place_fault-IsPlaced buffers view row none).there
+
 text_fault-IsUtf8 : (value : List ℕ) (row : ℕ) → text_fault true value row ≡ None → IsUtf8 value
 text_fault-IsUtf8 value row none =
     elim (cases_Bool (is_utf8 value)) [
@@ -125,6 +128,13 @@ spared_none false fault none = none refl
 none_spared : (inlined : Bool) (fault : Option Refusal) → cond inlined None fault ≡ None → inlined ≡ false → fault ≡ None
 none_spared true fault none refers = absurd (cc)
 none_spared false fault none refers = none
+
+-- of a view that refers to its value, where it stands, the text is left to judge
+pub view_fault-placed : (buffers : List (List ℕ)) (view : List ℕ) (row : ℕ) → place_fault buffers view row ≡ None
+    → view_fault true buffers view row ≡ text_fault true (view_value buffers view) row
+view_fault-placed buffers view row none =
+    let text = text_fault true (view_value buffers view) row in
+    or_else-second (cond (is_inline view) None (place_fault buffers view row)) text text (spared_none (is_inline view) (place_fault buffers view row) (λ off. none)) refl
 
 -- a view has no fault just where it is sound
 view_fault-IsSoundView : (check_utf8 : Bool) (buffers : List (List ℕ)) (view : List ℕ) (row : ℕ) → (view_fault check_utf8 buffers view row ≡ None) ↔ IsSoundView buffers check_utf8 view
@@ -162,3 +172,9 @@ views_fault-AreSoundViews check_utf8 mask buffers views = (
         | inr null ↦ rw null
       ]),
 )
+
+-- a test that refuses the first faulty view answers Ok where the views are sound
+pub sound-from_tests : {A : Type 0} (r : Result A VortexError) (check_utf8 : Bool) (mask : List Bool) (buffers views : List (List ℕ))
+    → Tests r (views_fault check_utf8 mask buffers views) → OnOk r (AreSoundViews views mask buffers check_utf8)
+sound-from_tests (Ok x) check_utf8 mask buffers views none = search (rules, (views_fault-AreSoundViews check_utf8 mask buffers views).0 none)
+sound-from_tests (Err e) check_utf8 mask buffers views names = search rules

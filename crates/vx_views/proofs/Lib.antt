@@ -10,6 +10,10 @@ pub mod Utf8Table
 pub mod Utf8Ranges
 pub mod FirstFaults
 pub mod FaultyViews
+pub mod AloneViews
+pub mod Budgets
+pub mod CheckedRows
+pub mod EmptiedViews
 pub mod CutPieces
 pub mod CutOpen
 pub mod CutNextValue

@@ -3,6 +3,8 @@ pub mod Views
 pub mod Utf8
 pub mod Sound
 pub mod Faulty
+pub mod Alone
+pub mod Emptied
 pub mod Cut
 pub mod Places
 pub mod BuildFaults

@@ -6,14 +6,16 @@ mod build;
 pub mod cut_laws;
 mod length_checks;
 mod lengths;
-mod text_laws;
+pub mod text_laws;
 mod view;
 mod view_checks;
+mod view_emptying;
 pub mod view_laws;
 mod view_parts;
 
 pub use crate::build::{build_views, build_views_from_offsets, offsets_to_lengths};
 pub use crate::text_laws::{boundaries_decide_ranges, table_decides_utf8};
 pub use crate::view::{BinaryView, MAX_BUFFER_LEN, MAX_INLINED_SIZE};
-pub use crate::view_checks::{check_views, faultless_views_are_sound};
+pub use crate::view_checks::{check_views, check_views_counted, faultless_views_are_sound};
+pub use crate::view_emptying::check_and_empty_views;
 pub use crate::view_parts::{Inlined, Ref};

@@ -10,13 +10,14 @@ use crate::view_parts::{Inlined, Ref};
 use std::fmt;
 use std::hash::{Hash, Hasher};
 use std::marker::Model;
-use vx_base::ByteBuffer;
+use vx_base::{ByteBuffer, MAX_VALUE_LEN};
 
 /// The greatest length of a value that stands in its view, 12.
 pub const MAX_INLINED_SIZE: usize = 12;
 
-/// The greatest length of a buffer that views refer to.
-pub const MAX_BUFFER_LEN: usize = 2147483647;
+/// The greatest length of a buffer that views refer to, that of the longest value: where a value
+/// begins in it fits `u32`.
+pub const MAX_BUFFER_LEN: usize = MAX_VALUE_LEN;
 
 /// A view of a value of bytes, in 16 bytes; its numbers have their lowest byte first.
 ///

@@ -1,15 +1,19 @@
 //! The check of views that come from outside.
 
-ghost use Rattle.std.specs.Prelude.{◌≡◌, ◌<◌, ◌≤◌, ◌↔◌, length, count_by, OnOk, IfOk, None, IsTrue, IsUtf8};
-ghost use Rattle.vx_base.specs.Bits.{bool_at};
-ghost use Rattle.vx_base.specs.Refusals.{Refuses, Tests};
+ghost use Rattle.std.specs.Prelude.{◌≡◌, ◌<◌, ◌≤◌, ◌↔◌, ◌&&◌, length, OnOk, IfOk, None, IsTrue, IsUtf8, false, true, nat_le, slice_range};
+ghost use Rattle.std.specs.List.{list_any};
+ghost use Rattle.std.specs.Str.{IsAscii};
+ghost use Rattle.vx_base.specs.Refusals.{Refuses, Tests, Gives};
+ghost use Rattle.vx_views.specs.Alone.{whole_texts, is_alone, alone_of, views_left, AreWholeTexts};
 ghost use Rattle.vx_views.specs.Faulty.{views_fault, view_fault, place_fault, text_fault};
 ghost use Rattle.vx_views.specs.Sound.{AreSoundViews};
+ghost use Rattle.vx_views.specs.Utf8.{IsBoundary};
 ghost use Rattle.vx_views.specs.Views.{view_size, view_value, held_value};
 ghost use Rattle.vx_views.specs.declared.view.TheConstants.{MAX_INLINED_SIZE};
 
 use crate::view::BinaryView;
 use std::alloc::Global;
+use std::ops::Range;
 use vx_base::{ByteBuffer, Mask, VortexError};
 
 // The high bits of the bytes that may hold a value, in the 16 bytes of a view as one number.
@@ -23,15 +27,16 @@ const INLINED_HIGH_BITS: u128 = 0x8080_8080_8080_8080_8080_8080_0000_0000;
 /// text is checked, `NotUtf8`. A view that holds its value refuses with `NotUtf8` alone. Each value
 /// is judged alone: bytes that no valid view refers to never refuse, and neither does a null row.
 ///
-/// The `budget` is the number of bytes of whole buffers that may be read ahead; it changes no
-/// answer, and today nothing is read ahead. Asks one boolean of the mask for each view.
+/// The `budget` is the number of bytes of whole buffers that may be read ahead, as
+/// `check_views_counted` reads them; it changes no answer. Asks one boolean of the mask for each
+/// view.
 pub fn check_views(
-    _alloc: Global,
+    alloc: Global,
     views: &[BinaryView],
     mask: &Mask,
     buffers: &[ByteBuffer],
     check_utf8: bool,
-    _budget: usize,
+    budget: usize,
 ) -> Result<(), VortexError>
     requires { length mask.now ≡ length views.now }
     ensures refuses { Refuses result (views_fault check_utf8 mask.now buffers.now views.now) }
@@ -39,13 +44,38 @@ pub fn check_views(
     // Each valid view then resolves, begins as it says, and is text where text is asked.
     ensures sound { OnOk result (AreSoundViews views.now mask.now buffers.now check_utf8) }
 {
-    let all_valid = mask.all_true();
-    for (row, view) in views.iter().enumerate() {
-        if is_valid(mask, all_valid, row) {
-            check_view(view, row, buffers, check_utf8)?;
-        }
-    }
+    check_views_counted(alloc, views, mask, buffers, check_utf8, budget)?;
     Ok(())
+}
+
+/// The same, and how many valid views were left to be checked alone: none where no text is checked.
+///
+/// The budget reaches, in order, each buffer no longer than what is left of it, whose length is
+/// taken off. A buffer that is reached is read whole, and where it is UTF-8, a view into it is
+/// decided by where it starts and ends. Checked alone are the other views that refer to their
+/// value, and those that hold a value with a byte of 128 or more.
+///
+/// Twelve times `a`, an `é` and thirteen times `b` are a buffer of 27 bytes. The view of its first
+/// 14 is checked alone by a budget of 26, and not by one of 27.
+pub fn check_views_counted(
+    alloc: Global,
+    views: &[BinaryView],
+    mask: &Mask,
+    buffers: &[ByteBuffer],
+    check_utf8: bool,
+    budget: usize,
+) -> Result<usize, VortexError>
+    requires { length mask.now ≡ length views.now }
+    ensures refuses { Refuses result (views_fault check_utf8 mask.now buffers.now views.now) }
+    ensures sound { OnOk result (AreSoundViews views.now mask.now buffers.now check_utf8) }
+    ensures left { IfOk result (λ left. left
+        ≡ views_left check_utf8 budget mask.now buffers.now views.now) }
+{
+    if !check_utf8 {
+        return check_rows::<false>(views, mask, buffers, &[]);
+    }
+    let texts = read_ahead(alloc, buffers, budget)?;
+    check_rows::<true>(views, mask, buffers, &texts)
 }
 
 /// Views are without a fault exactly where each valid one can be read, begins as it says, and is
@@ -60,46 +90,135 @@ pub fn faultless_views_are_sound(
         ↔ AreSoundViews views.now mask.now buffers.now check_utf8 }
 {}
 
-// Whether a row is valid, where it is known whether all are.
-fn is_valid(mask: &Mask, all_valid: bool, row: usize) -> bool
-    requires within { row < length mask.now }
-    requires all { IsTrue all_valid → count_by (λ b. b) mask.now ≡ length mask.now }
-    ensures { result ≡ bool_at mask.now row }
+// Whether each valid view may stand there, as a text where text is asked and it is known which
+// buffers are UTF-8; how many values were checked alone.
+fn check_rows<const TEXT: bool>(
+    views: &[BinaryView],
+    mask: &Mask,
+    buffers: &[ByteBuffer],
+    texts: &[bool],
+) -> Result<usize, VortexError>
+    requires same_len { length mask.now ≡ length views.now }
+    requires texts { IsTrue TEXT → AreWholeTexts buffers.now texts.now }
+    ensures tests { Tests result (views_fault TEXT mask.now buffers.now views.now) }
+    ensures alone { IfOk result (λ alone. alone ≡ alone_of TEXT texts.now mask.now views.now) }
 {
-    all_valid || mask.value(row)
+    let mut valid = mask.rows();
+    let mut alone = 0;
+    for (row, view) in views.iter().enumerate() {
+        if valid.value(row) {
+            alone += usize::from(check_view::<TEXT>(view, row, buffers, texts)?);
+        }
+    }
+    Ok(alone)
 }
 
-// Whether the view of a valid row may stand there.
-fn check_view(
+// Whether the view of a valid row may stand there: whether its value was checked alone.
+pub(crate) fn check_view<const TEXT: bool>(
     view: &BinaryView,
     row: usize,
     buffers: &[ByteBuffer],
-    check_utf8: bool,
-) -> Result<(), VortexError>
-    ensures { Tests result (view_fault check_utf8 buffers.now view.now row) }
+    texts: &[bool],
+) -> Result<bool, VortexError>
+    requires { IsTrue TEXT → AreWholeTexts buffers.now texts.now }
+    ensures tests { Tests result (view_fault TEXT buffers.now view.now row) }
+    ensures alone { IfOk result (λ alone. alone ≡ (TEXT && is_alone texts.now view.now)) }
 {
-    if view.is_inlined() {
-        return check_inlined_text(view, row, check_utf8);
+    if TEXT {
+        return check_text_view(view, row, buffers, texts);
     }
-    check_text(value_at(view, row, buffers)?, row, check_utf8)
+    check_place(view, row, buffers)?;
+    Ok(false)
 }
 
-// Whether the value of a row is text, where text is asked.
-fn check_text(value: &[u8], row: usize, check_utf8: bool) -> Result<(), VortexError>
-    ensures { Tests result (text_fault check_utf8 value.now row) }
+// Whether a view can be read and begins as it says.
+fn check_place(view: &BinaryView, row: usize, buffers: &[ByteBuffer]) -> Result<(), VortexError>
+    ensures { Tests result (view_fault false buffers.now view.now row) }
 {
-    if check_utf8 && !is_text(value) {
-        return Err(VortexError::NotUtf8 { row });
+    if !view.is_inlined() {
+        value_at(view, row, buffers)?;
     }
     Ok(())
 }
 
-// The same for the value that stands in a view.
-fn check_inlined_text(view: &BinaryView, row: usize, check_utf8: bool) -> Result<(), VortexError>
-    requires { view_size view.now ≤ MAX_INLINED_SIZE }
-    ensures { Tests result (text_fault check_utf8 (held_value view.now) row) }
+// For each buffer whether the budget reaches it and it is UTF-8.
+pub(crate) fn read_ahead(
+    alloc: Global,
+    buffers: &[ByteBuffer],
+    budget: usize,
+) -> Result<Vec<bool>, VortexError>
+    ensures { Gives result (λ texts. texts.items ≡ whole_texts budget buffers.now) }
 {
-    if check_utf8 && !is_inlined_text(view) {
+    let mut texts = Vec::with_capacity(alloc, buffers.len())?;
+    let mut left = budget;
+    for buffer in buffers {
+        let bytes = buffer.as_slice();
+        let is_text = if bytes.len() <= left {
+            left -= bytes.len();
+            simdutf8::is_utf8(bytes)
+        } else {
+            false
+        };
+        texts.push(is_text)?;
+    }
+    Ok(texts)
+}
+
+// Whether a view may stand there as a text: whether its value was checked alone.
+fn check_text_view(
+    view: &BinaryView,
+    row: usize,
+    buffers: &[ByteBuffer],
+    texts: &[bool],
+) -> Result<bool, VortexError>
+    requires { AreWholeTexts buffers.now texts.now }
+    ensures tests { Tests result (view_fault true buffers.now view.now row) }
+    ensures alone { IfOk result (λ alone. alone ≡ is_alone texts.now view.now) }
+{
+    if view.is_inlined() {
+        return check_inlined_text(view, row);
+    }
+    let value = value_at(view, row, buffers)?;
+    let parts = view.as_view();
+    let block = parts.buffer_index as usize;
+    if texts[block] {
+        if !is_text_range(buffers[block].as_slice(), parts.as_range()) {
+            return Err(VortexError::NotUtf8 { row });
+        }
+        return Ok(false);
+    }
+    check_text(value, row)?;
+    Ok(true)
+}
+
+// Whether the value that stands in a view is text: whether it was checked alone, as is one with a
+// byte of 128 or more.
+fn check_inlined_text(view: &BinaryView, row: usize) -> Result<bool, VortexError>
+    requires { view_size view.now ≤ MAX_INLINED_SIZE }
+    ensures tests { Tests result (text_fault true (held_value view.now) row) }
+    ensures alone { IfOk result (λ alone. alone ≡ list_any (nat_le 128) (held_value view.now)) }
+{
+    if is_inlined_ascii(view) {
+        return Ok(false);
+    }
+    check_text(view.bytes(&[]), row)?;
+    Ok(true)
+}
+
+// Whether the value that stands in a view has bytes below 128 alone: the high bits of all the bytes
+// that may hold it tell most values first.
+fn is_inlined_ascii(view: &BinaryView) -> bool
+    requires { view_size view.now ≤ MAX_INLINED_SIZE }
+    ensures { IsTrue result ↔ IsAscii (held_value view.now) }
+{
+    view.as_u128() & INLINED_HIGH_BITS == 0 || view.bytes(&[]).is_ascii()
+}
+
+// Whether the value of a row is text.
+fn check_text(value: &[u8], row: usize) -> Result<(), VortexError>
+    ensures { Tests result (text_fault true value.now row) }
+{
+    if !is_text(value) {
         return Err(VortexError::NotUtf8 { row });
     }
     Ok(())
@@ -112,13 +231,22 @@ fn is_text(value: &[u8]) -> bool
     value.is_ascii() || simdutf8::is_utf8(value)
 }
 
-// Whether the value that stands in a view is text: bytes below 128 are told first, by their high
-// bits.
-fn is_inlined_text(view: &BinaryView) -> bool
-    requires { view_size view.now ≤ MAX_INLINED_SIZE }
-    ensures { IsTrue result ↔ IsUtf8 (held_value view.now) }
+// Whether a range of a text is a text too, as the boundaries at its ends tell.
+fn is_text_range(text: &[u8], range: Range<usize>) -> bool
+    requires text { IsUtf8 text.now }
+    requires some { range.start < range.end }
+    requires within { range.end ≤ length text.now }
+    ensures { IsTrue result ↔ IsUtf8 (slice_range text.now range.start range.end) }
 {
-    view.as_u128() & INLINED_HIGH_BITS == 0 || simdutf8::is_utf8(view.bytes(&[]))
+    is_boundary(text, range.start) && is_boundary(text, range.end)
+}
+
+// Whether a place of some bytes is their end, or the byte there continues no sequence.
+fn is_boundary(bytes: &[u8], place: usize) -> bool
+    requires { place ≤ length bytes.now }
+    ensures { IsTrue result ↔ IsBoundary bytes.now place }
+{
+    place == bytes.len() || bytes[place] < 0x80 || bytes[place] >= 0xC0
 }
 
 // The value that a view refers to, where the view says rightly where it stands and how it begins.

@@ -65,8 +65,17 @@ fn lengths_that_are_not_the_heap(rt: HostRuntime) -> Result<(), Fail> {
 #[test]
 fn a_limit_past_the_greatest(rt: HostRuntime) -> Result<(), Fail> {
     let heap = ByteBuffer::copy_from(rt.alloc(), &LETTERS[..18])?;
-    let made = build_views(rt.alloc(), 0, 2147483648, heap, &[6u8, 5, 4, 3]);
+    let made = build_views(rt.alloc(), 0, 4294967296, heap, &[6u8, 5, 4, 3]);
     assert_eq!(rt; refusal(made), Some(VortexError::LimitTooLarge));
+    Ok(())
+}
+
+#[test]
+fn the_greatest_limit(rt: HostRuntime) -> Result<(), Fail> {
+    let heap = ByteBuffer::copy_from(rt.alloc(), b"abc")?;
+    let (buffers, views) = build_views(rt.alloc(), 0, MAX_BUFFER_LEN, heap, &[3u8])?;
+    assert!(rt; buffers.len() == 1 && views.len() == 1);
+    assert_eq!(rt; buffers[0].len(), 3);
     Ok(())
 }
 

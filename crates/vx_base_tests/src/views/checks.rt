@@ -1,8 +1,11 @@
 // Views that are checked, at every budget.
 
+ghost use Rattle.std.specs.Prelude.{◌≡◌, length, IfOk};
+
 use std::alloc::Global;
-use vx_base::{ByteBuffer, Mask, VortexError};
-use vx_views::{BinaryView, check_views};
+use std::test::Fail;
+use vx_base::{BitBuffer, ByteBuffer, Mask, VortexError};
+use vx_views::{BinaryView, check_and_empty_views, check_views, check_views_counted};
 
 // What is answered of one view over one buffer, in which text is asked.
 fn check_one(
@@ -75,4 +78,112 @@ fn inlined_values_are_checked(rt: HostRuntime) {
         check_views(rt.alloc(), &[view], &mask, &[], false, 0),
         Ok(())
     );
+}
+
+// How many views were checked alone of one view over one buffer, in which text is asked.
+fn count_one(
+    alloc: Global,
+    buffer: &[u8],
+    view: BinaryView,
+    budget: usize,
+) -> Result<usize, VortexError> {
+    let buffers = [ByteBuffer::copy_from(alloc, buffer)?];
+    check_views_counted(alloc, &[view], &Mask::new_true(1), &buffers, true, budget)
+}
+
+#[test]
+fn a_buffer_within_the_budget_is_checked_whole(rt: HostRuntime) {
+    let text = b"aaaaaaaaaaaa\xC3\xA9bbbbbbbbbbbbb\xFF";
+    let view = BinaryView::new_ref(14, *b"aaaa", 0, 0);
+    for (budget, left) in [(0, 1), (26, 1), (27, 0), (28, 0), (usize::MAX, 0)] {
+        let counted = count_one(rt.alloc(), &text[..27], view, budget);
+        assert_eq!(rt; counted, Ok(left));
+        assert_eq!(rt; count_one(rt.alloc(), text, view, budget), Ok(1));
+    }
+}
+
+#[test]
+fn a_buffer_past_the_budget_is_left_out(rt: HostRuntime) -> Result<(), Fail> {
+    let mut buffers = Vec::new(rt.alloc());
+    for len in [20, 30, 10, 0, 1] {
+        let bytes = vec![in rt.alloc(); b'x'; len]?;
+        buffers.push(ByteBuffer::from_vec(rt.alloc(), bytes)?)?;
+    }
+    let views = [
+        BinaryView::new_ref(20, *b"xxxx", 0, 0),
+        BinaryView::new_ref(13, *b"xxxx", 1, 17),
+        BinaryView::new_ref(14, *b"xxxx", 1, 0),
+        BinaryView::new_inlined("abc".as_bytes()),
+        BinaryView::new_inlined("\u{e9}".as_bytes()),
+    ];
+    let mask = Mask::new_true(5);
+    for (budget, left) in [(0, 4), (20, 3), (30, 3), (49, 3), (50, 1), (61, 1)] {
+        let counted = check_views_counted(rt.alloc(), &views, &mask, &buffers, true, budget);
+        assert_eq!(rt; counted, Ok(left));
+    }
+    let unasked = check_views_counted(rt.alloc(), &views, &mask, &buffers, false, 0);
+    assert_eq!(rt; unasked, Ok(0));
+    let null = check_views_counted(rt.alloc(), &views, &Mask::new_false(5), &buffers, true, 0);
+    assert_eq!(rt; null, Ok(0));
+    Ok(())
+}
+
+#[test]
+fn padding_is_not_counted(rt: HostRuntime) {
+    let views = [
+        BinaryView::from(0x00ff626100000002),
+        BinaryView::new_inlined("\u{e9}".as_bytes()),
+    ];
+    let counted = check_views_counted(rt.alloc(), &views, &Mask::new_true(2), &[], true, 0);
+    assert_eq!(rt; counted, Ok(1));
+}
+
+// A mask of these booleans.
+fn mask_of(alloc: Global, bools: &[bool]) -> Result<Mask, VortexError>
+    ensures { IfOk result (λ mask. length mask ≡ length bools.now) }
+{
+    Mask::from_buffer(alloc, BitBuffer::from_bools(alloc, bools)?)
+}
+
+// Views of a text, of bytes that are no text, of bytes past the buffer's end, and of the text `b`.
+fn faulty_views() -> [BinaryView; 4] {
+    [
+        BinaryView::new_ref(13, *b"aaaa", 0, 0),
+        BinaryView::new_ref(14, *b"aaaa", 0, 0),
+        BinaryView::new_ref(13, *b"aaaa", 0, 9),
+        BinaryView::new_inlined(b"b"),
+    ]
+}
+
+// The buffer of those views.
+fn faulty_buffer(alloc: Global) -> Result<[ByteBuffer; 1], VortexError> {
+    Ok([ByteBuffer::copy_from(alloc, b"aaaaaaaaaaaaa\xFF")?])
+}
+
+#[test]
+fn the_first_faulty_row_is_named(rt: HostRuntime) -> Result<(), Fail> {
+    let views = faulty_views();
+    let buffers = faulty_buffer(rt.alloc())?;
+    let all = Mask::new_true(4);
+    let some = mask_of(rt.alloc(), &[true, false, true, true])?;
+    for budget in [0, 14] {
+        let first = check_views_counted(rt.alloc(), &views, &all, &buffers, true, budget);
+        assert_eq!(rt; first, Err(VortexError::NotUtf8 { row: 1 }));
+        let second = check_views_counted(rt.alloc(), &views, &some, &buffers, true, budget);
+        assert_eq!(rt; second, Err(VortexError::BadEnd { row: 2 }));
+    }
+    Ok(())
+}
+
+#[test]
+fn null_rows_are_emptied(rt: HostRuntime) -> Result<(), Fail> {
+    let mut views = faulty_views();
+    let buffers = faulty_buffer(rt.alloc())?;
+    let some = mask_of(rt.alloc(), &[true, false, false, true])?;
+    let counted = check_and_empty_views(rt.alloc(), &mut views, &some, &buffers, true, 0);
+    assert_eq!(rt; counted, Ok(1));
+    let before = faulty_views();
+    let empty = BinaryView::empty_view();
+    assert_eq!(rt; views, [before[0], empty, empty, before[3]]);
+    Ok(())
 }

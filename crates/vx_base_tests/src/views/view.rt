@@ -25,7 +25,7 @@ fn parts_of_thirteen() -> Ref
 fn greatest_lengths(rt: HostRuntime) {
     assert_eq!(rt; MAX_INLINED_SIZE, 12);
     assert_eq!(rt; BinaryView::MAX_INLINED_SIZE, 12);
-    assert_eq!(rt; MAX_BUFFER_LEN, 2147483647);
+    assert_eq!(rt; MAX_BUFFER_LEN, 4294967295);
 }
 
 #[test]

@@ -1,14 +1,17 @@
-use Rattle.std.proofs.Common.{inl, inr, refl, rules}
-use Rattle.vx_views.proofs.FaultyViews.{text_fault_found, text_fault_none}
+use Rattle.std.proofs.Common.{true, inr, rules}
+use Rattle.std.proofs.lemmas.Str.{IsUtf8-from_ascii}
+use Rattle.vx_views.specs.Views.{held_value}
+use Rattle.vx_views.proofs.AloneViews.{ascii_is, not_ascii_is}
+use Rattle.vx_views.proofs.FaultyViews.{text_fault_none}
 use Rattle.vx_views.proofs.view_checks.check_inlined_text.Goals as goal
-use Rattle.vx_views.proofs.view_checks.check_inlined_text.Goals.{else-check_utf8-via-then-check_utf8+else-not-is_inlined_text, else-check_utf8-via-else-check_utf8}
 
-pub returns-then-not-is_inlined_text : goal.returns-then-not-is_inlined_text
-returns-then-not-is_inlined_text c = (refl, text_fault_found _ _ _ c.if-check_utf8.true (search rules))
+pub returns-then-is_inlined_ascii-clause-tests : goal.returns-then-is_inlined_ascii-clause-tests
+returns-then-is_inlined_ascii-clause-tests c =
+    let value = held_value c.args.view.now in
+    text_fault_none true value c.args.row (inr (IsUtf8-from_ascii value (c.is_inlined_ascii.ensures.0 c.if-is_inlined_ascii.true)))
 
-pub returns : goal.returns
-returns c =
-    elim c.else-check_utf8.branch [
-      | else-check_utf8-via-then-check_utf8+else-not-is_inlined_text w ↦ text_fault_none _ _ _ (inr (search rules))
-      | else-check_utf8-via-else-check_utf8 w ↦ text_fault_none _ _ _ (inl w.if-check_utf8.false)
-    ]
+pub returns-then-is_inlined_ascii-clause-alone : goal.returns-then-is_inlined_ascii-clause-alone
+returns-then-is_inlined_ascii-clause-alone c = ascii_is (held_value c.args.view.now) (c.is_inlined_ascii.ensures.0 c.if-is_inlined_ascii.true)
+
+pub returns-clause-alone : goal.returns-clause-alone
+returns-clause-alone c = not_ascii_is (held_value c.args.view.now) (search (rules, c.is_inlined_ascii.ensures, c.if-is_inlined_ascii.false))
