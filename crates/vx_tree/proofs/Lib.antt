@@ -10,6 +10,7 @@ pub mod Taken
 pub mod Dictionaries
 pub mod FixedLists
 pub mod ViewArrays
+pub mod RunViews
 pub mod Fitting
 pub mod Defaults
 pub mod Counted
@@ -31,7 +32,6 @@ pub mod Filtered
 pub mod Runs
 pub mod Validities
 pub mod Patched
-pub mod Compared
 pub mod Joins
 pub mod JoinedRows
 pub mod JoinedStates

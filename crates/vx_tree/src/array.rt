@@ -173,8 +173,13 @@ impl ArrayRef {
         requires { WellFormed (tree_of layout) }
         ensures { Gives result (λ a. a ≡ tree_of layout) }
     {
-        let dtype = layout.dtype(alloc)?;
-        ArrayRef::of_dtype(alloc, dtype, layout)
+        match layout.dtype(alloc) {
+            Ok(dtype) => ArrayRef::of_dtype(alloc, dtype, layout),
+            Err(error) => {
+                drop(layout);
+                Err(error)
+            }
+        }
     }
 
     // An array of other parts, of the same data type, which is shared. Asks that they are well
@@ -185,8 +190,13 @@ impl ArrayRef {
         requires kind { kind_of (tree_of layout) ≡ kind_of self.now }
         ensures { Gives result (λ a. a ≡ tree_of layout) }
     {
-        let dtype = self.dtype().try_clone(alloc)?;
-        ArrayRef::of_dtype(alloc, dtype, layout)
+        match self.dtype().try_clone(alloc) {
+            Ok(dtype) => ArrayRef::of_dtype(alloc, dtype, layout),
+            Err(error) => {
+                drop(layout);
+                Err(error)
+            }
+        }
     }
 
     // An array of these parts, of the data type that they have.

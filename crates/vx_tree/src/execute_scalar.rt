@@ -26,8 +26,13 @@ impl ArrayRef {
         }
         self.known();
         let value = self.value_at(alloc, i)?;
-        let dtype = self.dtype().try_clone(alloc)?;
-        Ok(Scalar::new(dtype, value))
+        match self.dtype().try_clone(alloc) {
+            Ok(dtype) => Ok(Scalar::new(dtype, value)),
+            Err(error) => {
+                drop(value);
+                Err(error)
+            }
+        }
     }
 
     // The value of row `i`, `None` where it is null.

@@ -34,8 +34,8 @@ impl ArrayRef {
             return Ok(self.filter_constant(alloc, mask)?);
         }
         fewer_rows_are_countable(self);
-        let runs = mask.true_runs(alloc)?;
-        let selection = Selection::of_runs(&runs, mask.true_count());
-        Ok(self.select_within(alloc, &selection)?)
+        let selection = Selection::of_runs(mask.runs(), mask.true_count());
+        let filtered = self.select_within(alloc, &selection)?;
+        Ok(filtered)
     }
 }

@@ -19,7 +19,7 @@ use crate::array::{ArrayRef, Layout, Validity};
 use crate::indices::checks::check_numbers;
 pub(crate) use crate::indices::rows::Indices;
 use std::alloc::Global;
-use vx_base::{Mask, NativePType, PType, VortexError, call_native, int_at};
+use vx_base::{Mask, MaskRows, NativePType, PType, VortexError, call_native, int_at};
 
 impl ArrayRef {
     /// The positions below `len` that the rows name, 0 for a null row. Asks integers. Refuses at
@@ -199,8 +199,9 @@ fn fill_masked<T: NativePType>(
     ensures ok { IfOk result (λ _. ArePositions (masked_numbers T.PTYPE bytes.now mask.now) len out.new) }
     ensures tests { Tests result (indices_fault len (masked_numbers T.PTYPE bytes.now mask.now)) }
 {
+    let mut valid = mask.rows();
     for row in 0..out.len() {
-        out[row] = masked_position(bytes, T::PTYPE, mask, row, len)?;
+        out[row] = masked_position(bytes, T::PTYPE, &mut valid, row, len)?;
     }
     Ok(())
 }
@@ -210,16 +211,17 @@ fn fill_masked<T: NativePType>(
 fn masked_position(
     bytes: &[u8],
     ptype: PType,
-    mask: &Mask,
+    valid: &mut MaskRows<'_>,
     row: usize,
     len: usize,
 ) -> Result<usize, VortexError>
-    requires numbers { length mask.now ≡ length (numbers ptype bytes.now) }
-    requires in_bounds { row < length mask.now }
-    ensures ok { IfOk result (IsPosition len (row_at (masked_numbers ptype bytes.now mask.now) row)) }
-    ensures tests { Tests result (index_fault len row (row_at (masked_numbers ptype bytes.now mask.now) row)) }
+    requires numbers { length valid.old ≡ length (numbers ptype bytes.now) }
+    requires in_bounds { row < length valid.old }
+    ensures ok { IfOk result (IsPosition len (row_at (masked_numbers ptype bytes.now valid.old) row)) }
+    ensures tests { Tests result (index_fault len row (row_at (masked_numbers ptype bytes.now valid.old) row)) }
+    ensures same { valid.new ≡ valid.old }
 {
-    if mask.value(row) {
+    if valid.value(row) {
         number_position(bytes, ptype, row, len)
     } else {
         Ok(0)

@@ -1,6 +1,6 @@
 // Rows that are read one at a time, or as bits.
 
-ghost use Rattle.std.specs.Prelude.{◌≡◌, ◌<◌, ◌≤ℤ◌, ◌^◌, ◌-◌, pos, true, false, map, replicate, None, length, IfOk};
+ghost use Rattle.std.specs.Prelude.{◌≡◌, ◌<◌, ◌≤ℤ◌, ◌^◌, ◌-◌, pos, true, false, map, replicate, None, length, count_by, IfOk};
 ghost use Rattle.std.specs.Prelude.{IfSome, IsSome, is_some};
 ghost use Rattle.std.specs.List.{range_with_len};
 ghost use Rattle.vx_base.specs.Refusals.{Gives, Refuses};
@@ -123,6 +123,17 @@ impl ArrayRef {
         match self.layout() {
             Layout::Constant { scalar, len } => Ok(mask_of_one(scalar.as_bool(), *len)),
             _ => Mask::from_buffer(alloc, self.plain_bits(alloc)?),
+        }
+    }
+
+    // How many of the rows of an array of plain booleans are true. A constant's takes no memory.
+    pub(crate) fn plain_true_count(&self, alloc: Global) -> Result<usize, VortexError>
+        requires { kind_of self.now ≡ booleans false }
+        ensures { Gives result (λ n. n ≡ count_by (λ b. b) (map (λ i. truth_of (row_at self.now i)) (range_with_len 0 (tree_len self.now)))) }
+    {
+        match self.layout() {
+            Layout::Constant { .. } => Ok(self.plain_mask(alloc)?.true_count()),
+            _ => Ok(self.plain_bits(alloc)?.true_count()),
         }
     }
 

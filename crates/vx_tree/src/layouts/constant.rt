@@ -217,7 +217,8 @@ fn test_even(alloc: Global, dtype: &DType) -> Result<(), VortexError>
 {
     let dtype = dtype.try_clone(alloc)?;
     let dtype = dtype.union_nullability(Nullability::Nullable);
-    Scalar::default_value(alloc, dtype)?;
+    let scalar = Scalar::default_value(alloc, dtype)?;
+    drop(scalar);
     Ok(())
 }
 

@@ -1,11 +1,12 @@
 // Texts and byte lists, each by its view.
 
 ghost use Rattle.std.specs.Prelude.{◌≡◌, ◌<◌, ◌≤◌, ◌+◌, ◌-◌, ◌^◌, ◌++◌, ℕ, true, false, [], length, map, slice_index_or, Some};
-ghost use Rattle.std.specs.Prelude.{MatchOption, IfOk};
+ghost use Rattle.std.specs.Prelude.{MatchOption, IfOk, if◌then◌else◌};
 ghost use Rattle.std.specs.List.{All, range_with_len};
 ghost use Rattle.vx_base.specs.Refusals.{Gives, Refuses, Tests};
 ghost use Rattle.vx_base.specs.DTypes.{dtype_meaning};
 ghost use Rattle.vx_base.specs.Bytes.{AreBytes};
+ghost use Rattle.vx_base.specs.MaskRuns.{is_in_runs};
 ghost use Rattle.vx_views.specs.Views.{IsView, buffer_at, view_size, view_block};
 ghost use Rattle.vx_views.specs.declared.view.TheConstants.{MAX_INLINED_SIZE};
 ghost use Rattle.vx_tree.specs.Tree.{view_array};
@@ -25,8 +26,8 @@ ghost use Rattle.vx_tree.specs.Joined.{IsJoined, IsValidJoined, AreValues, AreRe
 use crate::array::{ArrayRef, Layout, Validity};
 use std::alloc::Global;
 use vx_base::{
-    BitBufferView, Buffer, ByteBuffer, DType, Mask, ScalarValue, Selection, VortexError,
-    gather_items, share_buffers,
+    Buffer, ByteBuffer, DType, Mask, ScalarValue, Selection, VortexError, gather_items,
+    share_buffers,
 };
 use vx_views::BinaryView;
 
@@ -305,35 +306,37 @@ fn valid_views(
     if mask.all_true() {
         return views.try_clone(alloc);
     }
-    let Some(values) = mask.values() else {
-        let nulls = vec![in alloc; BinaryView::empty_view(); views.len()]?;
-        return Buffer::from_vec(alloc, nulls);
-    };
-    let bits = values.bit_buffer(alloc)?;
-    let valid = masked_views(alloc, views.as_slice(), &bits.view())?;
+    let valid = masked_views(alloc, views.as_slice(), mask)?;
     Buffer::from_vec(alloc, valid)
 }
 
-// The views where the bits are true, and 16 zero bytes elsewhere.
-#[inline(never)]
+// The same, by the runs of rows that are true.
 fn masked_views(
     alloc: Global,
     views: &[BinaryView],
-    bits: &BitBufferView<'_>,
+    mask: &Mask,
 ) -> Result<Vec<BinaryView>, VortexError>
-    requires { length bits.now ≡ length views.now }
-    ensures { Gives result (λ made. made.items ≡ map (valid_view views.now bits.now) (range_with_len 0 (length views.now))) }
+    requires { length mask.now ≡ length views.now }
+    ensures { Gives result (λ made. made.items ≡ map (valid_view views.now mask.now) (range_with_len 0 (length views.now))) }
 {
-    let mut made = Vec::with_capacity(alloc, views.len())?;
-    for row in 0..views.len() {
-        let view = if bits.value(row) {
-            views[row]
-        } else {
-            BinaryView::empty_view()
-        };
-        made.push_reserved(view);
-    }
+    let mut made = vec![in alloc; BinaryView::empty_view(); views.len()]?;
+    copy_runs(views, mask.runs(), &mut made);
     Ok(made)
+}
+
+// Copies the views of the rows in these runs.
+fn copy_runs(views: &[BinaryView], runs: &[(usize, usize)], out: &mut [BinaryView])
+    requires filled { All (λ run. run.0 < run.1) runs.now }
+    requires within { All (λ run. run.1 ≤ length views.now) runs.now }
+    requires room { length out.old ≡ length views.now }
+    ensures len { length out.new ≡ length views.now }
+    ensures copied { (k : ℕ) → slice_index_or out.new k []
+        ≡ (if is_in_runs runs.now k then slice_index_or views.now k [] else slice_index_or out.old k []) }
+{
+    for run in runs {
+        let (start, end) = *run;
+        out[start..end].copy_from_slice(&views[start..end]);
+    }
 }
 
 // How many buffers the arrays have, as many as can be numbered.

@@ -1,6 +1,6 @@
 // A validity as booleans, and of booleans.
 
-ghost use Rattle.std.specs.Prelude.{◌≡◌, false, length, IfOk};
+ghost use Rattle.std.specs.Prelude.{◌≡◌, false, length, count_by, IfOk};
 ghost use Rattle.vx_base.specs.DTypes.{is_nullable};
 ghost use Rattle.vx_base.specs.Refusals.{Gives, Refuses};
 ghost use Rattle.vx_base.specs.Kinds.{booleans};
@@ -47,8 +47,27 @@ impl Validity {
         ensures ok { IfOk result (λ b. b ≡ has_no_nulls (valid_of self.now) len) }
         ensures refuses { Refuses result (valid_type_fault (valid_of self.now)) }
     {
-        let mask = self.execute_mask(alloc, len)?;
-        Ok(mask.all_true())
+        let valid_count = self.valid_count(alloc, len)?;
+        Ok(valid_count == len)
+    }
+
+    // How many of `len` rows are valid. Refuses as `execute_mask` does.
+    pub(crate) fn valid_count(&self, alloc: Global, len: usize) -> Result<usize, VortexError>
+        requires { IsLenOf (valid_of self.now) len }
+        ensures count { IfOk result (λ n. n ≡ count_by (λ b. b) (valid_mask (valid_of self.now) len)) }
+        ensures refuses { Refuses result (valid_type_fault (valid_of self.now)) }
+    {
+        match self {
+            Validity::NonNullable => Ok(len),
+            Validity::AllValid => Ok(len),
+            Validity::AllInvalid => Ok(0),
+            Validity::Array(array) => {
+                if !array.dtype().is_plain_bool() {
+                    return Err(VortexError::MismatchedTypes);
+                }
+                Ok(array.plain_true_count(alloc)?)
+            }
+        }
     }
 
     /// Valid where the boolean is true: `AllValid` where all are, `AllInvalid` where none is, else

@@ -2,14 +2,16 @@
 
 ghost use Rattle.std.specs.Prelude.{◌≡◌, ◌↔◌, false, length, count_by, IsTrue, IfOk};
 ghost use Rattle.vx_base.specs.DTypes.{is_nullable};
+ghost use Rattle.vx_base.specs.Kinds.{booleans};
 ghost use Rattle.vx_base.specs.Refusals.{Gives, Refuses, or_else};
-ghost use Rattle.vx_tree.specs.Meaning.{valid_mask};
-ghost use Rattle.vx_tree.specs.Formed.{IsLenOf};
+ghost use Rattle.vx_tree.specs.Tree.{by_array};
+ghost use Rattle.vx_tree.specs.Meaning.{tree_len, kind_of, valid_mask};
+ghost use Rattle.vx_tree.specs.Formed.{IsLenOf, ValidFits};
 ghost use Rattle.vx_tree.specs.Parts.{valid_of};
 ghost use Rattle.vx_tree.specs.Faults.{valid_type_fault};
 ghost use Rattle.vx_tree.specs.Validities.{full_valid, valid_from};
 
-use crate::array::Validity;
+use crate::array::{ArrayRef, Validity};
 use crate::validity::join::bits_of_mask;
 use crate::validity::told_by;
 use std::alloc::Global;
@@ -24,9 +26,26 @@ impl Validity {
         ensures ok { IfOk result (λ b. IsTrue b ↔ (valid_mask (valid_of self.now) len ≡ valid_mask (valid_of other.now) len)) }
         ensures refuses { Refuses result (or_else (valid_type_fault (valid_of self.now)) (valid_type_fault (valid_of other.now))) }
     {
-        let mine = self.execute_mask(alloc, len)?;
-        let theirs = other.execute_mask(alloc, len)?;
-        Ok(same_masks(&mine, &theirs))
+        let mine = self.valid_count(alloc, len)?;
+        let theirs = other.valid_count(alloc, len)?;
+        if mine != theirs {
+            return Ok(false);
+        }
+        if mine == 0 || mine == len {
+            return Ok(true);
+        }
+        Ok(self.same_bits(alloc, other, len)?)
+    }
+
+    // The same, by the bits of both.
+    fn same_bits(&self, alloc: Global, other: &Validity, len: usize) -> Result<bool, VortexError>
+        requires mine { ValidFits (valid_of self.now) len }
+        requires theirs { ValidFits (valid_of other.now) len }
+        ensures { Gives result (λ b. IsTrue b ↔ (valid_mask (valid_of self.now) len ≡ valid_mask (valid_of other.now) len)) }
+    {
+        let mine = self.to_array(alloc, len)?;
+        let theirs = other.to_array(alloc, len)?;
+        same_truths(alloc, &mine, &theirs)
     }
 
     /// Valid where the mask is true: by the nullability where all rows are, `AllInvalid` where none
@@ -60,34 +79,14 @@ fn of_mask(alloc: Global, mask: &Mask, nullability: Nullability) -> Result<Valid
     told_by(alloc, bits_of_mask(alloc, mask)?)
 }
 
-// Whether two masks have the same booleans. Asks that both are as long.
-#[tactic(auto, using(crate::proofs::Compared::compared))]
-fn same_masks(mine: &Mask, theirs: &Mask) -> bool
-    requires { length mine.now ≡ length theirs.now }
-    ensures { IsTrue result ↔ (mine.now ≡ theirs.now) }
+// Whether two arrays of plain booleans have the same rows.
+fn same_truths(alloc: Global, mine: &ArrayRef, theirs: &ArrayRef) -> Result<bool, VortexError>
+    requires mine { kind_of mine.now ≡ booleans false }
+    requires theirs { kind_of theirs.now ≡ booleans false }
+    ensures { Gives result (λ b. IsTrue b ↔ (valid_mask (by_array mine.now) (tree_len mine.now)
+        ≡ valid_mask (by_array theirs.now) (tree_len theirs.now))) }
 {
-    if mine.true_count() != theirs.true_count() {
-        return false;
-    }
-    if mine.all_true() {
-        return true;
-    }
-    if mine.all_false() {
-        return true;
-    }
-    same_rows(mine, theirs)
-}
-
-// The same, row by row.
-#[tactic(auto, using(crate::proofs::Compared::compared_rows))]
-fn same_rows(mine: &Mask, theirs: &Mask) -> bool
-    requires { length mine.now ≡ length theirs.now }
-    ensures { IsTrue result ↔ (mine.now ≡ theirs.now) }
-{
-    for row in 0..mine.len() {
-        if mine.value(row) != theirs.value(row) {
-            return false;
-        }
-    }
-    true
+    let mine = mine.plain_bits(alloc)?;
+    let theirs = theirs.plain_bits(alloc)?;
+    Ok(mine == theirs)
 }

@@ -172,7 +172,7 @@ fn masks_of(alloc: Global, parts: &[(Validity, usize)]) -> Result<Vec<Mask>, Vor
     Ok(masks)
 }
 
-// The booleans of a mask as bits, which are shared where both values stand.
+// The booleans of a mask as bits, which are made of its runs where both values stand.
 pub(crate) fn bits_of_mask(alloc: Global, mask: &Mask) -> Result<BitBuffer, VortexError>
     ensures { Gives result (λ b. b.bits ≡ mask.now) }
 {

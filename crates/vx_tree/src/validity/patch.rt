@@ -102,8 +102,27 @@ impl Validity {
             (valid_mask (valid_of patches.now) (length positions.now))) non_nullable)) }
     {
         let mask = self.mask(alloc, len)?;
-        let values = patches.mask(alloc, positions.len())?;
-        told_by(alloc, overwrite(alloc, &mask, positions, &values)?)
+        let validity = patches.written_over(alloc, &mask, positions);
+        drop(mask);
+        validity
+    }
+
+    // The mask, overwritten one after another at the positions by these rows.
+    fn written_over(
+        &self,
+        alloc: Global,
+        mask: &Mask,
+        positions: &[usize],
+    ) -> Result<Validity, VortexError>
+        requires fits { ValidFits (valid_of self.now) (length positions.now) }
+        requires below { All (λ k. k < length mask.now) positions.now }
+        ensures { Gives result (λ w. valid_of w ≡ by_array (bools (overwritten mask.now positions.now
+            (valid_mask (valid_of self.now) (length positions.now))) non_nullable)) }
+    {
+        let values = self.mask(alloc, positions.len())?;
+        let bits = overwrite(alloc, mask, positions, &values);
+        drop(values);
+        told_by(alloc, bits?)
     }
 
     // Whether the array, where there is one, is one of plain booleans.
@@ -250,8 +269,9 @@ pub(crate) fn copy_mask(mask: &Mask, out: &mut [bool])
     requires { length out.old ≡ length mask.now }
     ensures { out.new ≡ mask.now }
 {
+    let mut rows = mask.rows();
     for row in 0..out.len() {
-        out[row] = mask.value(row);
+        out[row] = rows.value(row);
     }
 }
 
@@ -262,7 +282,8 @@ fn write_over(out: &mut [bool], positions: &[usize], values: &Mask)
     requires as_many { length values.now ≡ length positions.now }
     ensures { out.new ≡ overwritten out.old positions.now values.now }
 {
+    let mut rows = values.rows();
     for (i, position) in positions.iter().enumerate() {
-        out[*position] = values.value(i);
+        out[*position] = rows.value(i);
     }
 }

@@ -358,6 +358,15 @@ fn arrays_of_mixed_rows(rt: HostRuntime) -> Result<(), VortexError> {
 }
 
 #[test]
+fn arrays_that_are_true_as_often(rt: HostRuntime) -> Result<(), VortexError> {
+    let first = valid(rt.alloc(), &[true, false])?;
+    let second = valid(rt.alloc(), &[false, true])?;
+    assert!(rt; !first.mask_eq(rt.alloc(), &second, 2)?);
+    assert!(rt; first.mask_eq(rt.alloc(), &first, 2)?);
+    Ok(())
+}
+
+#[test]
 fn masks_as_validities(rt: HostRuntime) -> Result<(), VortexError> {
     let bits = BitBuffer::from_bools(rt.alloc(), &[true, false])?;
     let mask = Mask::from_buffer(rt.alloc(), bits)?;

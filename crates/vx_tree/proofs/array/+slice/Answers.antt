@@ -8,6 +8,7 @@ use Rattle.vx_tree.specs.Tree.{Tree, list_view, structure}
 use Rattle.vx_base.proofs.Refused.{Gives-weaker}
 use Rattle.vx_tree.proofs.Dictionaries.{dictionary_sliced}
 use Rattle.vx_tree.proofs.FixedLists.{fixed_lists_sliced}
+use Rattle.vx_tree.proofs.Sliced.{lists_sliced}
 use Rattle.vx_tree.proofs.Columns.{IsRowsAt, IsRowsAt-slice, AreRowsAt-from_each, AllReach-at, AllReach-from_len, AllZip-next, columns_below}
 use Rattle.vx_tree.proofs.array.+slice.Goals as goal
 
@@ -23,6 +24,14 @@ ArrayRef::slice_list_view-slice_within-requires-3 t c =
     let same = sym c.layout.ensures.parts ∙ ap tree_of c.in-ListView.is in
     let formed : WellFormed (list_view c.in-ListView.elements c.in-ListView.offsets c.in-ListView.sizes (valid_of c.in-ListView.validity) c.in-ListView.flag) = rw c.in-ListView.is at c.layout.ensures.formed in
     (search rules, (c.requires.start_le_end, ValidCovers-from_fits (valid_of c.in-ListView.validity) (tree_len c.in-ListView.offsets) c.args.end formed.0 (rw same at c.requires.in_bounds)))
+
+pub ArrayRef::slice_list_view-returns : goal.ArrayRef::slice_list_view-returns
+ArrayRef::slice_list_view-returns t c =
+    let same = sym c.layout.ensures.parts ∙ ap tree_of c.in-ListView.is in
+    Gives-weaker c.with_parts.result _ _
+    (λ a e. lists_sliced c.args.self.now a c.in-ListView.elements c.in-ListView.offsets c.in-ListView.sizes c.in_ok-offsets.offsets c.in_ok-sizes.sizes
+    (valid_of c.in-ListView.validity) (valid_of c.in_ok-validity.validity) c.in-ListView.flag c.args.start (c.args.end - c.args.start) same (rw c.in_ok-elements.ensures at e) c.in_ok-offsets.ensures c.in_ok-sizes.ensures c.in_ok-validity.ensures)
+    c.with_parts.ensures
 
 pub ArrayRef::slice_fixed_lists-returns : goal.ArrayRef::slice_fixed_lists-returns
 ArrayRef::slice_fixed_lists-returns t c =

@@ -3,6 +3,8 @@ use Rattle.vx_tree.specs.Meaning.{tree_len}
 use Rattle.vx_tree.specs.Formed.{IsMask}
 use Rattle.vx_tree.specs.Operations.{IsNulled}
 use Rattle.vx_tree.proofs.Filtered.{rows_masked}
+use Rattle.std.proofs.Common.{arith}
+use Rattle.std.proofs.lemmas.Grind.{common_steps}
 use Rattle.vx_tree.proofs.array.ArrayRef.mask.Goals as goal
 
 pub returns-clause-rows : goal.returns-clause-rows
@@ -13,3 +15,18 @@ returns-clause-rows c =
     let fits : IsMask m (tree_len t) = rw (same, c.len.ensures) at c.in_ok-check.ensures.fits in
     let nulled : IsNulled t (by_array m) c.in_ok-nulled.field-0 = rw same at c.in_ok-nulled.ensures.by_row in
     rows_masked t m c.in_ok-nulled.field-0 fits.len nulled
+
+pub returns-clause-by_row : goal.returns-clause-by_row
+returns-clause-by_row c = grind (arith, common_steps)
+
+pub returns-clause-kind : goal.returns-clause-kind
+returns-clause-kind c = grind (arith, common_steps)
+
+pub returns-clause-one_value : goal.returns-clause-one_value
+returns-clause-one_value c = grind (arith, common_steps)
+
+pub returns-clause-refuses : goal.returns-clause-refuses
+returns-clause-refuses c = grind (arith, common_steps)
+
+pub returns-clause-shape : goal.returns-clause-shape
+returns-clause-shape c = grind (arith, common_steps)

@@ -4,6 +4,8 @@ use Rattle.vx_base.specs.Refusals.{IsMemoryOr}
 use Rattle.vx_tree.specs.Meaning.{tree_len}
 use Rattle.vx_tree.specs.Operations.{IsSelected, AreBelow}
 use Rattle.vx_tree.proofs.Runs.{length_of_runs, below_of_runs, rows_of_runs, runs_fault-counted}
+use Rattle.std.proofs.Common.{arith}
+use Rattle.std.proofs.lemmas.Grind.{common_steps}
 use Rattle.vx_tree.proofs.array.ArrayRef.take_runs.Goals as goal
 
 pub of_runs-selection-requires : goal.of_runs-selection-requires
@@ -25,3 +27,12 @@ pub returns-in_err-select-clause-refuses : goal.returns-in_err-select-clause-ref
 returns-in_err-select-clause-refuses c =
     let p = err_from_is_err_and c.from_residual-in_err-select.result c.from_residual-in_err-select.ensures.1 in
     rw (p.1, p.2) (subst (λ f. IsMemoryOr f c.in_err-select.field-0.0) (runs_fault-counted c.args.self.now c.args.runs.now c.of_runs-selection.result c.of_runs-selection.ensures c.in_ok-len.ensures.tests) c.in_err-select.ensures.refuses)
+
+pub returns-clause-by_row : goal.returns-clause-by_row
+returns-clause-by_row c = grind (arith, common_steps)
+
+pub returns-clause-kind : goal.returns-clause-kind
+returns-clause-kind c = grind (arith, common_steps)
+
+pub returns-clause-shape : goal.returns-clause-shape
+returns-clause-shape c = grind (arith, common_steps)

@@ -15,3 +15,18 @@ returns-in-AllValid-clause-state c = rw (c.in-AllValid.is, c.into_nullable.ensur
 
 pub returns-in-AllInvalid-clause-pair : goal.returns-in-AllInvalid-clause-pair
 returns-in-AllInvalid-clause-pair c = λ n l m. rw c.in-AllInvalid.is (pair_joined all_invalid (valid_of c.args.rhs) all_invalid n refl (λ i h. refl))
+
+pub returns-in-NonNullable-clause-state : goal.returns-in-NonNullable-clause-state
+returns-in-NonNullable-clause-state c = rw c.in-NonNullable.is refl
+
+pub returns-in-AllInvalid-clause-state : goal.returns-in-AllInvalid-clause-state
+returns-in-AllInvalid-clause-state c = rw c.in-AllInvalid.is refl
+
+pub returns-in-NonNullable-clause-refuses : goal.returns-in-NonNullable-clause-refuses
+returns-in-NonNullable-clause-refuses c = rw c.in-NonNullable.is refl
+
+pub returns-in-AllValid-clause-refuses : goal.returns-in-AllValid-clause-refuses
+returns-in-AllValid-clause-refuses c = rw c.in-AllValid.is refl
+
+pub returns-in-AllInvalid-clause-refuses : goal.returns-in-AllInvalid-clause-refuses
+returns-in-AllInvalid-clause-refuses c = rw c.in-AllInvalid.is refl

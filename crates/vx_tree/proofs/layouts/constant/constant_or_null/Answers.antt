@@ -3,6 +3,8 @@ use Rattle.vx_tree.specs.Meaning.{tree_len}
 use Rattle.vx_tree.specs.Parts.{valid_of}
 use Rattle.vx_base.proofs.Refused.{Gives-weaker}
 use Rattle.vx_tree.proofs.Dictionaries.{constant_with_nulls, zero_codes}
+use Rattle.std.proofs.Common.{arith}
+use Rattle.std.proofs.lemmas.Grind.{common_steps}
 use Rattle.vx_tree.proofs.layouts.constant.constant_or_null.Goals as goal
 
 pub returns-clause-by_row : goal.returns-clause-by_row
@@ -13,3 +15,12 @@ returns-clause-by_row c =
 
 pub dictionary-requires : goal.dictionary-requires
 dictionary-requires c = zero_codes c.in_ok-codes.codes c.in_ok-values.values c.args.len (valid_of c.args.nulls.now) c.in_ok-codes.ensures (ap tree_len c.in_ok-values.ensures)
+
+pub returns-clause-one_value : goal.returns-clause-one_value
+returns-clause-one_value c = grind (arith, common_steps)
+
+pub returns-then-not-is_nullable-clause-by_row : goal.returns-then-not-is_nullable-clause-by_row
+returns-then-not-is_nullable-clause-by_row c = grind (arith, common_steps)
+
+pub returns-then-not-is_nullable-clause-one_value : goal.returns-then-not-is_nullable-clause-one_value
+returns-then-not-is_nullable-clause-one_value c = grind (arith, common_steps)

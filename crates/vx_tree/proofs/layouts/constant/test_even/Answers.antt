@@ -7,15 +7,15 @@ use Rattle.vx_base.specs.Refusals.{IsMemoryOr}
 use Rattle.vx_tree.proofs.PlainParts.{default_fault-or_nullable}
 use Rattle.vx_tree.proofs.layouts.constant.test_even.Goals as goal
 
-pub returns-in_err-default_value : goal.returns-in_err-default_value
-returns-in_err-default_value c =
+pub returns-in_err-scalar : goal.returns-in_err-scalar
+returns-in_err-scalar c =
     let k = dtype_meaning c.args.dtype.now in
     let same : default_fault (dtype_meaning c.union_nullability-dtype.result) ≡ default_fault k = ap default_fault (c.union_nullability-dtype.ensures ∙ ap (or_nullable true) c.in_ok-dtype.ensures) ∙ default_fault-or_nullable true k in
-    let p = err_from_is_err_and c.from_residual-in_err-default_value.result c.from_residual-in_err-default_value.ensures.1 in
-    rw (p.1, p.2) (subst (λ f. IsMemoryOr f c.in_err-default_value.field-0.0) same c.in_err-default_value.ensures.refused)
+    let p = err_from_is_err_and c.from_residual-in_err-scalar.result c.from_residual-in_err-scalar.ensures.1 in
+    rw (p.1, p.2) (subst (λ f. IsMemoryOr f c.in_err-scalar.field-0.0) same c.in_err-scalar.ensures.refused)
 
 pub returns : goal.returns
 returns c =
     let k = dtype_meaning c.args.dtype.now in
     let same : default_fault (dtype_meaning c.union_nullability-dtype.result) ≡ default_fault k = ap default_fault (c.union_nullability-dtype.ensures ∙ ap (or_nullable true) c.in_ok-dtype.ensures) ∙ default_fault-or_nullable true k in
-    sym same ∙ c.in_ok-default_value.ensures.refused
+    sym same ∙ c.in_ok-scalar.ensures.refused

@@ -7,6 +7,7 @@ use Rattle.vx_tree.specs.Meaning.{tree_len}
 use Rattle.vx_tree.specs.Parts.{tree_of}
 use Rattle.vx_tree.specs.Joined.{joined_len, elements_in, offsets_in, offsets_from, AreLists}
 use Rattle.vx_tree.proofs.JoinedListViews.{sums_short, elements-step, offsets-more}
+use Rattle.std.proofs.lemmas.Grind.{common_steps}
 use Rattle.vx_tree.proofs.layouts.list_view.joined_offsets.Goals as goal
 
 pub loop-array-init : goal.loop-array-init
@@ -34,3 +35,9 @@ loop-array-preserved c =
     c.loop-array-test.true c.array-item.is (sym (ap offsets_in same)) (c.len-base.ensures ∙ sym (ap (λ u. tree_len (elements_in u)) same))
     c.loop-array.invariant.0 c.loop-array.invariant.1 c.in_ok-add_counts.ensures.numbers in
     (more.0, more.1, c.add_counts.ensures.whole)
+
+pub returns-clause-numbers : goal.returns-clause-numbers
+returns-clause-numbers c = grind (arith, common_steps)
+
+pub returns-clause-whole : goal.returns-clause-whole
+returns-clause-whole c = grind (arith, common_steps)

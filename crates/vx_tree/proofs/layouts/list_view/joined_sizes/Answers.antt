@@ -6,6 +6,8 @@ use Rattle.vx_tree.specs.Meaning.{tree_len}
 use Rattle.vx_tree.specs.Parts.{tree_of}
 use Rattle.vx_tree.specs.Joined.{elements_in, sizes_in, AreLists}
 use Rattle.vx_tree.proofs.JoinedListViews.{sums_zero, sizes-more}
+use Rattle.std.proofs.Common.{arith}
+use Rattle.std.proofs.lemmas.Grind.{common_steps}
 use Rattle.vx_tree.proofs.layouts.list_view.joined_sizes.Goals as goal
 
 pub loop-array-init : goal.loop-array-init
@@ -26,3 +28,9 @@ loop-array-preserved c =
           c.loop-array-test.true c.array-item.is c.loop-array.invariant.0 (rw (sym (ap sizes_in same)) at c.in_ok-add_counts.ensures.numbers),
       c.add_counts.ensures.whole,
     )
+
+pub returns-clause-numbers : goal.returns-clause-numbers
+returns-clause-numbers c = grind (arith, common_steps)
+
+pub returns-clause-whole : goal.returns-clause-whole
+returns-clause-whole c = grind (arith, common_steps)

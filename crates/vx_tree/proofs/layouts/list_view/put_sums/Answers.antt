@@ -6,6 +6,7 @@ use Rattle.vx_base.specs.declared.ptypes.PType.TheVariants.{U64}
 use Rattle.vx_base.proofs.NumberLists.{numbers_written, numbers_none}
 use Rattle.vx_base.proofs.Positions.{signed_position}
 use Rattle.vx_tree.proofs.JoinedListViews.{wide_holds, sum_read}
+use Rattle.std.proofs.lemmas.List.{take_all}
 use Rattle.vx_tree.proofs.layouts.list_view.put_sums.Goals as goal
 
 pub overflow_add-sum : goal.overflow_add-sum
@@ -44,3 +45,14 @@ loop-i-preserved g c =
     let written : c.put_int.new.out ≡ bytes_of U64 (pos sum) = c.put_int.ensures ∙ ap (bytes_of U64) (signed_position _ (rw cast fits) ∙ ap pos cast) in
     numbers_written U64 c.loop-i.out c.put_int.new.out 8 (length zs) i (i * 8 + 8 - i * 8) (pos sum) (map (λ y. pos (base + unsigned_abs y)) (take i zs)) refl written (wide_holds sum fits) (omega arith) within c.loop-i.invariant
     ∙ sym (map_more (λ y. pos (base + unsigned_abs y)) zs i (pos 0) within)
+
+pub returns : goal.returns
+returns g c =
+    let t = g.T.NativePType.PTYPE in
+    let bs = c.args.bytes.now in
+    let zs = numbers t bs in
+    let i = c.loop-i.i in
+    let count = ap (λ p. length (numbers p bs)) c.PTYPE.ensures in
+    let all : take i zs ≡ zs = take_all i zs (omega (arith, count)) in
+    let whole : take (i * 8) c.loop-i.out ≡ c.loop-i.out = take_all (i * 8) c.loop-i.out (omega (arith, count)) in
+    record { len = omega arith; numbers = sym (ap (numbers U64) whole) ∙ c.loop-i.invariant ∙ ap (map (λ y. pos (c.args.base + unsigned_abs y))) all }

@@ -2,6 +2,7 @@ use Rattle.std.proofs.Common.{◌≡◌, ◌≤◌, ◌+◌, length, ap, sym, su
 use Rattle.vx_tree.specs.Parts.{tree_of}
 use Rattle.vx_tree.specs.Joined.{joined_buffers, views_in, buffers_in, AreResolved}
 use Rattle.vx_tree.proofs.JoinedViews.{counts-step, views-more, named-short}
+use Rattle.std.proofs.lemmas.Grind.{common_steps}
 use Rattle.vx_tree.proofs.layouts.var_bin_view.joined_views.Goals as goal
 
 pub add_views-requires : goal.add_views-requires
@@ -28,3 +29,6 @@ loop-array-preserved c =
           (c.as_slice.ensures ∙ sym (ap views_in same)) long c.loop-array.invariant.0 c.in_ok-add_views.ensures,
       omega (arith, step, long, c.loop-array.invariant.1),
     )
+
+pub returns : goal.returns
+returns c = grind (arith, common_steps)

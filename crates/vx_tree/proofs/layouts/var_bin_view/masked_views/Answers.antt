@@ -1,28 +1,21 @@
-use Rattle.std.proofs.Common.{◌≡◌, [], length, sym, ◌∙◌, arith}
-use Rattle.std.proofs.lemmas.List.FromFn.{fill_by_all}
-use Rattle.vx_tree.specs.Operations.{valid_view}
-use Rattle.vx_tree.proofs.ViewArrays.{view_pushed, kept_view, zero_view}
+use Rattle.std.proofs.Common.{◌≡◌, ◌∙◌, [], ap, length, replicate, arith}
+use Rattle.std.specs.Vec.{with_items}
+use Rattle.std.proofs.lemmas.List.{with_items_is}
+use Rattle.vx_views.specs.Views.{view_of}
+use Rattle.vx_tree.proofs.RunViews.{views_kept}
 use Rattle.vx_tree.proofs.layouts.var_bin_view.masked_views.Goals as goal
-use Rattle.vx_tree.proofs.layouts.var_bin_view.masked_views.Goals.{then-value, else-value}
 
-pub loop-row-preserved : goal.loop-row-preserved
-loop-row-preserved c =
-    let views = c.args.views.now in
-    let bits = c.args.bits.now in
-    let row = c.loop-row.row in
-    let kept = c.loop-row.invariant in
-    let here : c.if-value.view ≡ valid_view views bits row =
-    elim c.if-value.branch [
-      | then-value w ↦ kept_view views bits row c.if-value.view (omega arith) (sym c.value.ensures ∙ w.if-value.true) (rw w.view-is w.index-views-row.is)
-      | else-value w ↦ zero_view views bits row c.if-value.view (sym c.value.ensures ∙ w.if-value.false) (w.view-is ∙ w.empty_view-view.ensures)
-    ] in
-    record {
-      counted = omega (arith, c.push_reserved.ensures.len);
-      has_room = omega (arith, c.push_reserved.ensures.capacity, kept.has_room);
-      views = rw c.push_reserved.ensures.items (view_pushed (valid_view views bits) c.loop-row.made.items row c.if-value.view kept.counted kept.views here);
-    }
+pub copy_runs-requires-clause-filled : goal.copy_runs-requires-clause-filled
+copy_runs-requires-clause-filled c = c.runs.ensures.apart.filled
+
+pub copy_runs-requires-clause-within : goal.copy_runs-requires-clause-within
+copy_runs-requires-clause-within c = rw c.requires at c.runs.ensures.apart.within
 
 pub returns : goal.returns
 returns c =
-    let kept = c.loop-row.invariant in
-    fill_by_all (valid_view c.args.views.now c.args.bits.now) c.loop-row.made.items (length c.args.views.now) [] (omega (arith, kept.counted)) (λ i l. kept.views i (omega arith))
+    let views = c.args.views.now in
+    let out = c.copy_runs.new.out in
+    let items : (with_items c.in_ok-made.made out).items ≡ out = with_items_is c.in_ok-made.made out (omega (arith, c.deref_mut.ensures.len, c.copy_runs.ensures.len)) in
+    let zero : c.deref_mut.result.now ≡ replicate (length views) (view_of [] 0 0) =
+    c.deref_mut.ensures.value ∙ c.in_ok-made.ensures.items_if_clones_equal (λ y h. h) ∙ ap (replicate (length views)) c.empty_view.ensures in
+    items ∙ views_kept views c.deref_mut.result.now out c.args.mask.now c.runs.result.now zero c.runs.ensures.apart c.runs.ensures.trues c.requires c.copy_runs.ensures.len c.copy_runs.ensures.copied

@@ -3,4 +3,4 @@ use Rattle.vx_base.specs.Bits.{bool_at}
 use Rattle.vx_tree.proofs.validity.patch.copy_mask.Given as goal
 
 abbrev pub invariant-loop-row : goal.invariant-loop-row
-invariant-loop-row l = record { long : length l.out ≡ length l.mask; each : (k : ℕ) → k < l.row → get_or l.out k false ≡ bool_at l.mask k }
+invariant-loop-row l = record { same : l.rows ≡ l.mask; long : length l.out ≡ length l.mask; each : (k : ℕ) → k < l.row → get_or l.out k false ≡ bool_at l.mask k }
