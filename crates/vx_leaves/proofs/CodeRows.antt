@@ -1,9 +1,9 @@
 -- Codes that are read one after another, and what is known where none of them is faulty.
-use Rattle.std.proofs.Common.{ℕ, zero, suc, ◌<◌, ◌≤◌, ◌≡◌, Bool, true, false, List, [], ◌∷◌, length, Option, Some, None, inr, refl, sym, ◌∙◌, ap, subst, arith}
-use Rattle.std.specs.Prelude.{ℤ, pos, negsuc, nat_lt, if◌then◌else◌, ◌≤ℤ◌, ◌<ℤ◌, IsSome, Result, Ok, Err}
+use Rattle.std.proofs.Common.{ℕ, zero, suc, ◌<◌, ◌≤◌, ◌≡◌, Bool, true, false, List, [], ◌∷◌, length, Option, Some, None, inl, inr, refl, sym, ◌∙◌, ap, subst, arith}
+use Rattle.std.specs.Prelude.{ℤ, pos, negsuc, nat_lt, nat_le, if◌then◌else◌, ◌≤ℤ◌, ◌<ℤ◌, IsSome, Result, Ok, Err}
 use Rattle.std.specs.Int.Signed.{le_z}
 use Rattle.std.specs.List.{list_all}
-use Rattle.std.proofs.lemmas.Bool.{lt-ltb, ltb-true}
+use Rattle.std.proofs.lemmas.Bool.{cases_lt, lt-leb, le-leb, lt-ltb, ltb-true}
 use Rattle.std.proofs.lemmas.Int.{ints}
 use Rattle.vx_base.specs.declared.errors.VortexError.{VortexError}
 use Rattle.vx_base.specs.declared.ptypes.PType.{PType}
@@ -12,7 +12,7 @@ use Rattle.vx_base.specs.Integers.{numbers, number_nth, least}
 use Rattle.vx_base.specs.Kinds.{Kind, booleans, integers, texts, binaries, lists, fixed_lists, records, is_integers, Fits}
 use Rattle.vx_base.specs.Refusals.{Refusal, out_of_bounds, Refuses, Tests, Names, first_fault}
 use Rattle.vx_base.specs.Rows.{Row, null, boolean, whole, bytes, text, items, record_of}
-use Rattle.vx_base.proofs.FirstFaults.{first_fault-of_none, first_fault-found, first_fault-none_at}
+use Rattle.vx_base.proofs.FirstFaults.{or_else-first, first_fault-of_none, first_fault-found, first_fault-none_at, first_fault-same}
 use Rattle.vx_tree.specs.Faults.{index_fault, indices_fault}
 use Rattle.vx_tree.specs.Formed.{IsCode, IsDictionary}
 use Rattle.vx_tree.specs.Meaning.{tree_len, kind_of, row_at}
@@ -29,6 +29,51 @@ Refuses-tests (Err e) fault other same names = inr (same ∙ names.1)
 -- a fault after rows without one is the first
 pub Names-met : (fault : ℕ → Option Refusal) (n row : ℕ) (e : VortexError) → first_fault fault row ≡ None → Names (fault row) e → row < n → Names (first_fault fault n) e
 Names-met fault n row e none (some, same) inside = (some, first_fault-found fault n row none (subst IsSome (sym same) some) inside ∙ same)
+
+-- a fault of the first rows is the first of more
+first_fault-longer : (fault : ℕ → Option Refusal) (m n : ℕ) → m ≤ n → IsSome (first_fault fault m) → first_fault fault n ≡ first_fault fault m
+first_fault-longer fault m zero le some = let same : zero ≡ m = omega arith in ap (first_fault fault) same
+first_fault-longer fault m (suc n) le some = elim (cases_lt n m) [
+  | inl more ↦ let same : suc n ≡ m = omega arith in ap (first_fault fault) same
+  | inr upto ↦ or_else-first (first_fault fault n) (fault n) (first_fault fault m) (first_fault-longer fault m n upto some) some
+]
+
+pub Names-longer : (fault : ℕ → Option Refusal) (m n : ℕ) (e : VortexError) → m ≤ n → Names (first_fault fault m) e → Names (first_fault fault n) e
+Names-longer fault m n e le (some, same) = let here : IsSome (first_fault fault m) = subst IsSome (sym same) some in (some, first_fault-longer fault m n le here ∙ same)
+
+-- ---- the rows of a run
+
+-- the fault of a row of a run, where those before it are null
+abbrev pub run_fault : ℕ → List ℤ → ℕ → ℕ → Option Refusal
+run_fault len zs start i = index_fault len i (if nat_le start i then whole (number_nth zs i) else null)
+
+pub run_fault-before : (len : ℕ) (zs : List ℤ) (start : ℕ) → first_fault (run_fault len zs start) start ≡ None
+run_fault-before len zs start = first_fault-of_none (run_fault len zs start) start (λ i inside. ap (λ b. index_fault len i (if b then whole (number_nth zs i) else null)) (lt-leb start i inside))
+
+pub run_fault-in : (len : ℕ) (zs : List ℤ) (start i : ℕ) → start ≤ i → run_fault len zs start i ≡ index_fault len i (whole (number_nth zs i))
+run_fault-in len zs start i low = ap (λ b. index_fault len i (if b then whole (number_nth zs i) else null)) (le-leb start i low)
+
+module _ (p : PType) (bs : List ℕ) (mask : List Bool) (len : ℕ) where
+  -- a row at which the mask is false has no fault
+  pub masked_out : (i : ℕ) → bool_at mask i ≡ false → index_fault len i (row_at (masked_numbers p bs mask) i) ≡ None
+  masked_out i off = ap (λ b. index_fault len i (if b then whole (number_nth (numbers p bs) i) else null)) off
+
+  -- the others have that of their numbers
+  pub masked_in : (start i : ℕ) → start ≤ i → bool_at mask i ≡ true → index_fault len i (row_at (masked_numbers p bs mask) i) ≡ run_fault len (numbers p bs) start i
+  masked_in start i low on = ap (λ b. index_fault len i (if b then whole (number_nth (numbers p bs) i) else null)) on ∙ sym (run_fault-in len (numbers p bs) start i low)
+
+  -- the fault of a run, where no row before it has one, is the first
+  pub Names-run : (start end n : ℕ) (e : VortexError) → start ≤ end → end ≤ n → ((i : ℕ) → i < start → index_fault len i (row_at (masked_numbers p bs mask) i) ≡ None)
+      → ((i : ℕ) → start ≤ i → i < end → bool_at mask i ≡ true) → Names (first_fault (run_fault len (numbers p bs) start) end) e
+      → Names (first_fault (λ i. index_fault len i (row_at (masked_numbers p bs mask) i)) n) e
+  Names-run start end n e le within before all names =
+      let fault = λ (i : ℕ). index_fault len i (row_at (masked_numbers p bs mask) i) in
+      let alike : first_fault fault end ≡ first_fault (run_fault len (numbers p bs) start) end =
+      first_fault-same fault (run_fault len (numbers p bs) start) end (λ i inside. elim (cases_lt i start) [
+        | inl early ↦ before i early ∙ sym (ap (λ b. index_fault len i (if b then whole (number_nth (numbers p bs) i) else null)) (lt-leb start i early))
+        | inr late ↦ masked_in start i late (all i late inside)
+      ]) in
+      Names-longer fault end n e within (subst (λ o. Names o e) (sym alike) names)
 
 -- ---- one row, however often
 

@@ -2,9 +2,14 @@ pub mod CodeRows
 pub mod MarkedBits
 pub mod MaskedRows
 pub mod NamedValues
+pub mod ScanEnds
+pub mod ScannedCodes
 pub mod NarrowedRows
 pub mod NarrowedTypes
 pub mod NumbersPut
 pub mod SpreadRows
 pub mod ValueRows
 pub mod Widths
+pub mod RunRows
+pub mod MarkedRuns
+pub mod NumbersPlaced

@@ -20,17 +20,7 @@ use Rattle.vx_leaves.specs.Dictionaries.{codes_in, values_in, referenced_flag, I
 
 -- ---- marks
 
--- marks follow which codes count alone
-pub AreNamed-same : (ps : List ℕ) (counts counts' : ℕ → Bool) (n count : ℕ) (r : Bool) (bits : List Bool) → ((i : ℕ) → i < n → counts i ≡ counts' i) → AreNamed ps counts n count r bits → AreNamed ps counts' n count r bits
-AreNamed-same ps counts counts' n count r bits same named = record {
-  len = named.len;
-  each = λ j inside. (
-    (λ is. let found = (named.each j inside).0 is in (found.0, found.1, sym (same found.0 found.1) ∙ found.2, found.3)),
-    (λ (found : IsNamed ps counts' n j). (named.each j inside).1 (found.0, found.1, same found.0 found.1 ∙ found.2, found.3)),
-  );
-}
-
--- and the places alone that count
+-- marks follow the places that count alone
 pub AreNamed-places : (ps qs : List ℕ) (counts : ℕ → Bool) (n count : ℕ) (r : Bool) (bits : List Bool) → ((i : ℕ) → i < n → counts i ≡ true → slice_index ps i ≡ slice_index qs i) → AreNamed ps counts n count r bits → AreNamed qs counts n count r bits
 AreNamed-places ps qs counts n count r bits same named = record {
   len = named.len;
@@ -81,13 +71,9 @@ module _ (ps : List ℕ) (counts : ℕ → Bool) (n : ℕ) (r : Bool) (old : Lis
       step true counted = named_marked counted (within counted)
       step false skipped = named_skipped skipped
 
--- where a mask is all true, every code counts
-pub all_count : (mask : List Bool) (n : ℕ) → length mask ≡ n → count_by (λ b. b) mask ≡ length mask → (i : ℕ) → i < n → true ≡ bool_at mask i
-all_count mask n len all i inside = sym (ap (λ m. bool_at m i) (all_true_from_count mask all) ∙ get_or-replicate (length mask) i true false (omega arith))
-
 -- ---- codes
 
-some_is : (o : Option ℕ) (k j : ℕ) → is_some o ≡ true → k ≡ or_zero o → k ≡ j → o ≡ Some j
+pub some_is : (o : Option ℕ) (k j : ℕ) → is_some o ≡ true → k ≡ or_zero o → k ≡ j → o ≡ Some j
 some_is None k j s e h = cc
 some_is (Some p) k j s e h = ap Some (sym e ∙ h)
 
@@ -143,7 +129,7 @@ module _ (c v : Tree) (ps : List ℕ) (w : Valid) (mask : List Bool) (n bound : 
   pub mask_len : length mask ≡ length ps
   mask_len = ap length made ∙ length-map-range_with_len (is_valid_at w) 0 n ∙ len ∙ sym are.len
 
-  counts_is : (i : ℕ) → i < tree_len c → bool_at mask i ≡ is_some (position_in (row_at c i))
+  pub counts_is : (i : ℕ) → i < tree_len c → bool_at mask i ≡ is_some (position_in (row_at c i))
   counts_is i inside =
       ap (λ m. bool_at m i) made ∙ get_or-map-range_with_len (is_valid_at w) 0 n i i false (omega arith) (zero-add i) ∙ valid.bits i inside ∙ sym (are.each i inside).present
 
@@ -213,7 +199,7 @@ not_marked r n bits j made inside marked =
 
 -- ---- all of them
 
-count_all : (bits : List Bool) → ((j : ℕ) → j < length bits → bool_at bits j ≡ true) → count_by (λ b. b) bits ≡ length bits
+pub count_all : (bits : List Bool) → ((j : ℕ) → j < length bits → bool_at bits j ≡ true) → count_by (λ b. b) bits ≡ length bits
 count_all [] all = refl
 count_all (true ∷ bits) all = count-true bits ∙ omega (arith, count_all bits (λ j inside. all (suc j) (omega arith)))
 count_all (false ∷ bits) all = absurd (false≢true (all 0 (omega arith)))

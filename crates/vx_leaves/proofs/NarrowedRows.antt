@@ -1,9 +1,10 @@
 -- Numbers under a mask, one after another, and the array of the narrowed ones.
-use Rattle.std.proofs.Common.{ℕ, ◌+◌, ◌*◌, ◌<◌, ◌≤◌, ◌≡◌, zero, suc, Bool, true, false, cond, List, [], ◌∷◌, ◌++◌, length, take, map, replicate, refl, sym, ◌∙◌, ap, subst, arith}
+use Rattle.std.proofs.Common.{ℕ, ◌+◌, ◌-◌, ◌*◌, ◌<◌, ◌≤◌, ◌≡◌, zero, suc, Bool, true, false, cond, List, [], ◌∷◌, ◌++◌, length, take, map, replicate, refl, sym, ◌∙◌, ap, subst, append-nil, append_assoc, arith}
 use Rattle.std.specs.Prelude.{ℤ, pos, count_by}
 use Rattle.std.specs.List.{All, range_with_len}
 use Rattle.std.proofs.lemmas.List.{take_more, take_all, length-take-le}
 use Rattle.std.proofs.lemmas.List.Elements.{All-nil, All-cons}
+use Rattle.std.proofs.lemmas.List.FromFn.{map-range_with_len_more}
 use Rattle.vx_base.specs.declared.ptypes.PType.{PType}
 use Rattle.vx_base.specs.Bits.{bool_at}
 use Rattle.vx_base.specs.Integers.{byte_width, number_nth, numbers, Holds}
@@ -11,7 +12,7 @@ use Rattle.vx_base.specs.Kinds.{integers, Fits}
 use Rattle.vx_base.specs.Rows.{Row, null, boolean, whole, bytes, text, items, record_of}
 use Rattle.std.proofs.Math.Nat.{mul-le-mul_right}
 use Rattle.vx_base.proofs.NumberLists.{numbers_room}
-use Rattle.vx_base.proofs.MaskCounts.{count-false, all_true_from_count}
+use Rattle.vx_base.proofs.MaskCounts.{count-false}
 use Rattle.vx_base.proofs.Zeroes.{holds-zero}
 use Rattle.vx_tree.specs.Tree.{Tree, primitive, Valid}
 use Rattle.vx_tree.specs.Meaning.{tree_len, kind_of, row_at, rows, valid_mask, nullable}
@@ -58,25 +59,43 @@ length-zeroed [] zs e = refl
 length-zeroed (b ∷ mask) [] e = absurd (omega arith)
 length-zeroed (b ∷ mask) (z ∷ zs) e = omega (arith, length-zeroed mask zs (omega arith))
 
--- ---- where the mask is all true, or nowhere
+-- rows under a mask that is false there keep nothing
+kept_falses_by : (mask : List Bool) (zs : List ℤ) (a n : ℕ) → length mask ≡ length zs → a + n ≤ length mask → ((k : ℕ) → a ≤ k → k < a + n → bool_at mask k ≡ false)
+    → kept (take (a + n) mask) (take (a + n) zs) ≡ kept (take a mask) (take a zs)
+kept_falses_by mask zs a zero e within none = let here : a + 0 ≡ a = omega arith in ap (λ k. kept (take k mask) (take k zs)) here
+kept_falses_by mask zs a (suc n) e within none =
+    let next : a + suc n ≡ a + n + 1 = omega arith in
+    ap (λ k. kept (take k mask) (take k zs)) next ∙ kept_more mask zs (a + n) e (omega arith)
+    ∙ ap (λ b. kept (take (a + n) mask) (take (a + n) zs) ++ cond b (number_nth zs (a + n) ∷ []) []) (none (a + n) (omega arith) (omega arith))
+    ∙ append-nil (kept (take (a + n) mask) (take (a + n) zs)) ∙ kept_falses_by mask zs a n e (omega arith) (λ k low high. none k low (omega arith))
 
-kept_trues : (n : ℕ) (zs : List ℤ) → n ≡ length zs → kept (replicate n true) zs ≡ zs
-kept_trues zero [] e = refl
-kept_trues zero (z ∷ zs) e = absurd (omega arith)
-kept_trues (suc n) [] e = absurd (omega arith)
-kept_trues (suc n) (z ∷ zs) e = ap (λ ys. z ∷ ys) (kept_trues n zs (omega arith))
+pub kept_gap : (mask : List Bool) (zs : List ℤ) (a b : ℕ) → length mask ≡ length zs → a ≤ b → b ≤ length mask → ((k : ℕ) → a ≤ k → k < b → bool_at mask k ≡ false)
+    → kept (take b mask) (take b zs) ≡ kept (take a mask) (take a zs)
+kept_gap mask zs a b e le within none =
+    let size : a + (b - a) ≡ b = omega arith in
+    ap (λ k. kept (take k mask) (take k zs)) (sym size) ∙ kept_falses_by mask zs a (b - a) e (omega arith) (λ k low high. none k low (omega arith))
 
-zeroed_trues : (n : ℕ) (zs : List ℤ) → n ≡ length zs → zeroed (replicate n true) zs ≡ zs
-zeroed_trues zero [] e = refl
-zeroed_trues zero (z ∷ zs) e = absurd (omega arith)
-zeroed_trues (suc n) [] e = absurd (omega arith)
-zeroed_trues (suc n) (z ∷ zs) e = ap (λ ys. z ∷ ys) (zeroed_trues n zs (omega arith))
+-- and under one that is true there each number
+kept_trues_by : (mask : List Bool) (zs : List ℤ) (a n : ℕ) → length mask ≡ length zs → a + n ≤ length mask → ((k : ℕ) → a ≤ k → k < a + n → bool_at mask k ≡ true)
+    → kept (take (a + n) mask) (take (a + n) zs) ≡ kept (take a mask) (take a zs) ++ map (number_nth zs) (range_with_len a n)
+kept_trues_by mask zs a zero e within all = let here : a + 0 ≡ a = omega arith in ap (λ k. kept (take k mask) (take k zs)) here ∙ sym (append-nil (kept (take a mask) (take a zs)))
+kept_trues_by mask zs a (suc n) e within all =
+    let next : a + suc n ≡ a + n + 1 = omega arith in
+    let one : n + 1 ≡ suc n = omega arith in
+    let old = kept (take a mask) (take a zs) in
+    ap (λ k. kept (take k mask) (take k zs)) next ∙ kept_more mask zs (a + n) e (omega arith)
+    ∙ ap (λ b. kept (take (a + n) mask) (take (a + n) zs) ++ cond b (number_nth zs (a + n) ∷ []) []) (all (a + n) (omega arith) (omega arith))
+    ∙ ap (λ ys. ys ++ number_nth zs (a + n) ∷ []) (kept_trues_by mask zs a n e (omega arith) (λ k low high. all k low (omega arith)))
+    ∙ append_assoc old (map (number_nth zs) (range_with_len a n)) (number_nth zs (a + n) ∷ [])
+    ∙ ap (λ ys. old ++ ys) (sym (map-range_with_len_more (number_nth zs) a n (a + n) refl) ∙ ap (λ m. map (number_nth zs) (range_with_len a m)) one)
 
-pub kept_all : (mask : List Bool) (zs : List ℤ) → length mask ≡ length zs → count_by (λ b. b) mask ≡ length mask → kept mask zs ≡ zs
-kept_all mask zs e all = ap (λ m. kept m zs) (all_true_from_count mask all) ∙ kept_trues (length mask) zs e
+pub kept_run : (mask : List Bool) (zs : List ℤ) (a b : ℕ) → length mask ≡ length zs → a ≤ b → b ≤ length mask → ((k : ℕ) → a ≤ k → k < b → bool_at mask k ≡ true)
+    → kept (take b mask) (take b zs) ≡ kept (take a mask) (take a zs) ++ map (number_nth zs) (range_with_len a (b - a))
+kept_run mask zs a b e le within all =
+    let size : a + (b - a) ≡ b = omega arith in
+    ap (λ k. kept (take k mask) (take k zs)) (sym size) ∙ kept_trues_by mask zs a (b - a) e (omega arith) (λ k low high. all k low (omega arith))
 
-pub zeroed_all : (mask : List Bool) (zs : List ℤ) → length mask ≡ length zs → count_by (λ b. b) mask ≡ length mask → zeroed mask zs ≡ zs
-zeroed_all mask zs e all = ap (λ m. zeroed m zs) (all_true_from_count mask all) ∙ zeroed_trues (length mask) zs e
+-- ---- where the mask is nowhere true
 
 kept_none : (mask : List Bool) (zs : List ℤ) → length mask ≡ length zs → kept mask zs ≡ [] → count_by (λ b. b) mask ≡ 0
 kept_none [] zs e none = refl

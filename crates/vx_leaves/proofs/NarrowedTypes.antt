@@ -296,20 +296,19 @@ IsSpan-none t m g m_is g_is = record {
   below = λ hi h. sym (ap (λ z. le_z z hi) g_is ∙ of_le (least t) hi h);
 }
 
-one_more : (p : ℤ → Bool) (zs : List ℤ) (b : Bool) (z : ℤ) → list_all p (zs ++ cond b (z ∷ []) []) ≡ (list_all p zs && cond b (p z) true)
-one_more p zs true z = list_all-append p zs (z ∷ []) ∙ ap (λ c. list_all p zs && c) (and_true (p z))
+one_more : (p : ℤ → Bool) (zs : List ℤ) (z : ℤ) → list_all p (zs ++ z ∷ []) ≡ (list_all p zs && p z)
+one_more p zs z = list_all-append p zs (z ∷ []) ∙ ap (λ c. list_all p zs && c) (and_true (p z))
   where
     and_true : (c : Bool) → (c && true) ≡ c
     and_true true = refl
     and_true false = refl
-one_more p zs false z = list_all-append p zs []
 
--- one number more, where it counts
-pub IsSpan-more : (t : PType) (zs : List ℤ) (b : Bool) (z m g m' g' : ℤ) → IsSpan t zs m g → ((lo : ℤ) → le_z lo m' ≡ (le_z lo m && cond b (le_z lo z) true))
-    → ((hi : ℤ) → le_z g' hi ≡ (le_z g hi && cond b (le_z z hi) true)) → IsSpan t (zs ++ cond b (z ∷ []) []) m' g'
-IsSpan-more t zs b z m g m' g' span low high = record {
-  above = λ lo h. one_more (λ y. le_z lo y) zs b z ∙ ap (λ c. c && cond b (le_z lo z) true) (span.above lo h) ∙ sym (low lo);
-  below = λ hi h. one_more (λ y. le_z y hi) zs b z ∙ ap (λ c. c && cond b (le_z z hi) true) (span.below hi h) ∙ sym (high hi);
+-- one number more
+pub IsSpan-more : (t : PType) (zs : List ℤ) (z m g m' g' : ℤ) → IsSpan t zs m g → ((lo : ℤ) → le_z lo m' ≡ (le_z lo m && le_z lo z))
+    → ((hi : ℤ) → le_z g' hi ≡ (le_z g hi && le_z z hi)) → IsSpan t (zs ++ z ∷ []) m' g'
+IsSpan-more t zs z m g m' g' span low high = record {
+  above = λ lo h. one_more (λ y. le_z lo y) zs z ∙ ap (λ c. c && le_z lo z) (span.above lo h) ∙ sym (low lo);
+  below = λ hi h. one_more (λ y. le_z y hi) zs z ∙ ap (λ c. c && le_z z hi) (span.below hi h) ∙ sym (high hi);
 }
 
 module _ (t : PType) (zs : List ℤ) (m g : ℤ) (span : IsSpan t zs m g) where

@@ -1,5 +1,5 @@
 -- Dictionaries: their parts, the fault of these, and which values are referenced.
-use Rattle.std.specs.Prelude.{◌≡◌, ◌<◌, ◌↔◌, ℕ, Bool, true, false, List, codes, Option, Some, length, map, unsigned_abs}
+use Rattle.std.specs.Prelude.{◌≡◌, ◌⊎◌, ◌≤◌, ◌<◌, ◌↔◌, ℕ, Bool, true, false, List, codes, Option, Some, length, map, unsigned_abs}
 use Rattle.std.specs.Prelude.{slice_index, if◌then◌else◌}
 use Rattle.vx_base.specs.Bits.{bool_at}
 use Rattle.vx_base.specs.Integers.{numbers}
@@ -52,6 +52,15 @@ IsNamed ps counts n j = (i : ℕ) × (i < n) × (counts i ≡ true) × (slice_in
 pub record AreNamed (ps : List ℕ) (counts : ℕ → Bool) (n count : ℕ) (r : Bool) (bits : List Bool) : Type 0 where
   pub len : length bits ≡ count
   pub each : (j : ℕ) → j < count → (bool_at bits j ≡ r) ↔ IsNamed ps counts n j
+
+-- some of the codes from first up to last is j
+abbrev pub NamesAmong : List ℕ → ℕ → ℕ → ℕ → Type 0
+NamesAmong ps first last j = (i : ℕ) × (first ≤ i) × (i < last) × (slice_index ps i ≡ j)
+
+-- the codes from first up to last mark what they name: a boolean is r where it was, and where one of them names it
+pub record Marks (ps : List ℕ) (first last : ℕ) (r : Bool) (old new : List Bool) : Type 0 where
+  pub len : length new ≡ length old
+  pub each : (j : ℕ) → j < length old → (bool_at new j ≡ r) ↔ ((bool_at old j ≡ r) ⊎ NamesAmong ps first last j)
 
 -- the places that the numbers of bytes name, where they are not negative
 abbrev pub number_places : PType → List ℕ → List ℕ

@@ -1,4 +1,5 @@
 pub mod Dictionaries
+pub mod Scan
 pub mod Leaves
 pub mod Narrow
 pub mod Spread

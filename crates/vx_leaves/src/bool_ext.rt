@@ -1,6 +1,6 @@
 // What an array of truth values tells of its parts, and its truth values as a mask.
 
-ghost use Rattle.std.specs.Prelude.{◌≡◌, ℕ, true, false, length, IfOk, IfSome, MatchOption};
+ghost use Rattle.std.specs.Prelude.{◌≡◌, ℕ, true, false, IfOk, MatchOption};
 ghost use Rattle.vx_base.specs.Bits.{both};
 ghost use Rattle.vx_base.specs.DTypes.{is_nullable};
 ghost use Rattle.vx_base.specs.Refusals.{Gives, Refuses};
@@ -14,7 +14,7 @@ ghost use Rattle.vx_leaves.specs.Leaves.{bits_in, validity_in, null_fault};
 use crate::bool_array::BoolArray;
 use std::alloc::Global;
 use vx_base::{BitBuffer, BitBufferView, Mask, Nullability, VortexError};
-use vx_tree::{ArrayRef, Layout, TypedArray, Validity};
+use vx_tree::{ArrayRef, TypedArray, Validity};
 
 /// The children of an array of truth values.
 #[derive(Drop)]
@@ -96,12 +96,8 @@ impl BoolArrayExt for BoolArray {
 
     fn to_mask_fill_null_false(&self, alloc: Global) -> Result<Mask, VortexError> {
         let parts = self.parts();
-        if let Some(valid) = bits_that_tell(parts.validity) {
-            let both = parts.bits.and(alloc, valid)?;
-            return Mask::from_buffer(alloc, both);
-        }
         let valid = valid_rows(alloc, parts.validity, parts.bits.len())?;
-        true_and_valid(alloc, parts.bits, &valid)
+        Mask::from_buffer_within(alloc, parts.bits, &valid)
     }
 }
 
@@ -124,42 +120,10 @@ fn are_all_valid(alloc: Global, validity: &Validity, len: usize) -> Result<bool,
     validity.execute_no_nulls(alloc, len)
 }
 
-// The bits that tell which rows are valid, where a plain array of truth values does.
-fn bits_that_tell(validity: &Validity) -> Option<&BitBuffer>
-    ensures { (n : ℕ) → ValidFits (valid_of validity.now) n
-        → IfSome result (λ b. b.now.bits ≡ valid_mask (valid_of validity.now) n) }
-{
-    let Validity::Array(array) = validity else {
-        return None;
-    };
-    match array.layout() {
-        Layout::Bool { bits, .. } => Some(bits),
-        _ => None,
-    }
-}
-
 // Which of the rows are valid.
 fn valid_rows(alloc: Global, validity: &Validity, len: usize) -> Result<Mask, VortexError>
     requires { ValidFits (valid_of validity.now) len }
     ensures { Gives result (λ m. m ≡ valid_mask (valid_of validity.now) len) }
 {
     validity.execute_mask(alloc, len)
-}
-
-// True where the bit is set and the row is valid.
-fn true_and_valid(alloc: Global, bits: &BitBuffer, valid: &Mask) -> Result<Mask, VortexError>
-    requires { length valid.now ≡ length bits.now.bits }
-    ensures { Gives result (λ m. m ≡ both bits.now.bits valid.now) }
-{
-    if valid.all_true() {
-        let bits = bits.try_clone(alloc)?;
-        return Mask::from_buffer(alloc, bits);
-    }
-    match valid.values() {
-        Some(values) => {
-            let bits = bits.and(alloc, &values.bit_buffer(alloc)?)?;
-            Mask::from_buffer(alloc, bits)
-        }
-        None => Ok(Mask::new_false(valid.len())),
-    }
 }

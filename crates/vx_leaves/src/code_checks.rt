@@ -1,10 +1,10 @@
 // Whether codes are positions of values: they are read where they lie, and none is written.
 
-ghost use Rattle.std.specs.Prelude.{◌≡◌, ◌<◌, ◌≤◌, ◌-◌, ◌^◌, ◌≤ℤ◌, pos, true, length};
-ghost use Rattle.vx_base.specs.Integers.{numbers};
+ghost use Rattle.std.specs.Prelude.{◌≡◌, ◌<◌, ◌≤◌, ◌-◌, ◌^◌, ◌≤ℤ◌, pos, true, length, nat_le, if◌then◌else◌};
+ghost use Rattle.vx_base.specs.Integers.{numbers, number_nth};
 ghost use Rattle.vx_base.specs.Kinds.{is_integers};
 ghost use Rattle.vx_base.specs.Refusals.{Refuses, Tests, first_fault};
-ghost use Rattle.vx_base.specs.Rows.{whole};
+ghost use Rattle.vx_base.specs.Rows.{null, whole};
 ghost use Rattle.vx_tree.specs.Faults.{index_fault, indices_fault};
 ghost use Rattle.vx_tree.specs.Meaning.{tree_len, kind_of, row_at};
 ghost use Rattle.vx_tree.specs.Operations.{masked_numbers};
@@ -95,33 +95,40 @@ fn check_typed<T: NativePType>(bytes: &[u8], mask: &Mask, len: usize) -> Result<
     check_each::<T>(bytes, mask, len)
 }
 
-// Tests one number after another.
+// Tests the numbers of one run after another: a null row is no fault.
 fn check_each<T: NativePType>(bytes: &[u8], mask: &Mask, len: usize) -> Result<(), VortexError>
     requires { length mask.now ≡ length (numbers T.PTYPE bytes.now) }
     ensures { Tests result (indices_fault len (masked_numbers T.PTYPE bytes.now mask.now)) }
 {
-    for row in 0..mask.len() {
-        check_masked(bytes, T::PTYPE, mask, row, len)?;
+    for run in mask.runs() {
+        let (start, end) = *run;
+        check_run::<T>(bytes, (start, end), len)?;
     }
     Ok(())
 }
 
-// Whether the number of a row is a position below `len`, where the mask is true.
-#[inline]
-fn check_masked(
+// Tests one number of a run after another.
+fn check_run<T: NativePType>(
     bytes: &[u8],
-    ptype: PType,
-    mask: &Mask,
-    row: usize,
+    run: (usize, usize),
     len: usize,
 ) -> Result<(), VortexError>
-    requires same_len { length mask.now ≡ length (numbers ptype bytes.now) }
-    requires in_bounds { row < length mask.now }
-    ensures { Tests result (index_fault len row (row_at (masked_numbers ptype bytes.now mask.now) row)) }
+    requires order { run.0 ≤ run.1 }
+    requires here { run.1 ≤ length (numbers T.PTYPE bytes.now) }
+    ensures { Tests result (first_fault (λ i. index_fault len i
+        (if nat_le run.0 i then whole (number_nth (numbers T.PTYPE bytes.now) i) else null)) run.1) }
 {
-    if mask.value(row) {
-        check_number(int_at(bytes, ptype, row), row, len)
-    } else {
-        Ok(())
+    for row in run.0..run.1 {
+        check_number_at(bytes, T::PTYPE, row, len)?;
     }
+    Ok(())
+}
+
+// Whether the number of a row is a position below `len`.
+#[inline]
+fn check_number_at(bytes: &[u8], ptype: PType, row: usize, len: usize) -> Result<(), VortexError>
+    requires { row < length (numbers ptype bytes.now) }
+    ensures { Tests result (index_fault len row (whole (number_nth (numbers ptype bytes.now) row))) }
+{
+    check_number(int_at(bytes, ptype, row), row, len)
 }

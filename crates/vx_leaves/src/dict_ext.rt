@@ -1,17 +1,18 @@
 // What a dictionary tells of its values and parts.
 
-ghost use Rattle.std.specs.Prelude.{◌≡◌, ◌≢◌, ◌<◌, ◌≤◌, ℕ, true, length, IsTrue, if◌then◌else◌, slice_index, slice_set};
+ghost use Rattle.std.specs.Prelude.{◌≡◌, ◌≢◌, ◌<◌, ℕ, length, IsTrue};
 ghost use Rattle.vx_base.specs.Bits.{bool_at};
 ghost use Rattle.vx_base.specs.DTypes.{dtype_meaning};
-ghost use Rattle.vx_base.specs.Integers.{numbers};
 ghost use Rattle.vx_base.specs.Refusals.{Gives};
 ghost use Rattle.vx_tree.specs.Formed.{ReferencesAll};
 ghost use Rattle.vx_tree.specs.Meaning.{kind_of, tree_len};
-ghost use Rattle.vx_leaves.specs.Dictionaries.{codes_in, values_in, referenced_flag, MarksReferenced, AreNamed, number_places};
+ghost use Rattle.vx_leaves.specs.Dictionaries.{codes_in, values_in, referenced_flag, MarksReferenced};
+ghost use Rattle.vx_leaves.specs.Scan.{EndsScan};
 
+use crate::code_scan::{scan_constant, scan_numbers, scan_places};
 use crate::dict_array::DictArray;
 use std::alloc::Global;
-use vx_base::{BitBuffer, DType, Mask, NativePType, PType, VortexError, call_native, int_at};
+use vx_base::{BitBuffer, DType, VortexError};
 use vx_tree::{ArrayRef, Layout, TypedArray};
 
 /// The parts of a dictionary.
@@ -46,6 +47,17 @@ pub trait DictArrayExt: TypedArray {
         referenced: bool,
     ) -> Result<BitBuffer, VortexError>
         ensures { Gives result (λ b. MarksReferenced (Self.as_tree self.now) referenced b.bits) };
+
+    /// The same booleans, and how many codes were read to tell them. The codes are read in blocks
+    /// of 2,048, and reading ends after the first block but the last by which every value is
+    /// referenced: where the codes 0, 1, 0, 1 and so on are 5,000 into two values, 2,048 are read.
+    fn referenced_values_scan(
+        &self,
+        alloc: Global,
+        referenced: bool,
+    ) -> Result<(BitBuffer, usize), VortexError>
+        ensures bits { Gives result (λ scan. MarksReferenced (Self.as_tree self.now) referenced scan.0.bits) }
+        ensures end { Gives result (λ scan. EndsScan (Self.as_tree self.now) scan.1) };
 }
 
 /// A dictionary that is taken apart.
@@ -72,10 +84,19 @@ impl DictArrayExt for DictArray {
         alloc: Global,
         referenced: bool,
     ) -> Result<BitBuffer, VortexError> {
+        let (bits, _) = self.referenced_values_scan(alloc, referenced)?;
+        Ok(bits)
+    }
+
+    fn referenced_values_scan(
+        &self,
+        alloc: Global,
+        referenced: bool,
+    ) -> Result<(BitBuffer, usize), VortexError> {
         let count = self.parts().values.len();
         let mut marks = vec![in alloc; !referenced; count]?;
-        mark_references(alloc, self, referenced, &mut marks)?;
-        BitBuffer::from_bools(alloc, &marks)
+        let end = mark_references(alloc, self, referenced, &mut marks)?;
+        Ok((BitBuffer::from_bools(alloc, &marks)?, end))
     }
 }
 
@@ -90,149 +111,31 @@ impl DictOwnedExt for DictArray {
     }
 }
 
-// Marks the values of a dictionary that some valid code names: codes that are plain numbers are
-// read where they lie.
+// Marks the values that some valid code of a dictionary names, and tells where the scan ended.
+// Codes that are plain numbers are read where they lie, and codes that are one row once.
 fn mark_references(
     alloc: Global,
     dictionary: &DictArray,
     referenced: bool,
     out: &mut [bool],
-) -> Result<(), VortexError>
+) -> Result<usize, VortexError>
     requires room { length out.old ≡ tree_len (values_in dictionary.now) }
     requires none { (j : ℕ) → j < length out.old → bool_at out.old j ≢ referenced }
-    ensures { Gives result (λ _. MarksReferenced dictionary.now referenced out.new) }
+    ensures marks { Gives result (λ _. MarksReferenced dictionary.now referenced out.new) }
+    ensures end { Gives result (λ end. EndsScan dictionary.now end) }
 {
     let codes = dictionary.parts().codes;
     let validity = codes.validity(alloc)?;
     let mask = validity.execute_mask(alloc, codes.len())?;
     match codes.layout() {
         Layout::Primitive { ptype, bytes, .. } => {
-            mark_numbers(*ptype, bytes.as_slice(), &mask, referenced, out);
+            let bytes = bytes.as_slice();
+            Ok(scan_numbers(*ptype, bytes, &mask, referenced, out))
         }
+        Layout::Constant { .. } => Ok(scan_constant(codes, referenced, out)),
         _ => {
             let positions = codes.positions(alloc, out.len())?;
-            mark_codes(&positions, &mask, referenced, out);
+            Ok(scan_places(&positions, &mask, referenced, out))
         }
-    }
-    Ok(())
-}
-
-// Marks the places that the numbers of these bytes name, save those at which the mask is false.
-fn mark_numbers(ptype: PType, bytes: &[u8], mask: &Mask, referenced: bool, out: &mut [bool])
-    requires same_len { length mask.now ≡ length (numbers ptype bytes.now) }
-    requires within { (i : ℕ) → i < length mask.now → bool_at mask.now i ≡ true
-        → slice_index (number_places ptype bytes.now) i < length out.old }
-    requires none { (j : ℕ) → j < length out.old → bool_at out.old j ≢ referenced }
-    ensures { AreNamed (number_places ptype bytes.now) (bool_at mask.now) (length mask.now)
-        (length out.old) referenced out.new }
-{
-    call_native!(ptype, mark_native(bytes, mask, referenced, out))
-}
-
-// The same for numbers of one type.
-fn mark_native<T: NativePType>(bytes: &[u8], mask: &Mask, referenced: bool, out: &mut [bool])
-    requires same_len { length mask.now ≡ length (numbers T.PTYPE bytes.now) }
-    requires within { (i : ℕ) → i < length mask.now → bool_at mask.now i ≡ true
-        → slice_index (number_places T.PTYPE bytes.now) i < length out.old }
-    requires none { (j : ℕ) → j < length out.old → bool_at out.old j ≢ referenced }
-    ensures { AreNamed (number_places T.PTYPE bytes.now) (bool_at mask.now) (length mask.now)
-        (length out.old) referenced out.new }
-{
-    if mask.all_true() {
-        mark_all::<T>(bytes, mask.len(), referenced, out);
-        return;
-    }
-    mark_valid::<T>(bytes, mask, referenced, out);
-}
-
-// Marks the places that the first `len` numbers name.
-#[inline(never)]
-fn mark_all<T: NativePType>(bytes: &[u8], len: usize, referenced: bool, out: &mut [bool])
-    requires here { len ≤ length (numbers T.PTYPE bytes.now) }
-    requires within { (i : ℕ) → i < len
-        → slice_index (number_places T.PTYPE bytes.now) i < length out.old }
-    requires none { (j : ℕ) → j < length out.old → bool_at out.old j ≢ referenced }
-    ensures { AreNamed (number_places T.PTYPE bytes.now) (λ i. true) len (length out.old)
-        referenced out.new }
-{
-    for row in 0..len {
-        out[place_at(bytes, T::PTYPE, row)] = referenced;
-    }
-}
-
-// The same, the mask read for each.
-#[inline(never)]
-fn mark_valid<T: NativePType>(bytes: &[u8], mask: &Mask, referenced: bool, out: &mut [bool])
-    requires same_len { length mask.now ≡ length (numbers T.PTYPE bytes.now) }
-    requires within { (i : ℕ) → i < length mask.now → bool_at mask.now i ≡ true
-        → slice_index (number_places T.PTYPE bytes.now) i < length out.old }
-    requires none { (j : ℕ) → j < length out.old → bool_at out.old j ≢ referenced }
-    ensures { AreNamed (number_places T.PTYPE bytes.now) (bool_at mask.now) (length mask.now)
-        (length out.old) referenced out.new }
-{
-    for row in 0..mask.len() {
-        let place = place_at(bytes, T::PTYPE, row);
-        mark_where(mask.value(row), place, referenced, out);
-    }
-}
-
-// The place that the number of a row names: its size, which is the number where it names one.
-#[inline]
-fn place_at(bytes: &[u8], ptype: PType, row: usize) -> usize
-    requires { row < length (numbers ptype bytes.now) }
-    ensures { result ≡ slice_index (number_places ptype bytes.now) row }
-{
-    int_at(bytes, ptype, row).unsigned_abs() as usize
-}
-
-// Marks the places that the codes name, save those at which the mask is false.
-fn mark_codes(codes: &[usize], mask: &Mask, referenced: bool, out: &mut [bool])
-    requires same_len { length mask.now ≡ length codes.now }
-    requires within { (i : ℕ) → i < length codes.now → bool_at mask.now i ≡ true
-        → slice_index codes.now i < length out.old }
-    requires none { (j : ℕ) → j < length out.old → bool_at out.old j ≢ referenced }
-    ensures { AreNamed codes.now (bool_at mask.now) (length codes.now) (length out.old) referenced out.new }
-{
-    if mask.all_true() {
-        mark_plain(codes, referenced, out);
-        return;
-    }
-    mark_masked(codes, mask, referenced, out);
-}
-
-// Marks the places that the codes name.
-#[inline(never)]
-fn mark_plain(codes: &[usize], referenced: bool, out: &mut [bool])
-    requires within { (i : ℕ) → i < length codes.now → slice_index codes.now i < length out.old }
-    requires none { (j : ℕ) → j < length out.old → bool_at out.old j ≢ referenced }
-    ensures { AreNamed codes.now (λ i. true) (length codes.now) (length out.old) referenced out.new }
-{
-    for row in 0..codes.len() {
-        out[codes[row]] = referenced;
-    }
-}
-
-// The same, the mask read for each.
-#[inline(never)]
-fn mark_masked(codes: &[usize], mask: &Mask, referenced: bool, out: &mut [bool])
-    requires same_len { length mask.now ≡ length codes.now }
-    requires within { (i : ℕ) → i < length codes.now → bool_at mask.now i ≡ true
-        → slice_index codes.now i < length out.old }
-    requires none { (j : ℕ) → j < length out.old → bool_at out.old j ≢ referenced }
-    ensures { AreNamed codes.now (bool_at mask.now) (length codes.now) (length out.old) referenced out.new }
-{
-    for row in 0..codes.len() {
-        mark_where(mask.value(row), codes[row], referenced, out);
-    }
-}
-
-// Marks a place, where it counts.
-#[inline]
-fn mark_where(counts: bool, place: usize, referenced: bool, out: &mut [bool])
-    requires { IsTrue counts → place < length out.old }
-    ensures { out.new ≡ (if counts then slice_set out.old place referenced else out.old) }
-{
-    if counts {
-        out[place] = referenced;
     }
 }

@@ -6,6 +6,7 @@ mod bool_data;
 mod bool_ext;
 mod bool_iterators;
 mod code_checks;
+mod code_scan;
 mod collect;
 mod constant_array;
 mod dict_array;

@@ -1,18 +1,19 @@
 // Numbers in the narrowest type that has them.
 
-ghost use Rattle.std.specs.Prelude.{◌≡◌, ◌≤◌, ◌<◌, ◌*◌, ℤ, pos, length, if◌then◌else◌, ◌&&◌, true, [], ◌∷◌, IfOk};
+ghost use Rattle.std.specs.Prelude.{◌≡◌, ◌≤◌, ◌<◌, ◌*◌, ◌++◌, ◌&&◌, ℕ, ℤ, List, [], ◌∷◌, length, map, replicate, IfOk};
+ghost use Rattle.std.specs.Prelude.{if◌then◌else◌};
 ghost use Rattle.std.specs.Int.Signed.{le_z};
 ghost use Rattle.std.specs.List.{All};
 ghost use Rattle.vx_base.specs.Integers.{byte_width, numbers, number_nth, least, greatest, Holds};
+ghost use Rattle.vx_base.specs.MaskRuns.{is_in_run};
 ghost use Rattle.vx_base.specs.Refusals.{Gives};
+ghost use Rattle.vx_base.specs.Selections.{run_positions};
 ghost use Rattle.vx_leaves.specs.Narrow.{IsNarrowed, IsSpan, narrowed_type, type_between, first_that_covers, covers, kept, zeroed};
 
 use crate::primitive_array::{PrimitiveArray, primitive_array};
 use crate::spread::read_number;
 use std::alloc::Global;
-use vx_base::{
-    ByteBuffer, Mask, NativePType, PType, VortexError, call_native, int_at, number_count, put_int,
-};
+use vx_base::{ByteBuffer, Mask, NativePType, PType, VortexError, call_native, int_at, put_int};
 use vx_tree::{TypedArray, rows_fit_their_dtype};
 
 // The same rows in the narrowest type that has the numbers of the valid ones. Where the type stays
@@ -58,48 +59,35 @@ fn span(ptype: PType, bytes: &[u8], mask: &Mask) -> (i128, i128)
     call_native!(ptype, typed_span(bytes, mask))
 }
 
-// The same of numbers of one type.
+// The same of numbers of one type, one run after another.
 pub(crate) fn typed_span<T: NativePType>(bytes: &[u8], mask: &Mask) -> (i128, i128)
     requires { length mask.now ≡ length (numbers T.PTYPE bytes.now) }
     ensures { IsSpan T.PTYPE (kept mask.now (numbers T.PTYPE bytes.now)) result.0 result.1 }
 {
-    if mask.all_true() {
-        plain_span::<T>(bytes)
-    } else {
-        masked_span::<T>(bytes, mask)
+    let mut span = (greatest_number::<T>(), least_number::<T>());
+    for run in mask.runs() {
+        let (start, end) = *run;
+        span = widened_span::<T>(bytes, (start, end), span);
     }
+    (span.0.as_i128(), span.1.as_i128())
 }
 
-// The same of all numbers.
+// The least and the greatest with the numbers of a run.
 #[inline(never)]
-fn plain_span<T: NativePType>(bytes: &[u8]) -> (i128, i128)
-    ensures { IsSpan T.PTYPE (numbers T.PTYPE bytes.now) result.0 result.1 }
+fn widened_span<T: NativePType>(bytes: &[u8], run: (usize, usize), span: (T, T)) -> (T, T)
+    requires order { run.0 ≤ run.1 }
+    requires here { run.1 ≤ length (numbers T.PTYPE bytes.now) }
+    ensures { (zs : List ℤ) → IsSpan T.PTYPE zs (T.value span.0) (T.value span.1)
+        → IsSpan T.PTYPE (zs ++ map (number_nth (numbers T.PTYPE bytes.now)) (run_positions run))
+        (T.value result.0) (T.value result.1) }
 {
-    let mut least = greatest_number::<T>();
-    let mut greatest = least_number::<T>();
-    for row in 0..number_count(bytes, T::PTYPE) {
+    let (mut least, mut greatest) = span;
+    for row in run.0..run.1 {
         let number = read_number::<T>(bytes, row);
-        least = lesser(least, number, true);
-        greatest = greater(greatest, number, true);
+        least = lesser(least, number);
+        greatest = greater(greatest, number);
     }
-    (least.as_i128(), greatest.as_i128())
-}
-
-// The same, the mask read for each.
-#[inline(never)]
-fn masked_span<T: NativePType>(bytes: &[u8], mask: &Mask) -> (i128, i128)
-    requires { length mask.now ≡ length (numbers T.PTYPE bytes.now) }
-    ensures { IsSpan T.PTYPE (kept mask.now (numbers T.PTYPE bytes.now)) result.0 result.1 }
-{
-    let mut least = greatest_number::<T>();
-    let mut greatest = least_number::<T>();
-    for row in 0..mask.len() {
-        let is_valid = mask.value(row);
-        let number = read_number::<T>(bytes, row);
-        least = lesser(least, number, is_valid);
-        greatest = greater(greatest, number, is_valid);
-    }
-    (least.as_i128(), greatest.as_i128())
+    (least, greatest)
 }
 
 // The greatest number of a type.
@@ -116,25 +104,23 @@ fn least_number<T: NativePType>() -> T
     T::from_i128(T::PTYPE.least()).unwrap()
 }
 
-// The lesser of two numbers, the first where the second does not count.
+// The lesser of two numbers.
 #[inline]
-fn lesser<T: NativePType>(least: T, number: T, counts: bool) -> T
-    ensures { (lo : ℤ) → le_z lo (T.value result)
-        ≡ (le_z lo (T.value least) && (if counts then le_z lo (T.value number) else true)) }
+fn lesser<T: NativePType>(least: T, number: T) -> T
+    ensures { (lo : ℤ) → le_z lo (T.value result) ≡ (le_z lo (T.value least) && le_z lo (T.value number)) }
 {
-    if counts && number.as_i128() < least.as_i128() {
+    if number.as_i128() < least.as_i128() {
         return number;
     }
     least
 }
 
-// The greater of two numbers, the first where the second does not count.
+// The greater of two numbers.
 #[inline]
-fn greater<T: NativePType>(greatest: T, number: T, counts: bool) -> T
-    ensures { (hi : ℤ) → le_z (T.value result) hi
-        ≡ (le_z (T.value greatest) hi && (if counts then le_z (T.value number) hi else true)) }
+fn greater<T: NativePType>(greatest: T, number: T) -> T
+    ensures { (hi : ℤ) → le_z (T.value result) hi ≡ (le_z (T.value greatest) hi && le_z (T.value number) hi) }
 {
-    if counts && greatest.as_i128() < number.as_i128() {
+    if greatest.as_i128() < number.as_i128() {
         return number;
     }
     greatest
@@ -204,11 +190,11 @@ fn narrowed_bytes(
     ByteBuffer::from_vec(alloc, narrowed)
 }
 
-// Writes the numbers of one type as those of another, 0 where the mask is false.
+// Writes the numbers of one type as those of another where the mask is true, over bytes that are 0.
 fn put_narrowed(from: PType, to: PType, bytes: &[u8], mask: &Mask, out: &mut [u8])
     requires same_len { length mask.now ≡ length (numbers from bytes.now) }
     requires holds { All (Holds to) (zeroed mask.now (numbers from bytes.now)) }
-    requires room { length out.old ≡ length mask.now * byte_width to }
+    requires zeroes { out.old ≡ replicate (length mask.now * byte_width to) 0 }
     ensures len { length out.new ≡ length out.old }
     ensures numbers { numbers to out.new ≡ zeroed mask.now (numbers from bytes.now) }
 {
@@ -219,64 +205,43 @@ fn put_narrowed(from: PType, to: PType, bytes: &[u8], mask: &Mask, out: &mut [u8
 fn put_numbers_as<T: NativePType>(to: PType, bytes: &[u8], mask: &Mask, out: &mut [u8])
     requires same_len { length mask.now ≡ length (numbers T.PTYPE bytes.now) }
     requires holds { All (Holds to) (zeroed mask.now (numbers T.PTYPE bytes.now)) }
-    requires room { length out.old ≡ length mask.now * byte_width to }
+    requires zeroes { out.old ≡ replicate (length mask.now * byte_width to) 0 }
     ensures len { length out.new ≡ length out.old }
     ensures numbers { numbers to out.new ≡ zeroed mask.now (numbers T.PTYPE bytes.now) }
 {
     call_native!(to, put_numbers::<T>(bytes, mask, out))
 }
 
-// The same of numbers of one type, as those of another.
+// The same of numbers of one type, as those of another, one run after another.
 fn put_numbers<T: NativePType, U: NativePType>(bytes: &[u8], mask: &Mask, out: &mut [u8])
     requires same_len { length mask.now ≡ length (numbers T.PTYPE bytes.now) }
     requires holds { All (Holds U.PTYPE) (zeroed mask.now (numbers T.PTYPE bytes.now)) }
-    requires room { length out.old ≡ length mask.now * byte_width U.PTYPE }
+    requires zeroes { out.old ≡ replicate (length mask.now * byte_width U.PTYPE) 0 }
     ensures len { length out.new ≡ length out.old }
     ensures numbers { numbers U.PTYPE out.new ≡ zeroed mask.now (numbers T.PTYPE bytes.now) }
 {
-    if mask.all_true() {
-        put_plain::<T, U>(bytes, out);
-        return;
+    for run in mask.runs() {
+        let (start, end) = *run;
+        put_run::<T, U>(bytes, (start, end), out);
     }
-    put_masked::<T, U>(bytes, mask, out);
 }
 
-// Writes them where none is null.
+// Writes the numbers of a run.
 #[inline(never)]
-fn put_plain<T: NativePType, U: NativePType>(bytes: &[u8], out: &mut [u8])
-    requires holds { All (Holds U.PTYPE) (numbers T.PTYPE bytes.now) }
-    requires room { length out.old ≡ length (numbers T.PTYPE bytes.now) * byte_width U.PTYPE }
+fn put_run<T: NativePType, U: NativePType>(bytes: &[u8], run: (usize, usize), out: &mut [u8])
+    requires here { run.1 ≤ length (numbers T.PTYPE bytes.now) }
+    requires holds { (k : ℕ) → run.0 ≤ k → k < run.1
+        → Holds U.PTYPE (number_nth (numbers T.PTYPE bytes.now) k) }
+    requires order { run.0 ≤ run.1 }
+    requires room { run.1 * byte_width U.PTYPE ≤ length out.old }
     ensures len { length out.new ≡ length out.old }
-    ensures numbers { numbers U.PTYPE out.new ≡ numbers T.PTYPE bytes.now }
+    ensures numbers { (k : ℕ) → number_nth (numbers U.PTYPE out.new) k
+        ≡ (if is_in_run run k then number_nth (numbers T.PTYPE bytes.now) k
+        else number_nth (numbers U.PTYPE out.old) k) }
 {
     let width = U::PTYPE.byte_width();
-    for row in 0..number_count(bytes, T::PTYPE) {
+    for row in run.0..run.1 {
         let number = int_at(bytes, T::PTYPE, row);
         put_int(number, U::PTYPE, &mut out[row * width..row * width + width]);
     }
-}
-
-// Writes them, the mask read for each.
-#[inline(never)]
-fn put_masked<T: NativePType, U: NativePType>(bytes: &[u8], mask: &Mask, out: &mut [u8])
-    requires same_len { length mask.now ≡ length (numbers T.PTYPE bytes.now) }
-    requires holds { All (Holds U.PTYPE) (zeroed mask.now (numbers T.PTYPE bytes.now)) }
-    requires room { length out.old ≡ length mask.now * byte_width U.PTYPE }
-    ensures len { length out.new ≡ length out.old }
-    ensures numbers { numbers U.PTYPE out.new ≡ zeroed mask.now (numbers T.PTYPE bytes.now) }
-{
-    let width = U::PTYPE.byte_width();
-    for row in 0..mask.len() {
-        let number = number_or_zero(bytes, T::PTYPE, row, mask.value(row));
-        put_int(number, U::PTYPE, &mut out[row * width..row * width + width]);
-    }
-}
-
-// The number of a row, 0 where it does not count.
-#[inline]
-fn number_or_zero(bytes: &[u8], ptype: PType, row: usize, counts: bool) -> i128
-    requires { row < length (numbers ptype bytes.now) }
-    ensures { result ≡ (if counts then number_nth (numbers ptype bytes.now) row else pos 0) }
-{
-    if counts { int_at(bytes, ptype, row) } else { 0 }
 }

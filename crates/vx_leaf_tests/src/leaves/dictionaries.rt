@@ -214,3 +214,115 @@ fn data_of_a_dictionary(rt: HostRuntime) -> Result<(), Fail> {
     array.validate_all_values_referenced(rt.alloc())?;
     Ok(())
 }
+
+// So many codes: code i is 31 i modulo `range`.
+fn strided_codes(alloc: Global, rows: u16, range: u16) -> Result<Vec<u16>, VortexError> {
+    let mut codes = Vec::new(alloc);
+    for row in 0..rows {
+        let code = u32::from(row) * 31 % u32::from(range.max(1));
+        codes.push(u16::try_from(code).unwrap_or(0))?;
+    }
+    Ok(codes)
+}
+
+// Which of so many rows are valid: all, or with nulls those that are not 1 modulo 3.
+fn valid_rows(alloc: Global, rows: u16, nulls: bool) -> Result<Vec<bool>, VortexError> {
+    let mut valid = Vec::new(alloc);
+    for row in 0..rows {
+        valid.push(!nulls || row % 3 != 1)?;
+    }
+    Ok(valid)
+}
+
+// What a scan tells of so many values, by a plain loop over the codes.
+fn plain_marks(
+    alloc: Global,
+    codes: &[u16],
+    valid: &[bool],
+    values: usize,
+    asked: bool,
+) -> Result<Vec<bool>, VortexError> {
+    let mut marks = vec![in alloc; !asked; values]?;
+    for (code, is_valid) in codes.iter().zip(valid) {
+        if *is_valid {
+            if let Some(mark) = marks.get_mut(usize::from(*code)) {
+                *mark = asked;
+            }
+        }
+    }
+    Ok(marks)
+}
+
+// A validity that these booleans tell.
+fn told_by(alloc: Global, valid: &[bool]) -> Result<Validity, VortexError> {
+    let bits = BitBuffer::from_bools(alloc, valid)?;
+    let mask = BoolArray::try_new(alloc, bits, Validity::NonNullable)?;
+    Ok(Validity::Array(mask.into_array()))
+}
+
+// The scan of so many values under strided codes: whether it and `are_all_values_referenced` tell
+// what a plain loop tells, and its end.
+fn scan_of(
+    alloc: Global,
+    (values, rows, range): (u16, u16, u16),
+    nulls: bool,
+    asked: bool,
+) -> Result<(bool, usize), VortexError> {
+    let codes = strided_codes(alloc, rows, range)?;
+    let valid = valid_rows(alloc, rows, nulls)?;
+    let want = plain_marks(alloc, &codes, &valid, usize::from(values), asked)?;
+    let validity = told_by(alloc, &valid)?;
+    let codes = PrimitiveArray::try_new(alloc, Buffer::copy_from(alloc, &codes)?, validity)?;
+    let numbers = vec![in alloc; 7u8; usize::from(values)]?;
+    let array = DictArray::try_new(alloc, codes.into_array(), plain(alloc, &numbers)?)?;
+    let (bits, end) = array.referenced_values_scan(alloc, asked)?;
+    let all = array.are_all_values_referenced(alloc)? != want.contains(&!asked);
+    Ok((all && bits == BitBuffer::from_bools(alloc, &want)?, end))
+}
+
+#[test]
+fn the_scan_ends_once_all_values_are_referenced(rt: HostRuntime) -> Result<(), Fail> {
+    for (parts, end) in [
+        ((16, 5000, 16), 2048),
+        ((4096, 60000, 4096), 4096),
+        ((4001, 60000, 4001), 4096),
+        ((1024, 10000, 1000), 10000),
+        ((1024, 1000, 1024), 1000),
+    ] {
+        assert!(rt; scan_of(rt.alloc(), parts, false, true)? == (true, end));
+        assert!(rt; scan_of(rt.alloc(), parts, false, false)? == (true, end));
+    }
+    Ok(())
+}
+
+#[test]
+fn the_scan_passes_null_codes(rt: HostRuntime) -> Result<(), Fail> {
+    for (parts, end) in [
+        ((1024, 1500, 1024), 1500),
+        ((64, 10000, 64), 2048),
+        ((64, 10000, 63), 10000),
+    ] {
+        assert!(rt; scan_of(rt.alloc(), parts, true, true)? == (true, end));
+        assert!(rt; scan_of(rt.alloc(), parts, true, false)? == (true, end));
+    }
+    Ok(())
+}
+
+// The end of the scan of so many values under 2^60 codes that are one row.
+fn end_of_one_code(alloc: Global, code: Scalar, values: &[u8]) -> Result<usize, VortexError> {
+    let codes = ConstantArray::new(alloc, code, 1 << 60)?.into_array();
+    let array = DictArray::try_new(alloc, codes, plain(alloc, values)?)?;
+    let (_, end) = array.referenced_values_scan(alloc, true)?;
+    Ok(end)
+}
+
+#[test]
+fn one_code_is_read_once(rt: HostRuntime) -> Result<(), Fail> {
+    let code = Scalar::int(0, PType::U8, Nullability::NonNullable);
+    assert!(rt; end_of_one_code(rt.alloc(), code, &[7])? == 2048);
+    let code = Scalar::int(0, PType::U8, Nullability::NonNullable);
+    assert!(rt; end_of_one_code(rt.alloc(), code, &[7, 8])? == 1 << 60);
+    let code = Scalar::null(DType::Primitive(PType::U8, Nullability::Nullable));
+    assert!(rt; end_of_one_code(rt.alloc(), code, &[7])? == 1 << 60);
+    Ok(())
+}

@@ -1,11 +1,14 @@
-use Rattle.std.proofs.Common.{◌≡◌, ◌*◌, take, count_by}
-use Rattle.vx_base.specs.Integers.{numbers, byte_width}
-use Rattle.vx_leaves.specs.Spread.{spread}
+use Rattle.std.proofs.Common.{◌≡◌, ℕ, cond, length, take, count_by}
+use Rattle.std.specs.Prelude.{pos}
+use Rattle.vx_base.specs.Integers.{numbers, number_nth}
+use Rattle.vx_base.specs.MaskRuns.{is_in_runs}
+use Rattle.vx_leaves.proofs.RunRows.{start_of}
 use Rattle.vx_leaves.proofs.spread.put_spread.Given as goal
 
-abbrev pub invariant-loop-row : goal.invariant-loop-row
-invariant-loop-row g l = record {
-  counted : l.next ≡ count_by (λ b. b) (take l.row l.valid);
-  written : numbers g.T.NativePType.PTYPE (take (l.row * byte_width g.T.NativePType.PTYPE) l.out)
-      ≡ spread (take l.row l.valid) (numbers g.T.NativePType.PTYPE l.values);
+-- the values of the runs stand at their rows, and 0 elsewhere
+abbrev pub invariant-loop-run : goal.invariant-loop-run
+invariant-loop-run l = record {
+  counted : l.next ≡ count_by (λ b. b) (take (start_of (length l.mask) l.run-items l.run-index) l.mask);
+  written : (k : ℕ) → number_nth (numbers l.ptype l.out) k
+      ≡ cond (is_in_runs (take l.run-index l.run-items) k) (number_nth (numbers l.ptype l.values) (count_by (λ b. b) (take k l.mask))) (pos 0);
 }

@@ -1,7 +1,0 @@
-use Rattle.std.proofs.Common.{length}
-use Rattle.vx_base.specs.Bits.{bool_at}
-use Rattle.vx_leaves.specs.Dictionaries.{AreNamed, number_places}
-use Rattle.vx_leaves.proofs.dict_ext.mark_valid.Given as goal
-
-abbrev pub invariant-loop-row : goal.invariant-loop-row
-invariant-loop-row g l = AreNamed (number_places g.T.NativePType.PTYPE l.bytes) (bool_at l.mask) l.row (length l.out) l.referenced l.out
