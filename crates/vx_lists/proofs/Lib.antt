@@ -6,6 +6,7 @@ pub mod PlannedNumbers
 pub mod ViewLayouts
 pub mod FixedSizeLists
 pub mod CountBytes
+pub mod ValidRuns
 pub mod CountArrays
 pub mod RebuiltViews
 pub mod RebuiltAlike

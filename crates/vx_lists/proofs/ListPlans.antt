@@ -14,20 +14,27 @@ use Rattle.vx_tree.specs.Faults.{take_overflow}
 use Rattle.vx_tree.specs.Operations.{IsSelected, AreBelow}
 use Rattle.vx_lists.specs.ListLayout.{valid_sizes, valid_total, position_rows, joined_positions, starts_from, IsPlan}
 use Rattle.vx_lists.specs.CountBytes.{counts_of, AreCountBytes, HoldCounts}
-use Rattle.vx_lists.specs.ListViews.{counts_in, elements_of, offsets_of, sizes_of, rebuilt_offset_ptype, total_of, valid_sizes_of, valid_positions_of, IsCountArray, IsRebuildPlan, IsRebuilt}
-use Rattle.vx_lists.specs.ListViewFaults.{total_fault, rebuilt_total_fault, rebuild_overflow}
+use Rattle.vx_lists.specs.ListViews.{counts_in, elements_of, offsets_of, sizes_of, rebuilt_ptype, total_of, valid_sizes_of, valid_positions_of, IsCountArray, IsRebuildPlan, IsRebuilt}
+use Rattle.vx_lists.specs.ListViewFaults.{total_fault, either_total_fault, rebuilt_total_fault, rebuild_overflow}
 use Rattle.vx_lists.proofs.CountBytes.{counts_of-held, held_are_counts, length-held}
 use Rattle.vx_lists.proofs.CountArrays.{count_array_of_numbers}
 use Rattle.vx_lists.proofs.ListFaults.{passed}
+use Rattle.vx_base.proofs.FirstFaults.{or_else-none}
 use Rattle.vx_tree.proofs.RowLists.{length-rows}
 use Rattle.vx_lists.proofs.ViewLayouts.{layout_well_formed}
 use Rattle.vx_lists.proofs.PlannedNumbers.{Holds-below, map-size_of-position_rows}
 use Rattle.vx_lists.proofs.PlannedRows.{get_or-valid_sizes, length-valid_sizes, joined_positions-valid, length-joined_positions}
 use Rattle.vx_lists.proofs.RebuiltViews.{planned_below, rebuilt_formed, rebuilt_view}
 
--- a total without a fault is within the greatest offset
+-- a total without a fault is within the greatest number of its type
 fits_greatest : (p : PType) (total : ℕ) → total_fault p total ≡ None → pos total ≤ℤ greatest p
 fits_greatest p total none = le_z_yes (T_from_true (int_le (pos total) (greatest p)) (passed (int_le (pos total) (greatest p)) _ none))
+
+-- a total without a fault is held by the type of the offsets and by that of the sizes
+pub total_held : (o s : PType) (total : ℕ) → either_total_fault o s total ≡ None → (Holds o (pos total)) × (Holds s (pos total))
+total_held o s total none =
+    let each = or_else-none (total_fault o total) (total_fault s total) none in
+    (Holds-below o total total (omega arith) (fits_greatest o total each.0), Holds-below s total total (omega arith) (fits_greatest s total each.1))
 
 -- ---- the plan over offsets, sizes and a mask
 
@@ -72,30 +79,33 @@ module _ (t e o s : Tree) (v : Valid) (f : Bool) (same : t ≡ list_view e o s v
   positions_are = ap valid_positions_of same
 
   -- what is read of the parts
-  pub plan_made : (offset_type size_type : PType) (offsets sizes valid : List ℕ) (ms : List Bool) (n count : ℕ)
-      → offset_type ≡ integer_type (kind_of o) → size_type ≡ integer_type (kind_of s) → HoldCounts (integer_type (kind_of o)) offsets (counts_in o) → HoldCounts (integer_type (kind_of s)) sizes (counts_in s) → ms ≡ valid_mask v n → n ≡ tree_len o
-      → HoldCounts size_type valid (valid_sizes (counts_of size_type sizes) ms) → count ≡ valid_total (counts_of size_type sizes) ms → IsRebuildPlan t offset_type offsets size_type valid count
-  plan_made offset_type size_type offsets sizes valid ms n count o_is s_is offsets_hold sizes_hold ms_is n_is valid_hold count_is =
+  pub plan_made : (offset_type size_type new_type : PType) (offsets sizes valid : List ℕ) (ms : List Bool) (n count : ℕ)
+      → offset_type ≡ integer_type (kind_of o) → size_type ≡ integer_type (kind_of s) → new_type ≡ rebuilt_ptype size_type → HoldCounts (integer_type (kind_of o)) offsets (counts_in o) → HoldCounts (integer_type (kind_of s)) sizes (counts_in s) → ms ≡ valid_mask v n → n ≡ tree_len o
+      → HoldCounts new_type valid (valid_sizes (counts_of size_type sizes) ms) → count ≡ valid_total (counts_of size_type sizes) ms → IsRebuildPlan t offset_type offsets new_type valid count
+  plan_made offset_type size_type new_type offsets sizes valid ms n count o_is s_is new_is offsets_hold sizes_hold ms_is n_is valid_hold count_is =
       let mask_is : ms ≡ mask = ms_is ∙ ap (valid_mask v) n_is in
       let counts_are : counts_of size_type sizes ≡ counts_in s = counts_of-held size_type sizes (counts_in s) (rw s_is sizes_hold.are) in
       let valid_are : valid_sizes (counts_of size_type sizes) ms ≡ valid_sizes_of t = ap (λ ns. valid_sizes ns ms) counts_are ∙ ap (valid_sizes (counts_in s)) mask_is ∙ sym (ap valid_sizes_of same) in
       record {
         offset_type_is = o_is ∙ sym (ap (λ x. integer_type (kind_of (offsets_of x))) same);
         offsets_are = subst (λ x. HoldCounts offset_type offsets (counts_in (offsets_of x))) (sym same) (subst (λ p. HoldCounts p offsets (counts_in o)) (sym o_is) offsets_hold);
-        size_type_is = s_is ∙ sym (ap (λ x. integer_type (kind_of (sizes_of x))) same);
-        sizes_are = subst (HoldCounts size_type valid) valid_are valid_hold;
+        size_type_is = new_is ∙ ap rebuilt_ptype (s_is ∙ sym (ap (λ x. integer_type (kind_of (sizes_of x))) same));
+        sizes_are = subst (HoldCounts new_type valid) valid_are valid_hold;
         count_is = count_is ∙ ap sum valid_are;
       }
 
   -- the total that is compared
   pub total_fault_is : (offset_type size_type : PType) (sizes : List ℕ) (ms : List Bool) (n total : ℕ) → offset_type ≡ integer_type (kind_of o) → size_type ≡ integer_type (kind_of s) → HoldCounts (integer_type (kind_of s)) sizes (counts_in s) → ms ≡ valid_mask v n → n ≡ tree_len o
-      → total ≡ valid_total (counts_of size_type sizes) ms → total_fault (rebuilt_offset_ptype offset_type) total ≡ rebuilt_total_fault t
+      → total ≡ valid_total (counts_of size_type sizes) ms → either_total_fault (rebuilt_ptype offset_type) (rebuilt_ptype size_type) total ≡ rebuilt_total_fault t
   total_fault_is offset_type size_type sizes ms n total o_is s_is sizes_hold ms_is n_is total_is =
       let mask_is : ms ≡ mask = ms_is ∙ ap (valid_mask v) n_is in
       let counts_are : counts_of size_type sizes ≡ counts_in s = counts_of-held size_type sizes (counts_in s) (rw s_is sizes_hold.are) in
       let count : total ≡ total_of t = total_is ∙ ap (λ ns. valid_total ns ms) counts_are ∙ ap (valid_total (counts_in s)) mask_is ∙ sym (ap total_of same) in
-      let type_is : rebuilt_offset_ptype offset_type ≡ rebuilt_offset_ptype (integer_type (kind_of (offsets_of t))) = ap rebuilt_offset_ptype (o_is ∙ sym (ap (λ x. integer_type (kind_of (offsets_of x))) same)) in
-      ap (λ p. total_fault p total) type_is ∙ ap (total_fault (rebuilt_offset_ptype (integer_type (kind_of (offsets_of t))))) count
+      let offset_is : rebuilt_ptype offset_type ≡ rebuilt_ptype (integer_type (kind_of (offsets_of t))) = ap rebuilt_ptype (o_is ∙ sym (ap (λ x. integer_type (kind_of (offsets_of x))) same)) in
+      let size_is : rebuilt_ptype size_type ≡ rebuilt_ptype (integer_type (kind_of (sizes_of t))) = ap rebuilt_ptype (s_is ∙ sym (ap (λ x. integer_type (kind_of (sizes_of x))) same)) in
+      ap (λ p. either_total_fault p (rebuilt_ptype size_type) total) offset_is
+      ∙ ap (λ p. either_total_fault (rebuilt_ptype (integer_type (kind_of (offsets_of t)))) p total) size_is
+      ∙ ap (either_total_fault (rebuilt_ptype (integer_type (kind_of (offsets_of t)))) (rebuilt_ptype (integer_type (kind_of (sizes_of t))))) count
 
   pub positions_below : AreBelow (tree_len e) (valid_positions_of t)
   positions_below =
@@ -144,35 +154,34 @@ module _ (t e o s : Tree) (v : Valid) (f : Bool) (same : t ≡ list_view e o s v
     planned_count = plan.count_is ∙ sym positions_count
 
     -- the new offset type holds the end of the last list
-    pub planned_starts_held : rebuilt_total_fault t ≡ None → Holds (rebuilt_offset_ptype offset_type) (pos (sum (counts_of size_type sizes)))
+    pub planned_starts_held : rebuilt_total_fault t ≡ None → Holds (rebuilt_ptype offset_type) (pos (sum (counts_of size_type sizes)))
     planned_starts_held none =
         let total : sum (counts_of size_type sizes) ≡ total_of t = ap sum (counts_of-held size_type sizes kept sizes_hold.are) ∙ sym (ap total_of same) in
-        let fits = fits_greatest (rebuilt_offset_ptype (integer_type (kind_of (offsets_of t)))) (total_of t) none in
-        let held : Holds (rebuilt_offset_ptype (integer_type (kind_of (offsets_of t)))) (pos (total_of t)) = Holds-below (rebuilt_offset_ptype (integer_type (kind_of (offsets_of t)))) (total_of t) (total_of t) (omega arith) fits in
-        subst (λ n. Holds (rebuilt_offset_ptype offset_type) (pos n)) (sym total) (subst (λ p. Holds (rebuilt_offset_ptype p) (pos (total_of t))) (sym plan.offset_type_is) held)
+        let held : Holds (rebuilt_ptype (integer_type (kind_of (offsets_of t)))) (pos (total_of t)) = (total_held (rebuilt_ptype (integer_type (kind_of (offsets_of t)))) (rebuilt_ptype (integer_type (kind_of (sizes_of t)))) (total_of t) none).0 in
+        subst (λ n. Holds (rebuilt_ptype offset_type) (pos n)) (sym total) (subst (λ p. Holds (rebuilt_ptype p) (pos (total_of t))) (sym plan.offset_type_is) held)
 
     -- ---- the list view that it makes
 
-    module _ (e' o' s' : Tree) (v' : Valid) (starts : List ℕ) (selected : IsSelected (elements_of t) (valid_positions_of t) e') (starts_hold : HoldCounts (rebuilt_offset_ptype offset_type) starts (starts_from 0 (counts_of size_type sizes))) (o_same : o' ≡ primitive (rebuilt_offset_ptype offset_type) starts non_nullable) (s_same : s' ≡ primitive size_type sizes non_nullable) (v_is : v' ≡ v) where
+    module _ (e' o' s' : Tree) (v' : Valid) (starts : List ℕ) (selected : IsSelected (elements_of t) (valid_positions_of t) e') (starts_hold : HoldCounts (rebuilt_ptype offset_type) starts (starts_from 0 (counts_of size_type sizes))) (o_same : o' ≡ primitive (rebuilt_ptype offset_type) starts non_nullable) (s_same : s' ≡ primitive size_type sizes non_nullable) (v_is : v' ≡ v) where
       taken : IsSelected e positions e'
       taken = subst (λ ps. IsSelected e ps e') positions_are (subst (λ x. IsSelected (elements_of x) (valid_positions_of t) e') same selected)
 
-      o_is : IsCountArray (rebuilt_offset_ptype offset_type) (starts_from 0 kept) o'
+      o_is : IsCountArray (rebuilt_ptype offset_type) (starts_from 0 kept) o'
       o_is =
-          let starts_are : numbers (rebuilt_offset_ptype offset_type) starts ≡ map pos (starts_from 0 kept) = starts_hold.are ∙ ap (λ ns. map pos (starts_from 0 ns)) (counts_of-held size_type sizes kept sizes_hold.are) in
-          subst (IsCountArray (rebuilt_offset_ptype offset_type) (starts_from 0 kept)) (sym o_same) (count_array_of_numbers (rebuilt_offset_ptype offset_type) starts (starts_from 0 kept) starts_are)
+          let starts_are : numbers (rebuilt_ptype offset_type) starts ≡ map pos (starts_from 0 kept) = starts_hold.are ∙ ap (λ ns. map pos (starts_from 0 ns)) (counts_of-held size_type sizes kept sizes_hold.are) in
+          subst (IsCountArray (rebuilt_ptype offset_type) (starts_from 0 kept)) (sym o_same) (count_array_of_numbers (rebuilt_ptype offset_type) starts (starts_from 0 kept) starts_are)
 
       s_is : IsCountArray size_type kept s'
       s_is = subst (IsCountArray size_type kept) (sym s_same) (count_array_of_numbers size_type sizes kept sizes_hold.are)
 
       pub plan_formed : WellFormed (list_view e' o' s' v' true)
-      plan_formed = subst (λ w. WellFormed (list_view e' o' s' w true)) (sym v_is) (rebuilt_formed e o s v f formed.1 formed.0 (starts_from 0 kept) kept positions plan_is e' o' s' taken (rebuilt_offset_ptype offset_type) size_type o_is s_is)
+      plan_formed = subst (λ w. WellFormed (list_view e' o' s' w true)) (sym v_is) (rebuilt_formed e o s v f formed.1 formed.0 (starts_from 0 kept) kept positions plan_is e' o' s' taken (rebuilt_ptype offset_type) size_type o_is s_is)
 
       pub plan_rebuilds : IsRebuilt t (list_view e' o' s' v' true)
       plan_rebuilds =
-          let offset_is : rebuilt_offset_ptype offset_type ≡ rebuilt_offset_ptype (integer_type (kind_of o)) = ap rebuilt_offset_ptype (plan.offset_type_is ∙ ap (λ x. integer_type (kind_of (offsets_of x))) same) in
-          let size_is : size_type ≡ integer_type (kind_of s) = plan.size_type_is ∙ ap (λ x. integer_type (kind_of (sizes_of x))) same in
-          let rebuilt = rebuilt_view e o s v f formed.1 formed.0 (starts_from 0 kept) kept positions plan_is e' o' s' taken (rebuilt_offset_ptype offset_type) size_type o_is s_is offset_is size_is in
+          let offset_is : rebuilt_ptype offset_type ≡ rebuilt_ptype (integer_type (kind_of o)) = ap rebuilt_ptype (plan.offset_type_is ∙ ap (λ x. integer_type (kind_of (offsets_of x))) same) in
+          let size_is : size_type ≡ rebuilt_ptype (integer_type (kind_of s)) = plan.size_type_is ∙ ap (λ x. rebuilt_ptype (integer_type (kind_of (sizes_of x)))) same in
+          let rebuilt = rebuilt_view e o s v f formed.1 formed.0 (starts_from 0 kept) kept positions plan_is e' o' s' taken (rebuilt_ptype offset_type) size_type o_is s_is offset_is size_is in
           subst (λ x. IsRebuilt x (list_view e' o' s' v' true)) (sym same) (subst (λ w. IsRebuilt (list_view e o s v f) (list_view e' o' s' w true)) (sym v_is) rebuilt)
 
 -- ---- the same parts under another flag

@@ -1,11 +1,11 @@
 -- Valid rows laid end to end, one row after another.
-use Rattle.std.proofs.Common.{◌≡◌, ◌⊎◌, ⊎_elim, ℕ, zero, suc, ◌+◌, ◌*◌, ◌-◌, ◌^◌, ◌<◌, ◌≤◌, Bool, true, false, cond, List, [], ◌∷◌, ◌++◌, length, take, replicate, get_or, sum, refl, sym, ◌∙◌, ap, zero-add, add-one, arith}
+use Rattle.std.proofs.Common.{◌≡◌, ◌⊎◌, ⊎_elim, ℕ, zero, suc, ◌+◌, ◌-◌, ◌<◌, ◌≤◌, Bool, true, false, cond, List, [], ◌∷◌, ◌++◌, length, take, replicate, get_or, sum, refl, sym, ◌∙◌, ap, zero-add, add-one, arith}
 use Rattle.std.specs.Prelude.{count_by}
 use Rattle.std.specs.List.{flat_map, range_with_len}
-use Rattle.std.proofs.lemmas.List.{append_assoc, append-nil, length-append, take_all, get_or-replicate}
+use Rattle.std.proofs.lemmas.List.{append_assoc, append-nil, length-append, take_all}
 use Rattle.std.proofs.lemmas.List.Concat.{flat_map-append}
 use Rattle.std.proofs.lemmas.List.FromFn.{length-range_with_len}
-use Rattle.std.proofs.lemmas.List.Sums.{sum_by_more, sum_by-take-le}
+use Rattle.std.proofs.lemmas.List.Sums.{sum_by_more, sum_by-take-le, get_or-le-sum_by}
 use Rattle.vx_base.proofs.MaskCounts.{all_true_from_count}
 use Rattle.vx_base.specs.Selections.{run_positions}
 use Rattle.vx_lists.specs.ListLayout.{items_of, position_rows, joined_positions, starts_from, valid_sizes, valid_total}
@@ -28,28 +28,11 @@ length-valid_sizes [] mask same_len = refl
 length-valid_sizes (size ∷ sizes) [] same_len = absurd (omega arith)
 length-valid_sizes (size ∷ sizes) (present ∷ mask) same_len = ap suc (length-valid_sizes sizes mask (omega arith))
 
--- the total of the first rows, which is bounded by the number of rows
-pub record IsTotal (sizes : List ℕ) (mask : List Bool) (rows total : ℕ) : Type 0 where
-  pub total_is : total ≡ sum (take rows (valid_sizes sizes mask))
-  pub bounded : total ≤ (2 ^ 64 - 1) * rows
-
-pub IsTotal-more : (sizes : List ℕ) (mask : List Bool) (i total total' : ℕ) → length mask ≡ length sizes → i < length sizes → get_or sizes i 0 < 2 ^ 64 → IsTotal sizes mask i total → total' ≡ total + cond (get_or mask i false) (get_or sizes i 0) 0 → IsTotal sizes mask (i + 1) total'
-IsTotal-more sizes mask i total total' same_len inside fits so_far added =
-    let inside' : i < length (valid_sizes sizes mask) = omega (arith, length-valid_sizes sizes mask same_len) in
-    let more : sum (take (i + 1) (valid_sizes sizes mask)) ≡ sum (take i (valid_sizes sizes mask)) + get_or (valid_sizes sizes mask) i 0 = sum_by_more (λ (x : ℕ). x) (valid_sizes sizes mask) i 0 inside' in
-    let here : get_or (valid_sizes sizes mask) i 0 ≡ cond (get_or mask i false) (get_or sizes i 0) 0 = get_or-valid_sizes sizes mask i in
-    let small : cond (get_or mask i false) (get_or sizes i 0) 0 < 2 ^ 64 = elim (get_or mask i false) as (λ b. cond b (get_or sizes i 0) 0 < 2 ^ 64) [ true ↦ fits | false ↦ omega arith ] in
-    record {
-      total_is = omega (arith, more, here, so_far.total_is, added);
-      bounded = omega (arith, so_far.bounded, added, small);
-    }
-
-pub IsTotal-all : (sizes : List ℕ) (mask : List Bool) (i total : ℕ) → length mask ≡ length sizes → length sizes ≤ i → IsTotal sizes mask i total → total ≡ valid_total sizes mask
-IsTotal-all sizes mask i total same_len all so_far = so_far.total_is ∙ ap sum (take_all i (valid_sizes sizes mask) (omega (arith, length-valid_sizes sizes mask same_len)))
-
--- in a mask that is all true each row is
-pub all_true_at : (mask : List Bool) (i : ℕ) → count_by (λ b. b) mask ≡ length mask → i < length mask → get_or mask i false ≡ true
-all_true_at mask i counted inside = ap (λ m. get_or m i false) (all_true_from_count mask counted) ∙ get_or-replicate (length mask) i true false inside
+-- each of them is within their total
+pub valid_size-le : (sizes : List ℕ) (mask : List Bool) (i size : ℕ) → length mask ≡ length sizes → i < length sizes → size ≡ get_or (valid_sizes sizes mask) i 0 → size ≤ valid_total sizes mask
+valid_size-le sizes mask i size same_len inside here =
+    let within : get_or (valid_sizes sizes mask) i 0 ≤ valid_total sizes mask = get_or-le-sum_by (λ (x : ℕ). x) (valid_sizes sizes mask) i 0 (omega (arith, length-valid_sizes sizes mask same_len)) in
+    omega arith
 
 -- where no row is null all sizes are valid
 valid_sizes-all : (sizes : List ℕ) → valid_sizes sizes (replicate (length sizes) true) ≡ sizes

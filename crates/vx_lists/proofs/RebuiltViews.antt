@@ -12,7 +12,7 @@ use Rattle.vx_tree.specs.Meaning.{tree_len, kind_of, rows, valid_mask, nullable}
 use Rattle.vx_tree.specs.Formed.{IsListView, ValidFits, WellFormed}
 use Rattle.vx_tree.specs.Operations.{IsSelected, AreBelow}
 use Rattle.vx_lists.specs.ListLayout.{ListLayout, layout, rows_of, IsWellFormed, IsTidy, items_of, size_of, canonical, position_rows, valid_total, IsPlan}
-use Rattle.vx_lists.specs.ListViews.{counts_in, list_layout_of, list_rows, rebuilt_offset_ptype, IsCountArray, IsRebuilt}
+use Rattle.vx_lists.specs.ListViews.{counts_in, list_layout_of, list_rows, rebuilt_ptype, IsCountArray, IsRebuilt}
 use Rattle.vx_lists.proofs.CanonicalRows.{canonical_well_formed, rows_of-canonical, length-flat_map-items_of, length-starts_from}
 use Rattle.vx_lists.proofs.TidyLayouts.{canonical_tidy}
 use Rattle.vx_lists.proofs.PlannedNumbers.{planned_is_canonical, map-size_of-position_rows}
@@ -113,7 +113,7 @@ module _ (e o s : Tree) (v : Valid) (f : Bool) (good : IsListView e o s f) (fits
         },
       )
 
-  pub rebuilt_view : t_o ≡ rebuilt_offset_ptype (integer_type (kind_of o)) → t_s ≡ integer_type (kind_of s) → IsRebuilt (list_view e o s v f) (list_view e' o' s' v true)
+  pub rebuilt_view : t_o ≡ rebuilt_ptype (integer_type (kind_of o)) → t_s ≡ rebuilt_ptype (integer_type (kind_of s)) → IsRebuilt (list_view e o s v f) (list_view e' o' s' v true)
   rebuilt_view offset_type size_type =
       let formed = rebuilt_formed in
       let same_lists : list_rows (list_view e' o' s' v true) ≡ list_rows (list_view e o s v f) =
@@ -123,7 +123,7 @@ module _ (e o s : Tree) (v : Valid) (f : Bool) (good : IsListView e o s f) (fits
         canonical_layout = rebuilt_layout;
         flag = refl;
         offsets_kind = o_is.kind ∙ ap (λ t. integers t false) offset_type;
-        sizes_kind = s_is.kind ∙ ap (λ t. integers t false) size_type ∙ sym (plain_kind (kind_of s) good.sizes.kind);
+        sizes_kind = s_is.kind ∙ ap (λ t. integers t false) size_type;
         kind = ap (λ k. lists k (nullable v)) taken.kind;
         state = refl;
         same_rows = same_rows_by_lists e' o' s' v true e o s v f same_lists;

@@ -11,7 +11,7 @@ use Rattle.vx_tree.specs.Meaning.{tree_len, kind_of, row_at}
 use Rattle.vx_tree.specs.Faults.{valid_type_fault, valid_len_fault, take_overflow}
 use Rattle.vx_lists.specs.declared.rebuild.ListViewRebuildMode.{ListViewRebuildMode}
 use Rattle.vx_lists.specs.declared.rebuild.ListViewRebuildMode.TheVariants.{MakeZeroCopyToList, TrimElements, MakeExact, OverlapCompression}
-use Rattle.vx_lists.specs.ListViews.{elements_of, offsets_of, flag_of, rebuilt_offset_ptype, total_of}
+use Rattle.vx_lists.specs.ListViews.{elements_of, offsets_of, sizes_of, flag_of, rebuilt_ptype, total_of}
 
 -- the fault of one row over `count` elements: a negative offset or size, an end past every usize, or an end past the elements
 abbrev pub list_row_fault : ℕ → ℕ → ℤ → ℤ → Option Refusal
@@ -49,16 +49,21 @@ list_rows_fault count o s = first_fault (λ i. list_row_fault count i (whole_at 
 abbrev pub list_view_fault : Tree → Tree → Tree → Valid → Option Refusal
 list_view_fault e o s v = or_else (list_parts_fault o s v) (list_rows_fault (tree_len e) o s)
 
--- a total that passes the greatest number of an offset type
+-- a total that passes the greatest number of a type
 abbrev pub total_fault : PType → ℕ → Option Refusal
 total_fault t total = if int_le (pos total) (greatest t) then None else Some overflow
 
--- the total of the valid sizes passes the greatest rebuilt offset
-abbrev pub rebuilt_total_fault : Tree → Option Refusal
-rebuilt_total_fault t = total_fault (rebuilt_offset_ptype (integer_type (kind_of (offsets_of t)))) (total_of t)
+-- a total that passes the greatest number of either type, of offsets or of sizes
+abbrev pub either_total_fault : PType → PType → ℕ → Option Refusal
+either_total_fault o s total = or_else (total_fault o total) (total_fault s total)
 
--- a list view cannot be laid out anew: the total of the valid sizes passes the greatest rebuilt offset, or that many
--- elements cannot be taken
+-- the total of the valid sizes passes the greatest number of the rebuilt offset type or of the rebuilt size type
+abbrev pub rebuilt_total_fault : Tree → Option Refusal
+rebuilt_total_fault t =
+    either_total_fault (rebuilt_ptype (integer_type (kind_of (offsets_of t)))) (rebuilt_ptype (integer_type (kind_of (sizes_of t)))) (total_of t)
+
+-- a list view cannot be laid out anew: the total of the valid sizes passes the greatest number of a rebuilt type, or that
+-- many elements cannot be taken
 abbrev pub rebuild_overflow : Tree → Option Refusal
 rebuild_overflow t = or_else (rebuilt_total_fault t) (take_overflow (elements_of t) (total_of t))
 

@@ -77,16 +77,16 @@ list_rows t = map list_in (rows t)
 
 -- ---- what rebuilding gives
 
--- the type of the offsets of a rebuilt list view, by the type of those before
-abbrev pub rebuilt_offset_ptype : PType → PType
-rebuilt_offset_ptype U8 = U32
-rebuilt_offset_ptype U16 = U32
-rebuilt_offset_ptype U32 = U32
-rebuilt_offset_ptype U64 = U64
-rebuilt_offset_ptype I8 = I32
-rebuilt_offset_ptype I16 = I32
-rebuilt_offset_ptype I32 = I32
-rebuilt_offset_ptype I64 = I64
+-- the type that offsets or sizes of a type have in a rebuilt list view
+abbrev pub rebuilt_ptype : PType → PType
+rebuilt_ptype U8 = U32
+rebuilt_ptype U16 = U32
+rebuilt_ptype U32 = U32
+rebuilt_ptype U64 = U64
+rebuilt_ptype I8 = I32
+rebuilt_ptype I16 = I32
+rebuilt_ptype I32 = I32
+rebuilt_ptype I64 = I64
 
 -- the sizes of a list view, 0 at its null rows
 abbrev pub valid_sizes_of : Tree → List ℕ
@@ -100,23 +100,23 @@ valid_positions_of t = joined_positions (counts_in (offsets_of t)) (valid_sizes_
 abbrev pub total_of : Tree → ℕ
 total_of t = valid_total (counts_in (sizes_of t)) (mask_of t)
 
--- what a list view is rebuilt from: its offsets and the sizes of its valid rows, as bytes of their types, and the total of
--- these sizes
+-- what a list view is rebuilt from: its offsets, as bytes of their type, the sizes of its valid rows, as bytes of the rebuilt
+-- type, and the total of these sizes
 pub record IsRebuildPlan (t : Tree) (offset_type : PType) (offsets : List ℕ) (size_type : PType) (sizes : List ℕ) (count : ℕ) : Type 0 where
   pub offset_type_is : offset_type ≡ integer_type (kind_of (offsets_of t))
   pub offsets_are : HoldCounts offset_type offsets (counts_in (offsets_of t))
-  pub size_type_is : size_type ≡ integer_type (kind_of (sizes_of t))
+  pub size_type_is : size_type ≡ rebuilt_ptype (integer_type (kind_of (sizes_of t)))
   pub sizes_are : HoldCounts size_type sizes (valid_sizes_of t)
   pub count_is : count ≡ total_of t
 
--- a flagged list view in the canonical layout of the rows of another, under the same kind and state, with offsets of the
--- rebuilt type and sizes of their own
+-- a flagged list view in the canonical layout of the rows of another, under the same kind and state, with offsets and sizes
+-- of the rebuilt types
 pub record IsRebuilt (t r : Tree) : Type 0 where
   pub is_view : is_list_view r ≡ true
   pub canonical_layout : list_layout_of r ≡ canonical (list_rows t)
   pub flag : flag_of r ≡ true
-  pub offsets_kind : kind_of (offsets_of r) ≡ integers (rebuilt_offset_ptype (integer_type (kind_of (offsets_of t)))) false
-  pub sizes_kind : kind_of (sizes_of r) ≡ kind_of (sizes_of t)
+  pub offsets_kind : kind_of (offsets_of r) ≡ integers (rebuilt_ptype (integer_type (kind_of (offsets_of t)))) false
+  pub sizes_kind : kind_of (sizes_of r) ≡ integers (rebuilt_ptype (integer_type (kind_of (sizes_of t)))) false
   pub kind : kind_of r ≡ kind_of t
   pub state : state_of (validity_of r) ≡ state_of (validity_of t)
   pub same_rows : rows r ≡ rows t

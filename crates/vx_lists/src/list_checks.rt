@@ -7,7 +7,7 @@ ghost use Rattle.vx_tree.specs.Formed.{WellFormed, IsCounts};
 ghost use Rattle.vx_tree.specs.Meaning.{tree_len, kind_of};
 ghost use Rattle.vx_tree.specs.Parts.{valid_of};
 ghost use Rattle.vx_tree.specs.Tree.{list_view};
-ghost use Rattle.vx_lists.specs.ListViewFaults.{list_row_fault, list_parts_fault, list_rows_fault, list_view_fault, total_fault};
+ghost use Rattle.vx_lists.specs.ListViewFaults.{list_row_fault, list_parts_fault, list_rows_fault, list_view_fault, either_total_fault};
 
 use crate::count_arrays::number_bytes;
 use crate::number_rows::check_number_rows;
@@ -100,12 +100,20 @@ pub(crate) fn check_list_view(
     check_list_rows(elements.len(), offsets, sizes)
 }
 
-// Refuses a total that passes the greatest number of an offset type.
-pub(crate) fn check_total(ptype: PType, total: u128) -> Result<usize, VortexError>
-    ensures tests { Tests result (total_fault ptype total) }
+// Refuses a total that passes the greatest number of the offset type or of the size type, and
+// gives any other as a count.
+pub(crate) fn check_total(
+    offset_type: PType,
+    size_type: PType,
+    total: u128,
+) -> Result<usize, VortexError>
+    ensures tests { Tests result (either_total_fault offset_type size_type total) }
     ensures same { IfOk result (λ count. count ≡ total) }
 {
-    if total > usize::MAX as u128 || !ptype.holds(total as i128) {
+    if total > usize::MAX as u128
+        || !offset_type.holds(total as i128)
+        || !size_type.holds(total as i128)
+    {
         return Err(VortexError::Overflow);
     }
     Ok(total as usize)

@@ -16,7 +16,7 @@ use crate::count_arrays::count_bytes;
 use crate::list_checks::check_total;
 use crate::list_view::ListViewArray;
 use crate::rebuild_plan::{
-    RebuildPlan, element_runs, list_starts, positions_of_runs, rebuilt_offset_ptype, valid_sizes,
+    RebuildPlan, element_runs, list_starts, positions_of_runs, rebuilt_ptype, valid_sizes,
     valid_total,
 };
 use std::alloc::Global;
@@ -37,7 +37,8 @@ pub enum ListViewRebuildMode {
 }
 
 impl ListViewArray {
-    // What is needed of the numbers, once their total is known to fit.
+    // What is needed of the numbers, once both rebuilt types are known to hold the total of the
+    // valid sizes. Refuses `Overflow` where one does not.
     fn plan(&self, alloc: Global) -> Result<RebuildPlan, VortexError>
         ensures ok { IfOk result (λ plan. IsRebuildPlan self.now plan.offset_type plan.offsets
             plan.size_type plan.sizes plan.count) }
@@ -49,13 +50,14 @@ impl ListViewArray {
         let mask = parts.validity.execute_mask(alloc, parts.offsets.len())?;
         let sizes = count_bytes(alloc, parts.sizes)?;
         let total = valid_total(size_type, sizes.as_slice(), &mask);
-        let count = check_total(rebuilt_offset_ptype(offset_type), total)?;
-        let sizes = valid_sizes(alloc, size_type, &sizes, &mask)?;
+        let rebuilt_type = rebuilt_ptype(size_type);
+        let count = check_total(rebuilt_ptype(offset_type), rebuilt_type, total)?;
+        let sizes = valid_sizes(alloc, size_type, &sizes, &mask, rebuilt_type)?;
         let offsets = count_bytes(alloc, parts.offsets)?;
         Ok(RebuildPlan {
             offset_type,
             offsets,
-            size_type,
+            size_type: rebuilt_type,
             sizes,
             count,
         })
@@ -162,7 +164,7 @@ impl ListViewArray {
         ensures { Gives result (IsRebuilt self.now) }
     {
         let validity = self.parts().validity.try_clone(alloc)?;
-        let offset_type = rebuilt_offset_ptype(plan.offset_type);
+        let offset_type = rebuilt_ptype(plan.offset_type);
         let starts = list_starts(alloc, offset_type, plan.size_type, plan.sizes.as_slice())?;
         let offsets = ArrayRef::primitive(alloc, offset_type, starts, Validity::NonNullable)?;
         let sizes = ArrayRef::primitive(
@@ -177,10 +179,12 @@ impl ListViewArray {
 
     /// The same rows in the one layout that they fix: the valid lists lie end to end in their order
     /// and no element is left over, a null row has the running offset and size 0, and the flag is
-    /// set. Offsets are `u32` from `u8`, `u16` and `u32`, `u64` from `u64`, `i32` from `i8`, `i16`
-    /// and `i32`, `i64` from `i64`; sizes keep their type. The elements are taken at once. Refuses
-    /// `Overflow` where the total of the valid sizes passes the greatest number of the new offset
-    /// type, or where taking that many elements is refused.
+    /// set. Offsets become `u32` where they are `u8`, `u16` or `u32`, `i32` where they are `i8`,
+    /// `i16` or `i32`, and stay `u64` or `i64`; sizes do the same, by their own type. The elements
+    /// are taken at once. Refuses `Overflow`, before an element is copied, where the total of the
+    /// valid sizes passes the greatest number of the new offset type or of the new size type, or
+    /// where taking that many elements is refused. Over the elements 1, 2, 3 the `i32` offsets 0, 1
+    /// and `i16` sizes 3, 2 become the `i32` offsets 0, 3 and `i32` sizes 3, 2 over 1, 2, 3, 2, 3.
     pub fn rebuild_by_take(&self, alloc: Global) -> Result<ListViewArray, VortexError>
         ensures rebuilt { IfOk result (IsRebuilt self.now) }
         ensures refuses { Refuses result (rebuild_overflow self.now) }
@@ -190,8 +194,8 @@ impl ListViewArray {
         Ok(self.rebuilt(alloc, plan, elements)?)
     }
 
-    /// The same as `rebuild_by_take` gives, copied run by run: no list of a position for each
-    /// element is made.
+    /// What `rebuild_by_take` gives, of the same types and refused alike, copied run by run: no list
+    /// of a position for each element is made.
     pub fn rebuild_by_runs(&self, alloc: Global) -> Result<ListViewArray, VortexError>
         ensures rebuilt { IfOk result (IsRebuilt self.now) }
         ensures refuses { Refuses result (rebuild_overflow self.now) }
@@ -234,7 +238,9 @@ impl ListViewArray {
     /// `referenced_element_bounds`; `MakeExact` gives a flagged one trimmed, and one without the
     /// flag laid end to end; `OverlapCompression` refuses `NotImplemented`. Lists are laid end to
     /// end as `rebuild_by_take` does where `should_use_take` says so of the total of the valid
-    /// sizes and the rows, else as `rebuild_by_runs` does; both refuse `Overflow`.
+    /// sizes and the rows, else as `rebuild_by_runs` does: both give offsets and sizes their new
+    /// types, and both refuse `Overflow`. What comes back as it is, flagged or trimmed keeps the
+    /// types of both.
     pub fn rebuild(
         &self,
         alloc: Global,

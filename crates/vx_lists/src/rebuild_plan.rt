@@ -1,22 +1,23 @@
 // What a list view is rebuilt from: the runs of its elements and its new numbers, in loops over the
-// bytes of its offsets and sizes.
+// bytes of its offsets and sizes. Valid rows are gone through run by run.
 
-ghost use Rattle.std.specs.Prelude.{◌≡◌, ◌+◌, ◌*◌, ◌<◌, ◌≤◌, ◌^◌, ◌++◌, ◌∷◌, [], ℕ, pos, length, map, sum, slice_index, IfOk};
-ghost use Rattle.std.specs.List.{flat_map};
+ghost use Rattle.std.specs.Prelude.{◌≡◌, ◌+◌, ◌*◌, ◌-◌, ◌<◌, ◌≤◌, ◌^◌, ◌++◌, ◌∷◌, [], ℕ, pos, length, map, sum, replicate};
+ghost use Rattle.std.specs.Prelude.{slice_index, slice_range, IfOk};
+ghost use Rattle.std.specs.List.{All, flat_map};
 ghost use Rattle.vx_base.specs.Integers.{byte_width, Holds, numbers};
 ghost use Rattle.vx_base.specs.Refusals.{Gives};
 ghost use Rattle.vx_base.specs.Selections.{run_positions};
 ghost use Rattle.vx_lists.specs.CountBytes.{counts_of, numbers_before, AreCountBytes, HoldCounts};
 ghost use Rattle.vx_lists.specs.ListLayout.{joined_positions, starts_from, valid_sizes, valid_total};
-ghost use Rattle.vx_lists.specs.ListViews.{rebuilt_offset_ptype};
+ghost use Rattle.vx_lists.specs.ListViews.{rebuilt_ptype};
 
 use std::alloc::Global;
 use vx_base::{
     ByteBuffer, Mask, NativePType, PType, VortexError, call_native, int_at, number_count, put_int,
 };
 
-/// The offsets of a list view and the sizes of its valid rows, 0 at null rows, as bytes of their
-/// types, and how many elements these rows have in all.
+/// The offsets of a list view, as bytes of their type, the sizes of its valid rows, 0 at null rows,
+/// as bytes of their rebuilt type, and how many elements these rows have in all.
 #[derive(Drop)]
 pub(crate) struct RebuildPlan {
     pub offset_type: PType,
@@ -26,9 +27,9 @@ pub(crate) struct RebuildPlan {
     pub count: usize,
 }
 
-// The type of the offsets of a rebuilt list view.
-pub(crate) fn rebuilt_offset_ptype(ptype: PType) -> PType
-    ensures { result ≡ rebuilt_offset_ptype ptype }
+// The type that offsets or sizes of a type have in a rebuilt list view.
+pub(crate) fn rebuilt_ptype(ptype: PType) -> PType
+    ensures { result ≡ rebuilt_ptype ptype }
 {
     match ptype {
         PType::U8 | PType::U16 | PType::U32 => PType::U32,
@@ -66,6 +67,17 @@ fn put_count<T: NativePType>(out: &mut [u8], i: usize, count: usize)
     );
 }
 
+// The bytes of the counts of a run.
+#[inline]
+fn bytes_of_run<T: NativePType>(bytes: &[u8], start: usize, end: usize) -> &[u8]
+    requires ordered { start ≤ end }
+    requires within { end ≤ length (numbers T.PTYPE bytes.now) }
+    ensures { numbers T.PTYPE result.now ≡ slice_range (numbers T.PTYPE bytes.now) start end }
+{
+    let width = T::PTYPE.byte_width();
+    &bytes[start * width..end * width]
+}
+
 // How many elements the present rows have in all.
 pub(crate) fn valid_total(ptype: PType, sizes: &[u8], mask: &Mask) -> u128
     requires counts { AreCountBytes ptype sizes.now }
@@ -81,66 +93,115 @@ fn typed_total<S: NativePType>(sizes: &[u8], mask: &Mask) -> u128
     requires same_len { length mask.now ≡ length (numbers S.PTYPE sizes.now) }
     ensures { result ≡ valid_total (counts_of S.PTYPE sizes.now) mask.now }
 {
-    let all = mask.all_true();
+    let runs = mask.runs();
     let mut total = 0;
-    for row in 0..number_count(sizes, S::PTYPE) {
-        let size = count_of_bytes::<S>(sizes, row);
-        if all || mask.value(row) {
-            total += size as u128;
-        }
+    for run in runs {
+        let (start, end) = *run;
+        total += sum_counts::<S>(bytes_of_run::<S>(sizes, start, end));
     }
     total
 }
 
-// The sizes of the present rows, and 0 for each null row: shared where no row is null.
+// The sum of these counts.
+#[inline]
+fn sum_counts<T: NativePType>(counts: &[u8]) -> u128
+    requires { AreCountBytes T.PTYPE counts.now }
+    ensures sum { result ≡ sum (counts_of T.PTYPE counts.now) }
+    ensures bounded { result ≤ (2 ^ 64 - 1) * length (numbers T.PTYPE counts.now) }
+{
+    let mut total = 0;
+    for i in 0..number_count(counts, T::PTYPE) {
+        total += count_of_bytes::<T>(counts, i) as u128;
+    }
+    total
+}
+
+// The sizes of the present rows, and 0 for each null row, as bytes of another type that holds their
+// sum: shared where the type is the same and no row is null.
 pub(crate) fn valid_sizes(
     alloc: Global,
     ptype: PType,
     sizes: &ByteBuffer,
     mask: &Mask,
+    new_type: PType,
 ) -> Result<ByteBuffer, VortexError>
     requires counts { AreCountBytes ptype sizes.now }
     requires whole { length sizes.now ≡ length (numbers ptype sizes.now) * byte_width ptype }
     requires same_len { length mask.now ≡ length (numbers ptype sizes.now) }
+    requires holds { Holds new_type (pos (valid_total (counts_of ptype sizes.now) mask.now)) }
     ensures { Gives result (λ b.
-        HoldCounts ptype b (valid_sizes (counts_of ptype sizes.now) mask.now)) }
+        HoldCounts new_type b (valid_sizes (counts_of ptype sizes.now) mask.now)) }
 {
-    if mask.all_true() {
+    if ptype == new_type && mask.all_true() {
         return Ok(sizes.try_clone(alloc)?);
     }
-    call_native!(ptype, typed_sizes(alloc, sizes.as_slice(), mask))
+    call_native!(ptype, sizes_from(alloc, sizes.as_slice(), mask, new_type))
 }
 
-fn typed_sizes<S: NativePType>(
+fn sizes_from<S: NativePType>(
+    alloc: Global,
+    sizes: &[u8],
+    mask: &Mask,
+    new_type: PType,
+) -> Result<ByteBuffer, VortexError>
+    requires counts { AreCountBytes S.PTYPE sizes.now }
+    requires same_len { length mask.now ≡ length (numbers S.PTYPE sizes.now) }
+    requires holds { Holds new_type (pos (valid_total (counts_of S.PTYPE sizes.now) mask.now)) }
+    ensures { Gives result (λ b.
+        HoldCounts new_type b (valid_sizes (counts_of S.PTYPE sizes.now) mask.now)) }
+{
+    call_native!(new_type, typed_sizes::<S>(alloc, sizes, mask))
+}
+
+fn typed_sizes<S: NativePType, N: NativePType>(
     alloc: Global,
     sizes: &[u8],
     mask: &Mask,
 ) -> Result<ByteBuffer, VortexError>
     requires counts { AreCountBytes S.PTYPE sizes.now }
-    requires whole { length sizes.now ≡ length (numbers S.PTYPE sizes.now) * byte_width S.PTYPE }
     requires same_len { length mask.now ≡ length (numbers S.PTYPE sizes.now) }
+    requires holds { Holds N.PTYPE (pos (valid_total (counts_of S.PTYPE sizes.now) mask.now)) }
     ensures { Gives result (λ b.
-        HoldCounts S.PTYPE b (valid_sizes (counts_of S.PTYPE sizes.now) mask.now)) }
+        HoldCounts N.PTYPE b (valid_sizes (counts_of S.PTYPE sizes.now) mask.now)) }
 {
-    let mut out = vec![in alloc; 0u8; sizes.len()]?;
-    put_valid_sizes::<S>(sizes, mask, &mut out);
+    let count = number_count(sizes, S::PTYPE);
+    let Some(len) = count.checked_mul(N::PTYPE.byte_width()) else {
+        return Err(VortexError::Memory);
+    };
+    let mut out = vec![in alloc; 0u8; len]?;
+    put_valid_sizes::<S, N>(sizes, mask, &mut out);
     Ok(ByteBuffer::from_vec(alloc, out)?)
 }
 
+// Writes the sizes of the present rows over bytes that are all 0.
 #[inline(never)]
-fn put_valid_sizes<S: NativePType>(sizes: &[u8], mask: &Mask, out: &mut [u8])
+fn put_valid_sizes<S: NativePType, N: NativePType>(sizes: &[u8], mask: &Mask, out: &mut [u8])
     requires counts { AreCountBytes S.PTYPE sizes.now }
     requires same_len { length mask.now ≡ length (numbers S.PTYPE sizes.now) }
-    requires room { length out.old ≡ length (numbers S.PTYPE sizes.now) * byte_width S.PTYPE }
-    ensures { HoldCounts S.PTYPE out.new (valid_sizes (counts_of S.PTYPE sizes.now) mask.now) }
+    requires holds { Holds N.PTYPE (pos (valid_total (counts_of S.PTYPE sizes.now) mask.now)) }
+    requires zeroed { out.old
+        ≡ replicate (length (numbers S.PTYPE sizes.now) * byte_width N.PTYPE) 0 }
+    ensures { HoldCounts N.PTYPE out.new (valid_sizes (counts_of S.PTYPE sizes.now) mask.now) }
 {
-    for row in 0..number_count(sizes, S::PTYPE) {
-        let size = if mask.value(row) {
-            count_of_bytes::<S>(sizes, row)
-        } else {
-            0
-        };
-        put_count::<S>(out, row, size);
+    let width = N::PTYPE.byte_width();
+    let runs = mask.runs();
+    for run in runs {
+        let (start, end) = *run;
+        let present = bytes_of_run::<S>(sizes, start, end);
+        put_counts::<S, N>(present, &mut out[start * width..end * width]);
+    }
+}
+
+// Writes these counts as bytes of another type, which holds each of them.
+#[inline]
+fn put_counts<T: NativePType, N: NativePType>(counts: &[u8], out: &mut [u8])
+    requires counts { AreCountBytes T.PTYPE counts.now }
+    requires held { All (λ n. Holds N.PTYPE (pos n)) (counts_of T.PTYPE counts.now) }
+    requires room { length out.old ≡ length (numbers T.PTYPE counts.now) * byte_width N.PTYPE }
+    ensures { HoldCounts N.PTYPE out.new (counts_of T.PTYPE counts.now) }
+{
+    for i in 0..number_count(counts, T::PTYPE) {
+        put_count::<N>(out, i, count_of_bytes::<T>(counts, i));
     }
 }
 

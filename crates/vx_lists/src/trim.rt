@@ -18,7 +18,7 @@ use vx_tree::{ArrayRef, TypedArray, Validity, rows_fit_their_dtype};
 
 impl ListViewArray {
     /// The same rows over the elements from `start` up to `end` alone: each offset is less by
-    /// `start`, and sizes, validity, types and flag stay. Asks that no list starts before `start`
+    /// `start`; the sizes, the types of both, the validity and the flag stay. Asks that no list starts before `start`
     /// or ends past `end`, null rows counted, that `start` is at most `end`, and `end` at most the
     /// number of elements. Of lists at 2 and 5, of two elements each, over nine elements, the part
     /// `2..7` has lists at 0 and 3 over five.

@@ -1,38 +1,104 @@
-use Rattle.std.proofs.Common.{◌≡◌, ◌*◌, ◌<◌, ℕ, List, length, cond, get_or, sym, ap, ◌∙◌, arith}
-use Rattle.vx_base.specs.Integers.{byte_width, numbers}
-use Rattle.vx_lists.specs.CountBytes.{counts_of}
-use Rattle.vx_lists.specs.ListLayout.{valid_sizes}
-use Rattle.vx_lists.proofs.CountBytes.{length-counts_of, AreWritten-none, AreWritten-more, AreWritten-all}
-use Rattle.vx_lists.proofs.PlannedRows.{get_or-valid_sizes, length-valid_sizes}
+use Rattle.std.proofs.Common.{◌≡◌, ◌*◌, ◌<◌, ◌≤◌, ℕ, List, length, get_or, refl, sym, ap, subst, ◌∙◌, arith}
+use Rattle.std.specs.Prelude.{pos, slice_range}
+use Rattle.std.specs.List.{All}
+use Rattle.vx_base.specs.Integers.{byte_width, Holds}
+use Rattle.vx_lists.specs.CountBytes.{counts_of, HoldCounts}
+use Rattle.vx_lists.proofs.CountBytes.{length-counts_of}
+use Rattle.vx_lists.proofs.ValidRuns.{counts_of-part, length-counts_part, sizes_held, run_room, length-run, run_put, HoldCounts-zeroes, HoldCounts-all}
 use Rattle.vx_lists.proofs.rebuild_plan.put_valid_sizes.Goals as goal
-use Rattle.vx_lists.proofs.rebuild_plan.put_valid_sizes.Goals.{then-value, else-value}
 
-pub loop-row-init : goal.loop-row-init
-loop-row-init g c =
-    let t = g.S.NativePType.PTYPE in
-    let ss : List ℕ = counts_of t c.args.sizes.now in
-    let same_len : length c.args.mask.now ≡ length ss = c.requires.same_len ∙ sym (length-counts_of t c.args.sizes.now) in
-    AreWritten-none t (valid_sizes ss c.args.mask.now) c.args.out.now (c.requires.room ∙ ap (λ n. n * byte_width t) (sym (length-valid_sizes ss c.args.mask.now same_len ∙ length-counts_of t c.args.sizes.now)))
+pub loop-run-init : goal.loop-run-init
+loop-run-init g c =
+    let s = g.S.NativePType.PTYPE in
+    let t = g.N.NativePType.PTYPE in
+    let ss : List ℕ = counts_of s c.args.sizes.now in
+    let rows : length c.args.mask.now ≡ length ss = c.requires.same_len ∙ sym (length-counts_of s c.args.sizes.now) in
+    HoldCounts-zeroes t ss c.args.out.now (length c.args.mask.now) rows (rw c.requires.same_len c.requires.zeroed)
 
-pub loop-row-preserved : goal.loop-row-preserved
-loop-row-preserved g c =
-    let t = g.S.NativePType.PTYPE in
-    let ss : List ℕ = counts_of t c.args.sizes.now in
-    let i : ℕ = c.loop-row.row in
-    let size : ℕ = get_or ss i 0 in
-    let same_len : length c.args.mask.now ≡ length ss = c.requires.same_len ∙ sym (length-counts_of t c.args.sizes.now) in
-    let inside : i < length (valid_sizes ss c.args.mask.now) = omega (arith, length-valid_sizes ss c.args.mask.now same_len, length-counts_of t c.args.sizes.now, c.number_count-row-end.ensures, ap (λ p. length (numbers p c.args.sizes.now)) c.PTYPE.ensures) in
-    let here : c.if-value.size ≡ get_or (valid_sizes ss c.args.mask.now) i 0 =
-    elim c.if-value.branch [
-      | then-value w ↦ w.size-is ∙ w.count_of_bytes-size.ensures.value ∙ ap (λ b. cond b size 0) (sym w.if-value.true ∙ c.value.ensures)
-      | else-value w ↦ w.size-is ∙ ap (λ b. cond b size 0) (sym w.if-value.false ∙ c.value.ensures)
-    ] ∙ sym (get_or-valid_sizes ss c.args.mask.now i) in
-    AreWritten-more t (valid_sizes ss c.args.mask.now) i c.loop-row.out c.put_count.new.out c.if-value.size c.loop-row.invariant inside here c.put_count.ensures.len c.put_count.ensures.numbers
+pub overflow_mul-start : goal.overflow_mul-start
+overflow_mul-start g c =
+    let s = g.S.NativePType.PTYPE in
+    let ss : List ℕ = counts_of s c.args.sizes.now in
+    let rows : length c.args.mask.now ≡ length ss = c.requires.same_len ∙ sym (length-counts_of s c.args.sizes.now) in
+    let wide : c.byte_width-width.result ≡ byte_width g.N.NativePType.PTYPE = c.byte_width-width.ensures ∙ ap byte_width c.PTYPE.ensures in
+    let room = run_room g.N.NativePType.PTYPE ss c.loop-run.out c.args.mask.now c.runs-runs.result.now c.loop-run.run-index c.byte_width-width.result wide rows c.runs-runs.ensures.apart c.loop-run-test.true c.loop-run.invariant in
+    omega (arith, room.0, room.1)
+
+pub overflow_mul-end : goal.overflow_mul-end
+overflow_mul-end g c =
+    let s = g.S.NativePType.PTYPE in
+    let ss : List ℕ = counts_of s c.args.sizes.now in
+    let rows : length c.args.mask.now ≡ length ss = c.requires.same_len ∙ sym (length-counts_of s c.args.sizes.now) in
+    let wide : c.byte_width-width.result ≡ byte_width g.N.NativePType.PTYPE = c.byte_width-width.ensures ∙ ap byte_width c.PTYPE.ensures in
+    let room = run_room g.N.NativePType.PTYPE ss c.loop-run.out c.args.mask.now c.runs-runs.result.now c.loop-run.run-index c.byte_width-width.result wide rows c.runs-runs.ensures.apart c.loop-run-test.true c.loop-run.invariant in
+    omega (arith, room.1)
+
+pub slice_bounds-put_counts-count : goal.slice_bounds-put_counts-count
+slice_bounds-put_counts-count g c =
+    let s = g.S.NativePType.PTYPE in
+    let ss : List ℕ = counts_of s c.args.sizes.now in
+    let rows : length c.args.mask.now ≡ length ss = c.requires.same_len ∙ sym (length-counts_of s c.args.sizes.now) in
+    let wide : c.byte_width-width.result ≡ byte_width g.N.NativePType.PTYPE = c.byte_width-width.ensures ∙ ap byte_width c.PTYPE.ensures in
+    (run_room g.N.NativePType.PTYPE ss c.loop-run.out c.args.mask.now c.runs-runs.result.now c.loop-run.run-index c.byte_width-width.result wide rows c.runs-runs.ensures.apart c.loop-run-test.true c.loop-run.invariant).0
+
+pub slice_bounds-put_counts-start : goal.slice_bounds-put_counts-start
+slice_bounds-put_counts-start g c =
+    let s = g.S.NativePType.PTYPE in
+    let ss : List ℕ = counts_of s c.args.sizes.now in
+    let rows : length c.args.mask.now ≡ length ss = c.requires.same_len ∙ sym (length-counts_of s c.args.sizes.now) in
+    let wide : c.byte_width-width.result ≡ byte_width g.N.NativePType.PTYPE = c.byte_width-width.ensures ∙ ap byte_width c.PTYPE.ensures in
+    (run_room g.N.NativePType.PTYPE ss c.loop-run.out c.args.mask.now c.runs-runs.result.now c.loop-run.run-index c.byte_width-width.result wide rows c.runs-runs.ensures.apart c.loop-run-test.true c.loop-run.invariant).0
+
+pub slice_bounds-put_counts-end : goal.slice_bounds-put_counts-end
+slice_bounds-put_counts-end g c =
+    let s = g.S.NativePType.PTYPE in
+    let ss : List ℕ = counts_of s c.args.sizes.now in
+    let rows : length c.args.mask.now ≡ length ss = c.requires.same_len ∙ sym (length-counts_of s c.args.sizes.now) in
+    let wide : c.byte_width-width.result ≡ byte_width g.N.NativePType.PTYPE = c.byte_width-width.ensures ∙ ap byte_width c.PTYPE.ensures in
+    (run_room g.N.NativePType.PTYPE ss c.loop-run.out c.args.mask.now c.runs-runs.result.now c.loop-run.run-index c.byte_width-width.result wide rows c.runs-runs.ensures.apart c.loop-run-test.true c.loop-run.invariant).1
+
+pub put_counts-requires-clause-held : goal.put_counts-requires-clause-held
+put_counts-requires-clause-held g c =
+    let s = g.S.NativePType.PTYPE in
+    let t = g.N.NativePType.PTYPE in
+    let ss : List ℕ = counts_of s c.args.sizes.now in
+    let i : ℕ = c.loop-run.run-index in
+    let run : ℕ × ℕ = get_or c.runs-runs.result.now i (0, 0) in
+    let filled : run.0 < run.1 = c.runs-runs.ensures.apart.filled i (0, 0) c.loop-run-test.true in
+    let within : run.1 ≤ length c.args.mask.now = c.runs-runs.ensures.apart.within i (0, 0) c.loop-run-test.true in
+    let rows : length c.args.mask.now ≡ length ss = c.requires.same_len ∙ sym (length-counts_of s c.args.sizes.now) in
+    let held = sizes_held t ss c.args.mask.now c.runs-runs.result.now i run.0 run.1 rows c.runs-runs.ensures.trues c.loop-run-test.true refl (omega arith) (omega (arith, rows)) c.requires.holds.1 in
+    subst (All (λ n. Holds t (pos n))) (sym (counts_of-part s c.args.sizes.now c.bytes_of_run-present.result.now run.0 run.1 c.bytes_of_run-present.ensures)) held
+
+pub put_counts-requires-clause-room : goal.put_counts-requires-clause-room
+put_counts-requires-clause-room g c =
+    let s = g.S.NativePType.PTYPE in
+    let t = g.N.NativePType.PTYPE in
+    let ss : List ℕ = counts_of s c.args.sizes.now in
+    let i : ℕ = c.loop-run.run-index in
+    let run : ℕ × ℕ = get_or c.runs-runs.result.now i (0, 0) in
+    let filled : run.0 < run.1 = c.runs-runs.ensures.apart.filled i (0, 0) c.loop-run-test.true in
+    let within : run.1 ≤ length c.args.mask.now = c.runs-runs.ensures.apart.within i (0, 0) c.loop-run-test.true in
+    let rows : length c.args.mask.now ≡ length ss = c.requires.same_len ∙ sym (length-counts_of s c.args.sizes.now) in
+    let wide : c.byte_width-width.result ≡ byte_width t = c.byte_width-width.ensures ∙ ap byte_width c.PTYPE.ensures in
+    let part_len = length-counts_part s c.args.sizes.now c.bytes_of_run-present.result.now run.0 run.1 c.bytes_of_run-present.ensures (omega arith) (omega (arith, c.requires.same_len)) in
+    length-run t ss c.loop-run.out c.args.mask.now c.runs-runs.result.now i c.byte_width-width.result wide rows c.runs-runs.ensures.apart c.loop-run-test.true c.loop-run.invariant
+    ∙ ap (λ n. n * byte_width t) (sym part_len)
+
+pub loop-run-preserved : goal.loop-run-preserved
+loop-run-preserved g c =
+    let s = g.S.NativePType.PTYPE in
+    let t = g.N.NativePType.PTYPE in
+    let ss : List ℕ = counts_of s c.args.sizes.now in
+    let i : ℕ = c.loop-run.run-index in
+    let run : ℕ × ℕ = get_or c.runs-runs.result.now i (0, 0) in
+    let rows : length c.args.mask.now ≡ length ss = c.requires.same_len ∙ sym (length-counts_of s c.args.sizes.now) in
+    let wide : c.byte_width-width.result ≡ byte_width t = c.byte_width-width.ensures ∙ ap byte_width c.PTYPE.ensures in
+    let part : HoldCounts t c.put_counts.new.out (slice_range ss run.0 run.1) = subst (HoldCounts t c.put_counts.new.out) (counts_of-part s c.args.sizes.now c.bytes_of_run-present.result.now run.0 run.1 c.bytes_of_run-present.ensures) c.put_counts.ensures in
+    run_put t ss c.loop-run.out c.args.mask.now c.runs-runs.result.now i c.byte_width-width.result wide rows c.runs-runs.ensures.apart c.loop-run-test.true c.loop-run.invariant c.put_counts.new.out part
 
 pub returns : goal.returns
 returns g c =
-    let t = g.S.NativePType.PTYPE in
-    let ss : List ℕ = counts_of t c.args.sizes.now in
-    let same_len : length c.args.mask.now ≡ length ss = c.requires.same_len ∙ sym (length-counts_of t c.args.sizes.now) in
-    let end : c.loop-row.row ≡ length (valid_sizes ss c.args.mask.now) = omega (arith, length-valid_sizes ss c.args.mask.now same_len, length-counts_of t c.args.sizes.now, c.number_count-row-end.ensures, ap (λ p. length (numbers p c.args.sizes.now)) c.PTYPE.ensures) in
-    AreWritten-all t (valid_sizes ss c.args.mask.now) c.loop-row.row c.loop-row.out end c.loop-row.invariant
+    let ss : List ℕ = counts_of g.S.NativePType.PTYPE c.args.sizes.now in
+    let all : length c.runs-runs.result.now ≤ c.loop-run.run-index = omega arith in
+    HoldCounts-all g.N.NativePType.PTYPE ss c.loop-run.out c.args.mask.now c.runs-runs.result.now c.loop-run.run-index c.runs-runs.ensures.apart c.runs-runs.ensures.trues all c.loop-run.invariant

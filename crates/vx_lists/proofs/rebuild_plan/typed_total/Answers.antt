@@ -1,35 +1,46 @@
-use Rattle.std.proofs.Common.{◌≡◌, ◌+◌, ◌<◌, ◌≤◌, ◌^◌, ℕ, List, length, cond, false, true, get_or, sym, ap, add-zero, ◌∙◌, arith}
-use Rattle.vx_base.specs.Integers.{numbers}
+use Rattle.std.proofs.Common.{◌≡◌, ◌+◌, ◌-◌, ◌*◌, ◌<◌, ◌≤◌, ◌^◌, ℕ, List, length, get_or, sum, refl, sym, ap, ◌∙◌, arith}
+use Rattle.std.specs.Prelude.{slice_range}
 use Rattle.vx_lists.specs.CountBytes.{counts_of}
 use Rattle.vx_lists.proofs.CountBytes.{length-counts_of}
-use Rattle.vx_lists.proofs.PlannedRows.{IsTotal-more, IsTotal-all, all_true_at}
+use Rattle.vx_lists.proofs.ValidRuns.{counts_of-part, length-counts_part, counts_few, IsRunsTotal-more, IsRunsTotal-small, IsRunsTotal-all}
 use Rattle.vx_lists.proofs.rebuild_plan.typed_total.Goals as goal
-use Rattle.vx_lists.proofs.rebuild_plan.typed_total.Goals.{then-all, then-all-via-then-all, then-all-via-else-all+then-value, else-all+else-value}
 
-pub loop-row-preserved : goal.loop-row-preserved
-loop-row-preserved g c =
-    let ss : List ℕ = counts_of g.S.NativePType.PTYPE c.args.sizes.now in
-    let i : ℕ = c.loop-row.row in
-    let size : ℕ = get_or ss i 0 in
-    let same_len : length c.args.mask.now ≡ length ss = c.requires.same_len ∙ sym (length-counts_of g.S.NativePType.PTYPE c.args.sizes.now) in
-    let inside : i < length ss = omega (arith, length-counts_of g.S.NativePType.PTYPE c.args.sizes.now, c.number_count-row-end.ensures, ap (λ t. length (numbers t c.args.sizes.now)) c.PTYPE.ensures) in
-    let fits : size < 2 ^ 64 = omega (arith, c.count_of_bytes-size.ensures.value, c.count_of_bytes-size.type_inv) in
-    let added : c.if-all.total ≡ c.loop-row.total + cond (get_or c.args.mask.now i false) size 0 =
-    elim c.if-all.branch [
-      | then-all w ↦
-          let valid : get_or c.args.mask.now i false ≡ true =
-          elim w.then-all.branch [
-            | then-all-via-then-all w' ↦ all_true_at c.args.mask.now i (c.all_true-all.ensures.0 w'.if-all.true) (omega (arith, same_len))
-            | then-all-via-else-all+then-value w' ↦ sym w'.value.ensures ∙ w'.if-value.true
-          ] in
-          w.total-is ∙ ap (λ n. c.loop-row.total + n) (c.count_of_bytes-size.ensures.value ∙ sym (ap (λ b. cond b size 0) valid))
-      | else-all+else-value w ↦ w.total-is ∙ sym (add-zero c.loop-row.total) ∙ ap (λ b. c.loop-row.total + cond b size 0) (sym w.if-value.false ∙ w.value.ensures)
-    ] in
-    IsTotal-more ss c.args.mask.now i c.loop-row.total c.if-all.total same_len inside fits c.loop-row.invariant added
+pub overflow_add-total : goal.overflow_add-total
+overflow_add-total g c =
+    let s = g.S.NativePType.PTYPE in
+    let ss : List ℕ = counts_of s c.args.sizes.now in
+    let runs : List (ℕ × ℕ) = c.runs-runs.result.now in
+    let i : ℕ = c.loop-run.run-index in
+    let run : ℕ × ℕ = get_or runs i (0, 0) in
+    let inside : i < length runs = c.loop-run-test.true in
+    let filled : run.0 < run.1 = c.runs-runs.ensures.apart.filled i (0, 0) inside in
+    let within : run.1 ≤ length c.args.mask.now = c.runs-runs.ensures.apart.within i (0, 0) inside in
+    let rows : length c.args.mask.now ≡ length ss = c.requires.same_len ∙ sym (length-counts_of s c.args.sizes.now) in
+    let part_len = length-counts_part s c.args.sizes.now c.bytes_of_run.result.now run.0 run.1 c.bytes_of_run.ensures (omega arith) (omega (arith, c.requires.same_len)) in
+    let here : c.sum_counts-total.result ≡ sum (slice_range ss run.0 run.1) = c.sum_counts-total.ensures.sum ∙ ap sum (counts_of-part s c.args.sizes.now c.bytes_of_run.result.now run.0 run.1 c.bytes_of_run.ensures) in
+    let more = IsRunsTotal-more ss runs i run.0 run.1 c.loop-run.total c.sum_counts-total.result (c.loop-run.total + c.sum_counts-total.result) inside refl (omega arith) (omega (arith, rows)) c.loop-run.invariant here (omega (arith, c.sum_counts-total.ensures.bounded, part_len)) refl in
+    let small : c.loop-run.total + c.sum_counts-total.result ≤ (2 ^ 64 - 1) * length c.args.mask.now = IsRunsTotal-small ss c.args.mask.now runs (i + 1) (c.loop-run.total + c.sum_counts-total.result) c.runs-runs.ensures.trues more in
+    omega (arith, small, c.requires.same_len, counts_few s c.args.sizes.now)
+
+pub loop-run-preserved : goal.loop-run-preserved
+loop-run-preserved g c =
+    let s = g.S.NativePType.PTYPE in
+    let ss : List ℕ = counts_of s c.args.sizes.now in
+    let runs : List (ℕ × ℕ) = c.runs-runs.result.now in
+    let i : ℕ = c.loop-run.run-index in
+    let run : ℕ × ℕ = get_or runs i (0, 0) in
+    let inside : i < length runs = c.loop-run-test.true in
+    let filled : run.0 < run.1 = c.runs-runs.ensures.apart.filled i (0, 0) inside in
+    let within : run.1 ≤ length c.args.mask.now = c.runs-runs.ensures.apart.within i (0, 0) inside in
+    let rows : length c.args.mask.now ≡ length ss = c.requires.same_len ∙ sym (length-counts_of s c.args.sizes.now) in
+    let part_len = length-counts_part s c.args.sizes.now c.bytes_of_run.result.now run.0 run.1 c.bytes_of_run.ensures (omega arith) (omega (arith, c.requires.same_len)) in
+    let here : c.sum_counts-total.result ≡ sum (slice_range ss run.0 run.1) = c.sum_counts-total.ensures.sum ∙ ap sum (counts_of-part s c.args.sizes.now c.bytes_of_run.result.now run.0 run.1 c.bytes_of_run.ensures) in
+    IsRunsTotal-more ss runs i run.0 run.1 c.loop-run.total c.sum_counts-total.result (c.loop-run.total + c.sum_counts-total.result) inside refl (omega arith) (omega (arith, rows)) c.loop-run.invariant here (omega (arith, c.sum_counts-total.ensures.bounded, part_len)) refl
 
 pub returns : goal.returns
 returns g c =
-    let ss : List ℕ = counts_of g.S.NativePType.PTYPE c.args.sizes.now in
-    let same_len : length c.args.mask.now ≡ length ss = c.requires.same_len ∙ sym (length-counts_of g.S.NativePType.PTYPE c.args.sizes.now) in
-    let end : length ss ≤ c.loop-row.row = omega (arith, length-counts_of g.S.NativePType.PTYPE c.args.sizes.now, c.number_count-row-end.ensures, ap (λ t. length (numbers t c.args.sizes.now)) c.PTYPE.ensures) in
-    IsTotal-all ss c.args.mask.now c.loop-row.row c.loop-row.total same_len end c.loop-row.invariant
+    let s = g.S.NativePType.PTYPE in
+    let ss : List ℕ = counts_of s c.args.sizes.now in
+    let rows : length c.args.mask.now ≡ length ss = c.requires.same_len ∙ sym (length-counts_of s c.args.sizes.now) in
+    let all : length c.runs-runs.result.now ≤ c.loop-run.run-index = omega arith in
+    IsRunsTotal-all ss c.args.mask.now c.runs-runs.result.now c.loop-run.run-index c.loop-run.total rows c.runs-runs.ensures.trues all c.loop-run.invariant
