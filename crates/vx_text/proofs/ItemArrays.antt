@@ -107,7 +107,7 @@ size_long v b o small long = by_length (cases_lt MAX_INLINED_SIZE (length v))
     by_length (inr h) = let same : view_size (view_of v b o) ≡ length v = ap view_size (view_of_short v b o h) ∙ size_of_inlined v small in absurd (omega (arith, same, long, h))
 
 -- the view of a value that it reads is sound
-sound_view : (buffers : List (List ℕ)) (u : Bool) (v view : List ℕ) (b o : ℕ) → view ≡ view_of v b o → length v < 2 ^ 32 → ReadsAs buffers view v → (IsTrue u → IsUtf8 v) → IsSoundView buffers u view
+pub sound_view : (buffers : List (List ℕ)) (u : Bool) (v view : List ℕ) (b o : ℕ) → view ≡ view_of v b o → length v < 2 ^ 32 → ReadsAs buffers view v → (IsTrue u → IsUtf8 v) → IsSoundView buffers u view
 sound_view buffers u v view b o is small r utf8 = record {
   resolves = r.resolves;
   begins = λ long.
@@ -121,6 +121,10 @@ sound_view buffers u v view b o is small r utf8 = record {
 no_value : (item : Item) → is_some item ≡ false → value_of item ≡ []
 no_value None e = refl
 no_value (Some value) e = cc
+
+-- the view of no bytes
+pub empty_view : (v : List ℕ) (b o : ℕ) → v ≡ [] → view_of v b o ≡ replicate 16 0
+empty_view v b o e = ap (λ w. view_of w b o) e ∙ view_of_short [] b o (omega arith) ∙ sym (view_of_short [] 0 0 (omega arith)) ∙ empty_is_zeroes
 
 pub items_formed : (k : Kind) (items : List Item) (views buffers : List (List ℕ)) → k ≡ value_kind (is_texts k) (is_nullable_kind k) → items_fault (is_texts k) (is_nullable_kind k) items ≡ None → AreCut items buffers views
     → WellFormed (view_array views buffers k (valid_items (is_nullable_kind k) (map is_some items)))
@@ -141,9 +145,6 @@ items_formed k items views buffers kind none c =
             c.each i here ∙ empty_view (value_of (item_at items i)) _ _ empty;
       },
     )
-  where
-    empty_view : (v : List ℕ) (b o : ℕ) → v ≡ [] → view_of v b o ≡ replicate 16 0
-    empty_view v b o e = ap (λ w. view_of w b o) e ∙ view_of_short [] b o (omega arith) ∙ sym (view_of_short [] 0 0 (omega arith)) ∙ empty_is_zeroes
 
 row_of_item : (b u : Bool) (buffers : List (List ℕ)) (view : List ℕ) (item : Item) → b ≡ is_some item → view_value buffers view ≡ value_of item → (if b then value_row u (view_value buffers view) else null) ≡ item_row u item
 row_of_item b u buffers view None e r = rw e refl

@@ -47,7 +47,7 @@ pub lengths_back : (lens : List ℕ) → lengths_of (map pos lens) ≡ lens
 lengths_back [] = refl
 lengths_back (n ∷ lens) = ap (λ ns. n ∷ ns) (lengths_back lens)
 
-number_at : (lens : List ℕ) (k : ℕ) → k < length lens → number_nth (map pos lens) k ≡ pos (get_or lens k 0)
+pub number_at : (lens : List ℕ) (k : ℕ) → k < length lens → number_nth (map pos lens) k ≡ pos (get_or lens k 0)
 number_at lens k l = get_or-map pos lens k 0 (pos 0) l
 
 -- lengths of a heap, none of them longer than a buffer, have no fault but that of too many buffers

@@ -4,3 +4,5 @@ mod ItemViews
 mod ItemCuts
 mod ItemArrays
 mod ItemFaults
+mod HeapCounts
+mod Rebuffering

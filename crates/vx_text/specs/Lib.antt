@@ -2,3 +2,4 @@ pub mod Texts
 pub mod TextFaults
 pub mod Items
 pub mod Collected
+pub mod Rebuffered

@@ -1,14 +1,13 @@
 -- Texts and byte lists by their views: their parts, and what an array is made of.
-use Rattle.std.specs.Prelude.{◌≡◌, ◌<◌, ℕ, Bool, List, [], length, map, slice_index_or, if◌then◌else◌}
-use Rattle.std.specs.List.{range_with_len}
+use Rattle.std.specs.Prelude.{◌≡◌, ◌<◌, ℕ, List, [], length, slice_index_or, if◌then◌else◌}
 use Rattle.vx_base.specs.Rows.{null}
 use Rattle.vx_base.specs.Kinds.{Kind}
 use Rattle.vx_views.specs.Views.{view_value, Resolves}
 use Rattle.vx_views.specs.Sound.{AreSoundViews}
+pub use Rattle.vx_views.specs.Emptied.{emptied_views}
 use Rattle.vx_tree.specs.Tree.{Tree, view_array, Valid, non_nullable}
 use Rattle.vx_tree.specs.Meaning.{row_at, is_valid_at, is_texts, nullable, valid_mask, value_row}
 use Rattle.vx_tree.specs.Formed.{ValidFits, value_kind}
-use Rattle.vx_tree.specs.Operations.{valid_view}
 pub use Rattle.vx_tree.specs.Layouts.{is_view_array}
 
 -- ---- the parts of an array of its layout
@@ -57,10 +56,6 @@ pub record AreViewParts (views buffers : List (List ℕ)) (k : Kind) (v : Valid)
   pub kind : k ≡ value_kind (is_texts k) (nullable v)
   pub fits : ValidFits v (length views)
   pub sound : AreSoundViews views (valid_mask v (length views)) buffers (is_texts k)
-
--- the views where a mask is true, 16 zero bytes elsewhere
-abbrev pub emptied_views : List (List ℕ) → List Bool → List (List ℕ)
-emptied_views views mask = map (valid_view views mask) (range_with_len 0 (length views))
 
 -- the array of these parts: the views of null rows are emptied
 abbrev pub array_of_views : List (List ℕ) → List (List ℕ) → Kind → Valid → Tree

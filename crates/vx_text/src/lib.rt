@@ -4,6 +4,7 @@
 mod data_from_items;
 mod from_items;
 mod items;
+mod rebuffer;
 mod var_bin_view;
 mod var_bin_view_data;
 mod var_bin_view_ext;

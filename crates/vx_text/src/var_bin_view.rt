@@ -4,16 +4,15 @@ ghost use Rattle.std.specs.Prelude.{◌≡◌, length, true, IfOk};
 ghost use Rattle.vx_base.specs.DTypes.{dtype_meaning};
 ghost use Rattle.vx_base.specs.Refusals.{Gives, Refuses};
 ghost use Rattle.vx_tree.specs.Formed.{WellFormed};
-ghost use Rattle.vx_tree.specs.Meaning.{valid_mask};
 ghost use Rattle.vx_tree.specs.Parts.{valid_of};
 ghost use Rattle.vx_tree.specs.Tree.{view_array};
 ghost use Rattle.vx_text.specs.Texts.{is_view_array, AreViewParts, HasValues, array_of_views};
 ghost use Rattle.vx_text.specs.TextFaults.{view_array_fault};
 
-use crate::view_parts::{checked_mask, emptied};
+use crate::view_parts::{checked_views, emptied};
 use std::alloc::Global;
 use std::marker::Model;
-use vx_base::{Buffer, ByteBuffer, DType, Mask, VortexError};
+use vx_base::{Buffer, ByteBuffer, DType, VortexError};
 use vx_tree::{ArrayRef, Layout, TypedArray, Validity};
 use vx_views::BinaryView;
 
@@ -72,7 +71,8 @@ impl TypedArray for VarBinViewArray {
 
 impl VarBinViewArray {
     /// The array of the values of these views, null where the validity is false. What the view of a
-    /// null row says is not kept. Asks what `try_new` tests. Fails only for want of memory.
+    /// null row says is not kept. Asks what `try_new` tests. Fails only for want of memory. Only
+    /// where rows are null and another buffer shares the views are they copied.
     pub fn new(
         alloc: Global,
         views: Buffer<BinaryView>,
@@ -87,7 +87,8 @@ impl VarBinViewArray {
             (HasValues views buffers.items (dtype_meaning dtype) (valid_of validity)) }
     {
         let mask = validity.execute_mask(alloc, views.len())?;
-        VarBinViewArray::of_mask(alloc, views, buffers, dtype, validity, &mask)
+        let views = emptied(alloc, views, &mask)?;
+        VarBinViewArray::of_parts(alloc, views, buffers, dtype, validity)
     }
 
     /// The array of the values of these views, null where the validity is false. What the view of a
@@ -98,7 +99,8 @@ impl VarBinViewArray {
     /// null may stand by the data type but not by the validity, or the other way round;
     /// `LengthMismatch` where the validity has not one row a view; then at the first faulty valid
     /// row, as `check_views` does, `BadBuffer`, `BadStart`, `BadEnd`, `BadPrefix`, or `NotUtf8` of
-    /// texts. Bytes that no valid view refers to never refuse.
+    /// texts. Bytes that no valid view refers to never refuse. The views are gone through once; only
+    /// where rows are null and another buffer shares the views are they copied.
     pub fn try_new(
         alloc: Global,
         views: Buffer<BinaryView>,
@@ -113,25 +115,22 @@ impl VarBinViewArray {
         ensures refuses { Refuses result
             (view_array_fault views buffers.items (dtype_meaning dtype) (valid_of validity)) }
     {
-        let mask = checked_mask(alloc, views.as_slice(), &buffers, &dtype, &validity)?;
-        VarBinViewArray::of_mask(alloc, views, buffers, dtype, validity, &mask)
+        let views = checked_views(alloc, views, &buffers, &dtype, &validity)?;
+        VarBinViewArray::of_parts(alloc, views, buffers, dtype, validity)
     }
 
-    // The array of these parts, of which the mask is known.
-    fn of_mask(
+    // The array of parts of which the views of null rows are emptied.
+    fn of_parts(
         alloc: Global,
         views: Buffer<BinaryView>,
         buffers: Vec<ByteBuffer>,
         dtype: DType,
         validity: Validity,
-        mask: &Mask,
     ) -> Result<VarBinViewArray, VortexError>
-        requires parts { AreViewParts views buffers.items (dtype_meaning dtype) (valid_of validity) }
-        requires mask { mask.now ≡ valid_mask (valid_of validity) (length views) }
+        requires { WellFormed (view_array views buffers.items (dtype_meaning dtype) (valid_of validity)) }
         ensures { Gives result (λ a. a
-            ≡ array_of_views views buffers.items (dtype_meaning dtype) (valid_of validity)) }
+            ≡ view_array views buffers.items (dtype_meaning dtype) (valid_of validity)) }
     {
-        let views = emptied(alloc, views, mask)?;
         let array = ArrayRef::var_bin_view(alloc, views, buffers, dtype, validity)?;
         Ok(VarBinViewArray { array })
     }

@@ -8,7 +8,7 @@ ghost use Rattle.vx_text.specs.Texts.{AreViewParts, AllResolve, array_of_views, 
 ghost use Rattle.vx_text.specs.TextFaults.{view_array_fault};
 
 use crate::var_bin_view::VarBinViewArray;
-use crate::view_parts::{checked_mask, is_utf8, parts_mask};
+use crate::view_parts::{budget_of, is_utf8, parts_mask};
 use std::alloc::Global;
 use std::fmt;
 use std::marker::Model;
@@ -82,8 +82,15 @@ impl VarBinViewData {
         ensures refuses { Refuses result
             (view_array_fault views.now buffers.now (dtype_meaning dtype.now) (valid_of validity.now)) }
     {
-        checked_mask(alloc, views, buffers, dtype, validity)?;
-        Ok(())
+        let mask = parts_mask(alloc, views.len(), dtype, validity)?;
+        check_views(
+            alloc,
+            views,
+            &mask,
+            buffers,
+            is_utf8(dtype),
+            budget_of(&mask),
+        )
     }
 
     /// The same, where so many bytes of whole buffers may be read ahead: the answer is the same for

@@ -13,7 +13,7 @@ ghost use Rattle.vx_text.specs.TextFaults.{is_values, parts_fault, view_array_fa
 use std::alloc::Global;
 use vx_base::{Buffer, ByteBuffer, DType, Mask, VortexError};
 use vx_tree::Validity;
-use vx_views::{BinaryView, check_views};
+use vx_views::{BinaryView, check_and_empty_views, check_views};
 
 // How many bytes of whole buffers may be read ahead for each valid row.
 const BUDGET_OF_A_ROW: usize = 64;
@@ -85,23 +85,35 @@ pub(crate) fn parts_mask(
     validity.execute_mask(alloc, len)
 }
 
-// The mask of parts that make an array; else their first fault.
-pub(crate) fn checked_mask(
+// How many bytes of whole buffers may be read ahead where these rows are checked.
+pub(crate) fn budget_of(mask: &Mask) -> usize {
+    mask.true_count().saturating_mul(BUDGET_OF_A_ROW)
+}
+
+// The views of parts that make an array, those of null rows emptied; else the parts' first fault.
+// The views are gone through once, and copied only where another buffer shares them.
+pub(crate) fn checked_views(
     alloc: Global,
-    views: &[BinaryView],
+    views: Buffer<BinaryView>,
     buffers: &[ByteBuffer],
     dtype: &DType,
     validity: &Validity,
-) -> Result<Mask, VortexError>
-    ensures mask { IfOk result (λ m. m ≡ valid_mask (valid_of validity.now) (length views.now)) }
-    ensures parts { IfOk result (λ _. AreViewParts views.now buffers.now (dtype_meaning dtype.now) (valid_of validity.now)) }
+) -> Result<Buffer<BinaryView>, VortexError>
+    ensures views { IfOk result (λ b. b
+        ≡ emptied_views views (valid_mask (valid_of validity.now) (length views))) }
+    ensures parts { IfOk result (λ _. AreViewParts views buffers.now (dtype_meaning dtype.now) (valid_of validity.now)) }
     ensures refuses { Refuses result
-        (view_array_fault views.now buffers.now (dtype_meaning dtype.now) (valid_of validity.now)) }
+        (view_array_fault views buffers.now (dtype_meaning dtype.now) (valid_of validity.now)) }
 {
     let mask = parts_mask(alloc, views.len(), dtype, validity)?;
-    let budget = mask.true_count().saturating_mul(BUDGET_OF_A_ROW);
-    check_views(alloc, views, &mask, buffers, is_utf8(dtype), budget)?;
-    Ok(mask)
+    let (is_text, budget) = (is_utf8(dtype), budget_of(&mask));
+    if mask.all_true() {
+        check_views(alloc, views.as_slice(), &mask, buffers, is_text, budget)?;
+        return Ok(views);
+    }
+    let mut own = views.into_vec(alloc)?;
+    check_and_empty_views(alloc, own.as_mut_slice(), &mask, buffers, is_text, budget)?;
+    Buffer::from_vec(alloc, own)
 }
 
 // The views where the mask is true, and 16 zero bytes elsewhere.
@@ -116,26 +128,20 @@ pub(crate) fn emptied(
     if mask.all_true() {
         return Ok(views);
     }
-    Buffer::from_vec(alloc, valid_views(alloc, views.as_slice(), mask)?)
+    let mut own = views.into_vec(alloc)?;
+    empty_null_views(own.as_mut_slice(), mask);
+    Buffer::from_vec(alloc, own)
 }
 
-// The views where the mask is true, and 16 zero bytes elsewhere.
-fn valid_views(
-    alloc: Global,
-    views: &[BinaryView],
-    mask: &Mask,
-) -> Result<Vec<BinaryView>, VortexError>
-    requires { length mask.now ≡ length views.now }
-    ensures { Gives result (λ made. made.items ≡ emptied_views views.now mask.now) }
+// Each view where the mask is false becomes the view of no bytes, 16 zero bytes.
+fn empty_null_views(views: &mut [BinaryView], mask: &Mask)
+    requires { length mask.now ≡ length views.old }
+    ensures { views.new ≡ emptied_views views.old mask.now }
 {
-    let mut made = Vec::with_capacity(alloc, views.len())?;
-    for row in 0..views.len() {
-        let view = if mask.value(row) {
-            views[row]
-        } else {
-            BinaryView::empty_view()
-        };
-        made.push_reserved(view);
+    let mut valid = mask.rows();
+    for (row, view) in views.iter_mut().enumerate() {
+        if !valid.value(row) {
+            *view = BinaryView::empty_view();
+        }
     }
-    Ok(made)
 }
