@@ -217,15 +217,15 @@ def rebuild(array: Array, mode: str) -> Array:
         return trim(array)
     if array.flag:
         return array
-    offset_type = REBUILT[array.offsets.kind]
+    offset_type, size_type = REBUILT[array.offsets.kind], REBUILT[array.sizes.kind]
     sizes = [0 if row is None else len(row) for row in array.rows]
-    want(sum(sizes) in RANGES[offset_type], "Overflow")
+    want(sum(sizes) in RANGES[offset_type] and sum(sizes) in RANGES[size_type], "Overflow")
     offsets = [sum(sizes[:i]) for i in range(len(sizes))]
     rows = [item for row in array.rows if row is not None for item in row]
     return array._replace(
         elements=array.elements._replace(layout="rows", rows=rows),
         offsets=Array("primitive", offset_type, False, offsets),
-        sizes=Array("primitive", array.sizes.kind, False, sizes),
+        sizes=Array("primitive", size_type, False, sizes),
         flag=True,
         is_exact=True,
     )
