@@ -7,3 +7,4 @@ pub mod PickedValues
 pub mod ComparedLists
 pub mod FirstLists
 pub mod RebuildModes
+pub mod PackedRows

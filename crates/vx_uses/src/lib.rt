@@ -9,5 +9,6 @@ pub mod first;
 pub mod kernel;
 pub mod modes;
 pub mod reader;
+pub mod repacking;
 pub mod texts;
 pub mod writer;

@@ -3,6 +3,7 @@
 mod columns;
 mod layouts;
 mod refusals;
+mod repacked;
 
 use std::alloc::Global;
 use std::test::Fail;

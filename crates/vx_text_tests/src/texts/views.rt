@@ -1,6 +1,7 @@
 // Arrays of views from outside: what is taken, and what is refused.
 
 use super::{BYTE_LISTS, SOME_TEXTS, TEXTS, fault_of, is_value, one_view};
+use std::alloc::Global;
 use std::test::Fail;
 use vx_base::{BitBuffer, Buffer, DType, Nullability, PType, VortexError};
 use vx_text::{VarBinViewArray, VarBinViewData};
@@ -62,6 +63,37 @@ fn some_rows_are_emptied(rt: HostRuntime) -> Result<(), Fail> {
     let array = VarBinViewArray::try_new(rt.alloc(), views, none, SOME_TEXTS, valid)?;
     let data = array.to_data(rt.alloc())?;
     assert!(rt; data.views()[0] == short && data.views()[2] == short);
+    assert_eq!(rt; data.views()[1].as_u128(), 0);
+    Ok(())
+}
+
+// The array of these views, of which every other row is null, from the second on.
+fn every_other(alloc: Global, views: Buffer<BinaryView>) -> Result<VarBinViewArray, VortexError> {
+    let bits = BitBuffer::from_bools(alloc, &[true, false])?;
+    let valid = Validity::from_buffer(alloc, bits)?;
+    VarBinViewArray::try_new(alloc, views, Vec::new(alloc), SOME_TEXTS, valid)
+}
+
+#[test]
+fn views_that_are_lent_stay_as_they_were(rt: HostRuntime) -> Result<(), Fail> {
+    let lost = BinaryView::new_ref(13, *b"abcd", 9, 0);
+    let short = BinaryView::new_inlined(b"ab");
+    let lent = Buffer::copy_from(rt.alloc(), &[lost, short, lost])?;
+    let array = every_other(rt.alloc(), lent.slice(rt.alloc(), 1..3)?)?;
+    assert!(rt; lent.as_slice() == [lost, short, lost].as_slice());
+    let data = array.to_data(rt.alloc())?;
+    assert!(rt; data.len() == 2 && data.views()[0] == short);
+    assert_eq!(rt; data.views()[1].as_u128(), 0);
+    Ok(())
+}
+
+#[test]
+fn views_behind_others_are_emptied_in_place(rt: HostRuntime) -> Result<(), Fail> {
+    let lost = BinaryView::new_ref(13, *b"abcd", 9, 0);
+    let short = BinaryView::new_inlined(b"ab");
+    let views = Buffer::copy_from(rt.alloc(), &[lost, short, lost])?.slice(rt.alloc(), 1..3)?;
+    let data = every_other(rt.alloc(), views)?.to_data(rt.alloc())?;
+    assert!(rt; data.len() == 2 && data.views()[0] == short);
     assert_eq!(rt; data.views()[1].as_u128(), 0);
     Ok(())
 }

@@ -142,18 +142,26 @@ fn elements_of_another_layout_are_taken(rt: HostRuntime) -> Result<(), Fail> {
     Ok(())
 }
 
-// Lists of 2^31 elements in all, with offsets of 32 bits.
-fn lists_past_their_offsets(alloc: Global) -> Result<ListViewArray, VortexError> {
+// Lists of 2^31 elements in all, with these offsets and sizes of 32 bits.
+fn lists_past_32_bits(alloc: Global, offsets: ArrayRef) -> Result<ListViewArray, VortexError> {
     let zero = Scalar::int(0, PType::I32, Nullability::NonNullable);
     let elements = ArrayRef::constant(alloc, zero, 4_294_967_296)?;
-    let offsets = ints::<i32>(alloc, &[0, 0])?;
     let sizes = ints::<i32>(alloc, &[2_147_483_647, 1])?;
     ListViewArray::try_new(alloc, elements, offsets, sizes, Validity::NonNullable)
 }
 
 #[test]
 fn a_total_past_the_offset_type_is_refused(rt: HostRuntime) -> Result<(), Fail> {
-    let rebuilt = lists_past_their_offsets(rt.alloc())?.rebuild_by_take(rt.alloc());
+    let offsets = ints::<i32>(rt.alloc(), &[0, 0])?;
+    let rebuilt = lists_past_32_bits(rt.alloc(), offsets)?.rebuild_by_take(rt.alloc());
+    assert!(rt; matches!(rebuilt, Err(VortexError::Overflow)));
+    Ok(())
+}
+
+#[test]
+fn a_total_past_the_size_type_is_refused(rt: HostRuntime) -> Result<(), Fail> {
+    let offsets = ints::<i64>(rt.alloc(), &[0, 0])?;
+    let rebuilt = lists_past_32_bits(rt.alloc(), offsets)?.rebuild_by_runs(rt.alloc());
     assert!(rt; matches!(rebuilt, Err(VortexError::Overflow)));
     Ok(())
 }
@@ -178,7 +186,20 @@ fn small_offsets_grow(rt: HostRuntime) -> Result<(), Fail> {
     )?;
     let rebuilt = lists.rebuild_by_take(alloc)?;
     assert!(rt; has_ranges(&rebuilt, &[(0, 150), (150, 150)]) && rebuilt.is_consecutive());
-    assert!(rt; has_type(rebuilt.offsets(), PType::U32) && has_type(rebuilt.sizes(), PType::U8));
+    assert!(rt; has_type(rebuilt.offsets(), PType::U32) && has_type(rebuilt.sizes(), PType::U32));
+    Ok(())
+}
+
+#[test]
+fn small_sizes_grow(rt: HostRuntime) -> Result<(), Fail> {
+    let alloc = rt.alloc();
+    let elements = ints::<i32>(alloc, &[1, 2, 3])?;
+    let offsets = ints::<i32>(alloc, &[0, 1])?;
+    let sizes = ints::<i16>(alloc, &[3, 2])?;
+    let lists = ListViewArray::try_new(alloc, elements, offsets, sizes, Validity::NonNullable)?;
+    let rebuilt = lists.rebuild(alloc, ListViewRebuildMode::MakeZeroCopyToList)?;
+    assert!(rt; has_ranges(&rebuilt, &[(0, 3), (3, 2)]));
+    assert!(rt; has_type(rebuilt.offsets(), PType::I32) && has_type(rebuilt.sizes(), PType::I32));
     Ok(())
 }
 
@@ -304,6 +325,33 @@ fn referenced_elements_are_marked(rt: HostRuntime) -> Result<(), Fail> {
     let mask = lists.compute_referenced_elements_mask(alloc)?;
     assert_eq!(rt; mask.len(), lists.elements().len());
     assert!(rt; mask.len() == 4 && mask.true_count() == 2);
+    Ok(())
+}
+
+// The lists `[1]` and `[2]` over 9, 1, 2, 9, with offsets and sizes of eight bits: flagged.
+fn flagged_narrow(alloc: Global) -> Result<ListViewArray, VortexError> {
+    let validity = Validity::NonNullable;
+    let lists = view::<u8>(alloc, &[9, 1, 2, 9], &[1, 2], &[1, 1], validity)?;
+    let flag = lists.is_consecutive();
+    lists.with_zero_copy_to_list(alloc, flag)
+}
+
+#[test]
+fn flagged_views_keep_their_types(rt: HostRuntime) -> Result<(), Fail> {
+    let lists = flagged_narrow(rt.alloc())?;
+    let kept = lists.rebuild(rt.alloc(), ListViewRebuildMode::MakeZeroCopyToList)?;
+    assert!(rt; kept.is_zero_copy_to_list() && has_ranges(&kept, &[(1, 1), (2, 1)]));
+    assert!(rt; has_numbers(kept.elements(), &[9, 1, 2, 9]));
+    assert!(rt; has_type(kept.offsets(), PType::U8) && has_type(kept.sizes(), PType::U8));
+    Ok(())
+}
+
+#[test]
+fn exact_views_keep_their_types(rt: HostRuntime) -> Result<(), Fail> {
+    let lists = flagged_narrow(rt.alloc())?;
+    assert!(rt; is_exact_with(rt.alloc(), &lists, &[1, 2])?);
+    let exact = lists.rebuild(rt.alloc(), ListViewRebuildMode::MakeExact)?;
+    assert!(rt; has_type(exact.offsets(), PType::U8) && has_type(exact.sizes(), PType::U8));
     Ok(())
 }
 

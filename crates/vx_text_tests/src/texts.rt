@@ -2,6 +2,7 @@
 
 mod iterated;
 mod parts;
+mod rebuffered;
 mod views;
 
 use std::alloc::Global;

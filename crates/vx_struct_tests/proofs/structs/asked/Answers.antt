@@ -3,7 +3,7 @@ use Rattle.std.proofs.lemmas.Iterator.{items_from_drains}
 use Rattle.std.proofs.lemmas.Iterator.Adapters.{YieldsList-from_vec}
 use Rattle.std.proofs.lemmas.List.{map-id}
 use Rattle.vx_tree.specs.Tree.{Tree}
-use Rattle.vx_tests.proofs.structs.asked.Goals as goal
+use Rattle.vx_struct_tests.proofs.structs.asked.Goals as goal
 
 pub new-requires-clause-formed : goal.new-requires-clause-formed
 new-requires-clause-formed c = λ all came.
