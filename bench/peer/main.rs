@@ -5,6 +5,7 @@
 
 mod leaves;
 mod parts;
+mod texts;
 mod trees;
 
 use std::hint::black_box;
@@ -328,6 +329,24 @@ fn filter_items<T: Copy>(items: &[T], mask: &Bits) -> Vec<T> {
     kept
 }
 
+/// The items of a mask whose true bits are counted, a word of the mask at a time.
+#[inline(never)]
+fn filter_by_words<T: Copy>(items: &[T], mask: &Bits, count: usize) -> Vec<T> {
+    let mut kept = Vec::with_capacity(count);
+    for (items, word) in items.chunks(64).zip(mask.words.as_slice()) {
+        if *word == !0 {
+            kept.extend_from_slice(items);
+            continue;
+        }
+        let mut left = *word;
+        while left != 0 {
+            kept.push(items[left.trailing_zeros() as usize]);
+            left &= left - 1;
+        }
+    }
+    kept
+}
+
 #[inline(never)]
 fn filter_fixed_lists(elements: &[u32], mask: &Bits) -> Vec<u32> {
     let mut kept = Vec::with_capacity(mask.true_count() * 4);
@@ -409,7 +428,7 @@ impl Numbers<'_> {
 
 // ---- views ----
 
-const MAX_BUFFER_LEN: usize = i32::MAX as usize;
+const MAX_BUFFER_LEN: usize = u32::MAX as usize;
 const MAX_INLINED_SIZE: usize = 12;
 
 /// The bits of an inlined view that no ASCII text sets.
@@ -599,6 +618,12 @@ fn check_in_text(views: &[View], buffers: &[Buffer<u8>]) -> Result<()> {
     })
 }
 
+/// Each value that lies in a buffer alone, by the standard library.
+#[inline(never)]
+fn check_each_by_std(views: &[View], buffers: &[Buffer<u8>]) -> Result<()> {
+    check_views(views, buffers, |buffer, range| std::str::from_utf8(&buffer[range]).is_ok())
+}
+
 #[inline(never)]
 fn check_each(views: &[View], buffers: &[Buffer<u8>]) -> Result<()> {
     check_views(views, buffers, |buffer, range| {
@@ -729,15 +754,40 @@ fn list_view(scale_rows: usize, shape: ListShape) -> Result<Arc<ListViewArray>> 
     ListViewArray::try_new(elements, number_array(offsets), sizes, validity)
 }
 
-fn text_heap(rows: usize, mixed: bool) -> (Buffer<u8>, Vec<u32>) {
+/// Which texts there are: whether half of the pairs of bytes are one letter of Latin-1, and how many
+/// bytes one text in 128 has; the others have 8 or 24.
+#[derive(Clone, Copy)]
+struct Texts {
+    mixed: bool,
+    longest: u32,
+}
+
+const ASCII: Texts = Texts { mixed: false, longest: 24 };
+const MIXED: Texts = Texts { mixed: true, longest: 24 };
+const LONG_ASCII: Texts = Texts { mixed: false, longest: 2000 };
+const LONG_MIXED: Texts = Texts { mixed: true, longest: 2000 };
+
+impl Texts {
+    fn length(self, number: u32) -> u32 {
+        if number & 0x7F00 == 0 && self.longest > 24 {
+            self.longest
+        } else if number & 0x80 == 0 {
+            8
+        } else {
+            24
+        }
+    }
+}
+
+fn text_heap(rows: usize, texts: Texts) -> (Buffer<u8>, Vec<u32>) {
     let mut random = Random(4);
     let (mut bytes, mut lengths) = (Vec::new(), Vec::with_capacity(rows));
     for _ in 0..rows {
-        let length = if random.number() & 0x80 == 0 { 8 } else { 24 };
+        let length = texts.length(random.number());
         lengths.push(length);
         for _ in 0..length / 2 {
             let number = random.number();
-            if mixed && number & 0x1000 == 0 {
+            if texts.mixed && number & 0x1000 == 0 {
                 bytes.extend([0xC3, 0x80 + (number % 64) as u8]);
             } else {
                 bytes.extend([b'a' + (number % 26) as u8, b'a' + ((number >> 17) % 26) as u8]);
@@ -751,9 +801,6 @@ fn text_heap(rows: usize, mixed: bool) -> (Buffer<u8>, Vec<u32>) {
 
 trait Operation {
     type Made;
-
-    /// Readies what a run uses up; it is not timed.
-    fn prepare(&mut self) {}
 
     /// The operation: this alone is timed.
     fn run(&mut self) -> Result<Self::Made>;
@@ -770,7 +817,6 @@ struct Bench {
 impl Bench {
     fn measure<O: Operation>(&self, mut operation: O) -> Result<()> {
         for _ in 0..self.runs.unwrap_or(1) {
-            operation.prepare();
             let start = Instant::now();
             let made = black_box(black_box(&mut operation).run()?);
             let nanos = start.elapsed().as_nanos();
@@ -970,6 +1016,26 @@ impl Operation for Narrow {
     }
 }
 
+/// A mask of bits, shared, with how many are true, and the numbers that it keeps.
+struct Keep {
+    numbers: Vec<u32>,
+    bits: Bits,
+}
+
+impl Operation for Keep {
+    type Made = Arc<PrimitiveArray>;
+
+    fn run(&mut self) -> Result<Arc<PrimitiveArray>> {
+        let mask = self.bits.clone();
+        let count = mask.true_count();
+        Ok(number_array(filter_by_words(&self.numbers, &mask, count)))
+    }
+
+    fn checksum(&self, made: Arc<PrimitiveArray>) -> u64 {
+        EMPTY.with_numbers(made.numbers()).0
+    }
+}
+
 struct ReferencedValues(Vec<u32>);
 
 impl Operation for ReferencedValues {
@@ -1019,7 +1085,7 @@ impl Operation for ListViewTryNew {
     }
 
     fn checksum(&self, made: Arc<ListViewArray>) -> u64 {
-        made.offsets.len() as u64
+        EMPTY.with_list_view(&made).0
     }
 }
 
@@ -1145,21 +1211,17 @@ impl Operation for Equal {
     }
 }
 
+/// Words of bits for each run, and how many bits they are.
 struct Fill {
     rows: usize,
-    words: Vec<u64>,
+    ready: Vec<Vec<u64>>,
 }
 
 impl Operation for Fill {
     type Made = Vec<u64>;
 
-    fn prepare(&mut self) {
-        let zeroes = (0..self.rows.div_ceil(64)).map(|i| black_box(i as u64 * 0));
-        self.words = zeroes.collect();
-    }
-
     fn run(&mut self) -> Result<Vec<u64>> {
-        let mut words = std::mem::take(&mut self.words);
+        let mut words = self.ready.pop().ok_or(Refusal::Usage)?;
         fill(&mut words, black_box(3)..self.rows - 5);
         Ok(words)
     }
@@ -1284,7 +1346,7 @@ impl Operation for WriteCounts {
     }
 }
 
-const OPERATIONS: [&str; 78] = [
+const OPERATIONS: [&str; 85] = [
     "rebuild_in_order",
     "rebuild_at_random",
     "rebuild_in_order_null",
@@ -1306,6 +1368,9 @@ const OPERATIONS: [&str; 78] = [
     "filter_records",
     "filter_dictionary",
     "filter_constant",
+    "kept_at_random",
+    "kept_in_runs",
+    "kept_in_one_run",
     "mask_numbers",
     "mask_bools",
     "mask_list_view",
@@ -1340,6 +1405,9 @@ const OPERATIONS: [&str; 78] = [
     "check_views_ascii",
     "check_views_mixed",
     "check_views_bytes",
+    "check_long_ascii",
+    "check_long_mixed",
+    "rebuffer_filtered",
     "bits_from_bools",
     "true_count",
     "and_bits",
@@ -1363,14 +1431,15 @@ const OPERATIONS: [&str; 78] = [
     "bools_to_mask",
     "narrow",
     "referenced_values",
+    "referenced_values_but_one",
 ];
 
 fn byte_buffer(numbers: &[u32]) -> Buffer<u8> {
     Buffer::new(numbers.iter().flat_map(|number| number.to_le_bytes()).collect())
 }
 
-fn measure_check(bench: &Bench, mixed: bool, check: fn(&[View], &[Buffer<u8>]) -> Result<()>) -> Result<()> {
-    let (heap, lengths) = text_heap(bench.rows, mixed);
+fn measure_check(bench: &Bench, texts: Texts, check: fn(&[View], &[Buffer<u8>]) -> Result<()>) -> Result<()> {
+    let (heap, lengths) = text_heap(bench.rows, texts);
     let made = build_views(MAX_BUFFER_LEN, &heap, &lengths)?;
     bench.measure(CheckViews { made, check })
 }
@@ -1395,7 +1464,7 @@ fn rows_of(rows: usize, name: &str) -> Result<Rows> {
 
 /// The buffers and the views of texts.
 fn text_array(rows: usize) -> Result<Built> {
-    let (heap, lengths) = text_heap(rows, false);
+    let (heap, lengths) = text_heap(rows, ASCII);
     build_views(MAX_BUFFER_LEN, &heap, &lengths)
 }
 
@@ -1449,6 +1518,8 @@ fn measure_lists(bench: &Bench, name: &str) -> Result<()> {
 fn measure(bench: &Bench, name: &str) -> Result<()> {
     let (verb, rest) = name.split_once('_').unwrap_or((name, ""));
     match verb {
+        "kept" => measure_kept(bench, rest),
+        "rebuffer" => texts::measure(bench),
         "mask" => parts::measure_mask(bench, rest),
         "concat" => trees::measure_concat(bench, rest),
         "canonical" => trees::measure_canonical(bench, rest),
@@ -1458,18 +1529,32 @@ fn measure(bench: &Bench, name: &str) -> Result<()> {
     }
 }
 
+/// A filter of numbers, the making of its mask counted.
+fn measure_kept(bench: &Bench, which: &str) -> Result<()> {
+    let rows = bench.rows;
+    let (run, quarter) = (rows / 100, rows / 4);
+    let bits = match which {
+        "at_random" => random_bits(rows, 4, 8),
+        "in_runs" => Bits::collect(rows, |i| i / run % 4 != 0),
+        "in_one_run" => Bits::collect(rows, |i| (quarter..rows - quarter).contains(&i)),
+        _ => return Err(Refusal::Usage),
+    };
+    bench.measure(Keep { numbers: random_numbers(rows, u32::MAX, 6), bits })
+}
+
 fn measure_flat(bench: &Bench, name: &str) -> Result<()> {
     let rows = bench.rows;
     let numbers = || random_numbers(rows, u32::MAX, 6);
     match name {
         "narrow" => bench.measure(Narrow(random_numbers(rows, 60000, 10))),
         "referenced_values" => bench.measure(ReferencedValues(random_numbers(rows, 1000, 9))),
+        "referenced_values_but_one" => bench.measure(ReferencedValues(random_numbers(rows, 999, 9))),
         "build_views" => {
-            let (heap, lengths) = text_heap(rows, false);
+            let (heap, lengths) = text_heap(rows, ASCII);
             bench.measure(BuildViews { heap, lengths })
         }
         "build_views_from_offsets" => {
-            let (heap, lengths) = text_heap(rows, false);
+            let (heap, lengths) = text_heap(rows, ASCII);
             let ends = lengths.iter().scan(0, |end, length| {
                 *end += length;
                 Some(*end)
@@ -1477,16 +1562,22 @@ fn measure_flat(bench: &Bench, name: &str) -> Result<()> {
             let offsets = std::iter::once(0).chain(ends).collect();
             bench.measure(BuildViewsFromOffsets { heap, offsets })
         }
-        "check_views_ascii" => measure_check(bench, false, check_text),
-        "check_views_mixed" => measure_check(bench, true, check_text),
-        "ascii_each" => measure_check(bench, false, check_each),
-        "mixed_text" => measure_check(bench, true, check_in_text),
-        "check_views_bytes" => measure_check(bench, true, check_bytes),
+        "check_views_ascii" => measure_check(bench, ASCII, check_text),
+        "check_views_mixed" => measure_check(bench, MIXED, check_text),
+        "ascii_each" => measure_check(bench, ASCII, check_each),
+        "mixed_text" => measure_check(bench, MIXED, check_in_text),
+        "check_views_bytes" => measure_check(bench, MIXED, check_bytes),
+        "check_long_ascii" => measure_check(bench, LONG_ASCII, check_each_by_std),
+        "check_long_mixed" => measure_check(bench, LONG_MIXED, check_each_by_std),
         "bits_from_bools" => bench.measure(FromBools(random_bools(rows, 2, 7))),
         "true_count" => bench.measure(TrueCount(random_bits(rows, 2, 7))),
         "and_bits" => bench.measure(And(random_bits(rows, 2, 7), random_bits(rows, 3, 8))),
         "equal_bits" => bench.measure(Equal(random_bits(rows, 2, 7), random_bits(rows, 2, 7))),
-        "fill_bits" => bench.measure(Fill { rows, words: Vec::new() }),
+        "fill_bits" => {
+            let zeroes = || (0..rows.div_ceil(64)).map(|i| black_box(i as u64 * 0)).collect();
+            let ready = (0..bench.runs.unwrap_or(1)).map(|_| zeroes()).collect();
+            bench.measure(Fill { rows, ready })
+        }
         "execute_mask" => bench.measure(ExecuteMask(random_bits(rows, 10, 3))),
         "primitive_try_new" => bench.measure(PrimitiveTryNew(Buffer::new(numbers()))),
         "int_at" => bench.measure(IntAt(numbers())),

@@ -18,7 +18,7 @@ impl Checksum {
         self.0
     }
 
-    pub(crate) fn with_word(self, word: u64) -> Checksum {
+    fn with_word(self, word: u64) -> Checksum {
         Checksum((self.0.rotate_left(5) ^ word).wrapping_mul(0x517cc1b727220a95))
     }
 
@@ -83,7 +83,7 @@ impl Checksum {
 
     // The numbers or truth values of an array, of a constant its row and its length; of other
     // layouts the length.
-    pub(crate) fn with_array(self, array: &ArrayRef) -> Checksum {
+    fn with_array(self, array: &ArrayRef) -> Checksum {
         match array.layout() {
             Layout::Primitive { bytes, .. } => self.with_bytes(bytes.as_slice()),
             Layout::Bool { bits, .. } => self.with_bits(bits),
@@ -108,7 +108,7 @@ impl Checksum {
     }
 
     // The parts of an array but for its validity, where they are numbers or truth values.
-    pub(crate) fn with_parts(self, array: &ArrayRef) -> Checksum {
+    fn with_parts(self, array: &ArrayRef) -> Checksum {
         match array.layout() {
             Layout::Dict { codes, values, .. } => self.with_array(codes).with_array(values),
             Layout::FixedSizeList { elements, .. } => self.with_array(elements),
@@ -127,8 +127,18 @@ impl Checksum {
         }
     }
 
+    // The views of texts and their buffers; of other layouts nothing.
+    pub(crate) fn with_texts(self, array: &ArrayRef) -> Checksum {
+        match array.layout() {
+            Layout::VarBinView { views, buffers, .. } => {
+                self.with_views(views.as_slice()).with_buffers(buffers)
+            }
+            _ => self,
+        }
+    }
+
     // The array of a validity, if it has one.
-    pub(crate) fn with_validity(self, validity: &Validity) -> Checksum {
+    fn with_validity(self, validity: &Validity) -> Checksum {
         match validity {
             Validity::Array(array) => self.with_array(array),
             _ => self,

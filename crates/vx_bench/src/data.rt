@@ -130,6 +130,26 @@ pub(crate) fn random_bits(
     Ok(BitBuffer::from_bools(alloc, &bools)?)
 }
 
+// So many bits in runs of a hundredth of them, of which one run in four is false.
+pub(crate) fn bits_in_runs(alloc: Global, count: usize) -> Result<BitBuffer, Fault> {
+    let run = (count / 100).max(1);
+    let mut bools = Vec::with_capacity(alloc, count)?;
+    for i in 0..count {
+        bools.push(i / run % 4 != 0)?;
+    }
+    Ok(BitBuffer::from_bools(alloc, &bools)?)
+}
+
+// So many bits, of which those from the first quarter on up to the last are true.
+pub(crate) fn bits_in_one_run(alloc: Global, count: usize) -> Result<BitBuffer, Fault> {
+    let quarter = count / 4;
+    let mut bools = Vec::with_capacity(alloc, count)?;
+    for i in 0..count {
+        bools.push(quarter <= i && i < count - quarter)?;
+    }
+    Ok(BitBuffer::from_bools(alloc, &bools)?)
+}
+
 // So many numbers, of which one in ten is left out.
 pub(crate) fn optional_numbers(alloc: Global, count: usize) -> Result<Vec<Option<u32>>, Fault> {
     let numbers = random_numbers(alloc, count, u32::MAX, 6)?;
@@ -243,15 +263,42 @@ fn push_pairs(
     Ok(())
 }
 
-// So many values of 8 or 24 bytes of text, ASCII or mixed.
-pub(crate) fn text_heap(alloc: Global, rows: usize, mixed: bool) -> Result<Heap, Fault> {
+// Which texts there are.
+#[derive(Clone, Copy)]
+pub(crate) struct Texts {
+    // Whether half of the pairs of bytes are one letter of Latin-1; else all are ASCII.
+    pub(crate) mixed: bool,
+    // How many bytes one text in 128 has; the others have 8 or 24.
+    pub(crate) longest: u32,
+}
+
+impl Texts {
+    // The bytes of a text, by a random number.
+    fn length(self, number: u32) -> u32 {
+        if number & 0x7F00 == 0 && self.longest > 24 {
+            self.longest
+        } else if number & 0x80 == 0 {
+            8
+        } else {
+            24
+        }
+    }
+}
+
+// Texts of 8 or 24 bytes.
+pub(crate) fn short_texts(mixed: bool) -> Texts {
+    Texts { mixed, longest: 24 }
+}
+
+// So many texts.
+pub(crate) fn text_heap(alloc: Global, rows: usize, texts: Texts) -> Result<Heap, Fault> {
     let mut random = Random::new(4);
     let mut bytes = Vec::new(alloc);
     let mut lengths = Vec::with_capacity(alloc, rows)?;
     for _ in 0..rows {
-        let length = if random.number() & 0x80 == 0 { 8 } else { 24 };
+        let length = texts.length(random.number());
         lengths.push(length)?;
-        push_pairs(&mut bytes, &mut random, length / 2, mixed)?;
+        push_pairs(&mut bytes, &mut random, length / 2, texts.mixed)?;
     }
     let bytes = ByteBuffer::from_vec(alloc, bytes)?;
     Ok(Heap { bytes, lengths })
@@ -270,7 +317,7 @@ pub(crate) fn offsets_of(alloc: Global, lengths: &[u32]) -> Result<Vec<u32>, Fau
 
 // Texts of 8 or 24 bytes.
 pub(crate) fn text_array(alloc: Global, rows: usize) -> Result<ArrayRef, Fault> {
-    let heap = text_heap(alloc, rows, false)?;
+    let heap = text_heap(alloc, rows, short_texts(false))?;
     let (buffers, views) = build_views(alloc, 0, MAX_BUFFER_LEN, heap.bytes, &heap.lengths)?;
     let mask = Mask::new_true(views.len());
     check_views(alloc, views.as_slice(), &mask, &buffers, true, usize::MAX)?;
@@ -302,9 +349,9 @@ pub(crate) fn records(alloc: Global, rows: usize) -> Result<ArrayRef, Fault> {
     Ok(ArrayRef::structure(alloc, names, columns, Validity::NonNullable, rows)?)
 }
 
-// So many codes of a thousand numbers.
-pub(crate) fn dictionary(alloc: Global, rows: usize) -> Result<DictArray, Fault> {
-    let codes = number_array(alloc, random_numbers(alloc, rows, 1000, 9)?)?;
+// So many codes of a thousand numbers, of which so many first ones are named.
+pub(crate) fn dictionary(alloc: Global, rows: usize, named: u32) -> Result<DictArray, Fault> {
+    let codes = number_array(alloc, random_numbers(alloc, rows, named, 9)?)?;
     let values = number_array(alloc, random_numbers(alloc, 1000, u32::MAX, 6)?)?;
     Ok(DictArray::try_new(alloc, codes, values)?)
 }

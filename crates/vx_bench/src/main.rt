@@ -10,6 +10,7 @@
 mod checksum;
 mod data;
 mod fault;
+mod made;
 mod operation;
 mod operations;
 

@@ -2,23 +2,14 @@
 
 use crate::data::Scale;
 use crate::fault::Fault;
+use crate::made::Made;
 use std::alloc::Global;
 use std::time::Instant;
 
 // An operation over data that is ready.
 pub(crate) trait Operation {
-    type Made: Drop;
-
-    // Readies what a run uses up; it is not timed.
-    fn prepare(&mut self, _alloc: Global) -> Result<(), Fault> {
-        Ok(())
-    }
-
     // The operation: this alone is timed.
-    fn run(&mut self, alloc: Global) -> Result<Self::Made, Fault>;
-
-    // A sum over what was made.
-    fn checksum(&self, made: Self::Made) -> Result<u64, Fault>;
+    fn run(&mut self, alloc: Global) -> Result<Made, Fault>;
 }
 
 // What is printed.
@@ -39,9 +30,8 @@ pub(crate) struct Bench {
 
 // Runs the operation once and prints its checksum.
 fn run_once<O: Operation>(rt: &HostRuntime, operation: &mut O) -> Result<(), Fault> {
-    operation.prepare(rt.alloc())?;
     let made = operation.run(rt.alloc())?;
-    let checksum = operation.checksum(made)?;
+    let checksum = made.checksum()?;
     println!(rt; "{checksum}")?;
     Ok(())
 }
@@ -49,17 +39,24 @@ fn run_once<O: Operation>(rt: &HostRuntime, operation: &mut O) -> Result<(), Fau
 // Runs the operation some times, and prints nanoseconds and checksum of each run.
 fn run_timed<O: Operation>(rt: &HostRuntime, operation: &mut O, runs: usize) -> Result<(), Fault> {
     for _ in 0..runs {
-        operation.prepare(rt.alloc())?;
         let start = Instant::now(rt)?;
         let made = operation.run(rt.alloc())?;
         let nanos = start.elapsed(rt)?.as_nanos();
-        let checksum = operation.checksum(made)?;
+        let checksum = made.checksum()?;
         println!(rt; "{nanos} {checksum}")?;
     }
     Ok(())
 }
 
 impl Bench {
+    // How often an operation runs.
+    pub(crate) fn runs(&self) -> usize {
+        match self.report {
+            Report::Checksum => 1,
+            Report::Times { runs } => runs,
+        }
+    }
+
     // Measures an operation whose data is ready.
     pub(crate) fn measure<O: Operation + Drop>(
         &self,

@@ -5,6 +5,7 @@ mod bits;
 mod encodings;
 mod lists;
 mod numbers;
+mod texts;
 mod trees;
 mod views;
 
@@ -12,7 +13,7 @@ use crate::fault::Fault;
 use crate::operation::Bench;
 
 // The names of the operations.
-pub(crate) const OPERATIONS: [&str; 78] = [
+pub(crate) const OPERATIONS: [&str; 85] = [
     "rebuild_in_order",
     "rebuild_at_random",
     "rebuild_in_order_null",
@@ -34,6 +35,9 @@ pub(crate) const OPERATIONS: [&str; 78] = [
     "filter_records",
     "filter_dictionary",
     "filter_constant",
+    "kept_at_random",
+    "kept_in_runs",
+    "kept_in_one_run",
     "mask_numbers",
     "mask_bools",
     "mask_list_view",
@@ -68,6 +72,9 @@ pub(crate) const OPERATIONS: [&str; 78] = [
     "check_views_ascii",
     "check_views_mixed",
     "check_views_bytes",
+    "check_long_ascii",
+    "check_long_mixed",
+    "rebuffer_filtered",
     "bits_from_bools",
     "true_count",
     "and_bits",
@@ -91,6 +98,7 @@ pub(crate) const OPERATIONS: [&str; 78] = [
     "bools_to_mask",
     "narrow",
     "referenced_values",
+    "referenced_values_but_one",
 ];
 
 // Measures the operation of a name, by the first word of it.
@@ -101,15 +109,17 @@ pub(crate) fn measure(rt: &HostRuntime, bench: &Bench, name: &str) -> Result<(),
         "slice" | "list" | "is" => lists::measure(rt, bench, name),
         "take" => trees::measure_take(rt, bench, rest),
         "filter" => trees::measure_filter(rt, bench, rest),
+        "kept" => trees::measure_kept(rt, bench, rest),
         "mask" => trees::measure_mask(rt, bench, rest),
         "concat" => trees::measure_concat(rt, bench, rest),
         "canonical" => trees::measure_canonical(rt, bench, rest),
         "build" | "check" => views::measure(rt, bench, name),
+        "rebuffer" => texts::measure(rt, bench),
         "bits" | "true" | "and" | "equal" | "fill" | "execute" => bits::measure(rt, bench, name),
         "numbers" => arrays::measure_numbers(rt, bench, rest),
         "bools" => arrays::measure_bools(rt, bench, rest),
         "narrow" => encodings::measure_narrow(rt, bench),
-        "referenced" => encodings::measure_scan(rt, bench),
+        "referenced" => encodings::measure_scan(rt, bench, rest),
         _ => numbers::measure(rt, bench, name),
     }
 }

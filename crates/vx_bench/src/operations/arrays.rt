@@ -1,14 +1,14 @@
 // Arrays of numbers and of truth values: how they are made, and read as a typed buffer or a mask.
 
-use crate::checksum::Checksum;
 use crate::data::{
     bool_array, number_bytes, optional_bools, optional_numbers, random_bits, random_bools,
     random_numbers, random_positions,
 };
 use crate::fault::Fault;
+use crate::made::Made;
 use crate::operation::{Bench, Operation};
 use std::alloc::Global;
-use vx_base::{BitBuffer, Buffer, ByteBuffer, Mask, PType};
+use vx_base::{BitBuffer, ByteBuffer, PType};
 use vx_leaves::{BoolArray, BoolArrayExt, PrimitiveArray, PrimitiveArrayExt};
 use vx_tree::{ArrayRef, TypedArray, Validity};
 
@@ -19,14 +19,9 @@ struct NumbersFromIter {
 }
 
 impl Operation for NumbersFromIter {
-    type Made = PrimitiveArray;
-
-    fn run(&mut self, alloc: Global) -> Result<PrimitiveArray, Fault> {
-        Ok(PrimitiveArray::from_iter(alloc, self.numbers.iter().copied())?)
-    }
-
-    fn checksum(&self, made: PrimitiveArray) -> Result<u64, Fault> {
-        Ok(Checksum::new().with_nullable(made.as_array()).value())
+    fn run(&mut self, alloc: Global) -> Result<Made, Fault> {
+        let made = PrimitiveArray::from_iter(alloc, self.numbers.iter().copied())?;
+        Ok(Made::Array(made.into_array()))
     }
 }
 
@@ -37,14 +32,9 @@ struct NumbersFromOptionIter {
 }
 
 impl Operation for NumbersFromOptionIter {
-    type Made = PrimitiveArray;
-
-    fn run(&mut self, alloc: Global) -> Result<PrimitiveArray, Fault> {
-        Ok(PrimitiveArray::from_option_iter(alloc, self.items.iter().copied())?)
-    }
-
-    fn checksum(&self, made: PrimitiveArray) -> Result<u64, Fault> {
-        Ok(Checksum::new().with_nullable(made.as_array()).value())
+    fn run(&mut self, alloc: Global) -> Result<Made, Fault> {
+        let made = PrimitiveArray::from_option_iter(alloc, self.items.iter().copied())?;
+        Ok(Made::Array(made.into_array()))
     }
 }
 
@@ -57,17 +47,13 @@ struct NumbersFromValues {
 }
 
 impl Operation for NumbersFromValues {
-    type Made = PrimitiveArray;
-
-    fn run(&mut self, alloc: Global) -> Result<PrimitiveArray, Fault> {
+    fn run(&mut self, alloc: Global) -> Result<Made, Fault> {
         let bytes = self.bytes.try_clone(alloc)?;
         let validity = Validity::Array(self.valid.try_clone(alloc)?);
         let ptype = PType::U32;
-        Ok(PrimitiveArray::from_values_byte_buffer(alloc, bytes, ptype, validity, self.rows)?)
-    }
-
-    fn checksum(&self, made: PrimitiveArray) -> Result<u64, Fault> {
-        Ok(Checksum::new().with_nullable(made.as_array()).value())
+        let rows = self.rows;
+        let made = PrimitiveArray::from_values_byte_buffer(alloc, bytes, ptype, validity, rows)?;
+        Ok(Made::Array(made.into_array()))
     }
 }
 
@@ -78,17 +64,11 @@ struct NumbersToBuffer {
 }
 
 impl Operation for NumbersToBuffer {
-    type Made = Buffer<u32>;
-
-    fn run(&mut self, alloc: Global) -> Result<Buffer<u32>, Fault> {
+    fn run(&mut self, alloc: Global) -> Result<Made, Fault> {
         if self.array.ptype() != PType::U32 {
             return Err(Fault::Usage);
         }
-        Ok(self.array.to_buffer(alloc)?)
-    }
-
-    fn checksum(&self, made: Buffer<u32>) -> Result<u64, Fault> {
-        Ok(Checksum::new().with_numbers(made.as_slice()).value())
+        Ok(Made::Numbers(self.array.to_buffer(alloc)?))
     }
 }
 
@@ -99,14 +79,9 @@ struct BoolsFromIter {
 }
 
 impl Operation for BoolsFromIter {
-    type Made = BoolArray;
-
-    fn run(&mut self, alloc: Global) -> Result<BoolArray, Fault> {
-        Ok(BoolArray::from_iter(alloc, self.bools.iter().copied())?)
-    }
-
-    fn checksum(&self, made: BoolArray) -> Result<u64, Fault> {
-        Ok(Checksum::new().with_nullable(made.as_array()).value())
+    fn run(&mut self, alloc: Global) -> Result<Made, Fault> {
+        let made = BoolArray::from_iter(alloc, self.bools.iter().copied())?;
+        Ok(Made::Array(made.into_array()))
     }
 }
 
@@ -117,14 +92,9 @@ struct BoolsFromOptionIter {
 }
 
 impl Operation for BoolsFromOptionIter {
-    type Made = BoolArray;
-
-    fn run(&mut self, alloc: Global) -> Result<BoolArray, Fault> {
-        Ok(BoolArray::from_option_iter(alloc, self.items.iter().copied())?)
-    }
-
-    fn checksum(&self, made: BoolArray) -> Result<u64, Fault> {
-        Ok(Checksum::new().with_nullable(made.as_array()).value())
+    fn run(&mut self, alloc: Global) -> Result<Made, Fault> {
+        let made = BoolArray::from_option_iter(alloc, self.items.iter().copied())?;
+        Ok(Made::Array(made.into_array()))
     }
 }
 
@@ -136,15 +106,10 @@ struct BoolsFromIndices {
 }
 
 impl Operation for BoolsFromIndices {
-    type Made = BoolArray;
-
-    fn run(&mut self, alloc: Global) -> Result<BoolArray, Fault> {
+    fn run(&mut self, alloc: Global) -> Result<Made, Fault> {
         let indices = self.indices.iter().copied();
-        Ok(BoolArray::from_indices(alloc, self.rows, indices, Validity::NonNullable)?)
-    }
-
-    fn checksum(&self, made: BoolArray) -> Result<u64, Fault> {
-        Ok(Checksum::new().with_nullable(made.as_array()).value())
+        let made = BoolArray::from_indices(alloc, self.rows, indices, Validity::NonNullable)?;
+        Ok(Made::Array(made.into_array()))
     }
 }
 
@@ -155,14 +120,8 @@ struct BoolsExecuteMask {
 }
 
 impl Operation for BoolsExecuteMask {
-    type Made = Mask;
-
-    fn run(&mut self, alloc: Global) -> Result<Mask, Fault> {
-        Ok(self.array.execute_mask(alloc)?)
-    }
-
-    fn checksum(&self, made: Mask) -> Result<u64, Fault> {
-        Ok(made.true_count() as u64)
+    fn run(&mut self, alloc: Global) -> Result<Made, Fault> {
+        Ok(Made::Mask(self.array.execute_mask(alloc)?))
     }
 }
 
@@ -173,14 +132,8 @@ struct BoolsToMask {
 }
 
 impl Operation for BoolsToMask {
-    type Made = Mask;
-
-    fn run(&mut self, alloc: Global) -> Result<Mask, Fault> {
-        Ok(self.array.to_mask_fill_null_false(alloc)?)
-    }
-
-    fn checksum(&self, made: Mask) -> Result<u64, Fault> {
-        Ok(made.true_count() as u64)
+    fn run(&mut self, alloc: Global) -> Result<Made, Fault> {
+        Ok(Made::Mask(self.array.to_mask_fill_null_false(alloc)?))
     }
 }
 

@@ -1,11 +1,11 @@
 // Operations on bits.
 
-use crate::checksum::Checksum;
 use crate::data::{bool_array, random_bits, random_bools};
 use crate::fault::Fault;
+use crate::made::Made;
 use crate::operation::{Bench, Operation};
 use std::alloc::Global;
-use vx_base::{BitBuffer, BitBufferMut, Mask};
+use vx_base::{BitBuffer, BitBufferMut};
 use vx_tree::{ArrayRef, Validity};
 
 // The packing of truth values.
@@ -15,14 +15,8 @@ struct FromBools {
 }
 
 impl Operation for FromBools {
-    type Made = BitBuffer;
-
-    fn run(&mut self, alloc: Global) -> Result<BitBuffer, Fault> {
-        Ok(BitBuffer::from_bools(alloc, &self.bools)?)
-    }
-
-    fn checksum(&self, made: BitBuffer) -> Result<u64, Fault> {
-        Ok(Checksum::new().with_bits(&made).value())
+    fn run(&mut self, alloc: Global) -> Result<Made, Fault> {
+        Ok(Made::Bits(BitBuffer::from_bools(alloc, &self.bools)?))
     }
 }
 
@@ -33,14 +27,8 @@ struct TrueCount {
 }
 
 impl Operation for TrueCount {
-    type Made = usize;
-
-    fn run(&mut self, _alloc: Global) -> Result<usize, Fault> {
-        Ok(self.bits.true_count())
-    }
-
-    fn checksum(&self, made: usize) -> Result<u64, Fault> {
-        Ok(made as u64)
+    fn run(&mut self, _alloc: Global) -> Result<Made, Fault> {
+        Ok(Made::Number(self.bits.true_count() as u64))
     }
 }
 
@@ -52,17 +40,11 @@ struct And {
 }
 
 impl Operation for And {
-    type Made = BitBuffer;
-
-    fn run(&mut self, alloc: Global) -> Result<BitBuffer, Fault> {
+    fn run(&mut self, alloc: Global) -> Result<Made, Fault> {
         if self.left.len() != self.right.len() {
             return Err(Fault::Usage);
         }
-        Ok(self.left.and(alloc, &self.right)?)
-    }
-
-    fn checksum(&self, made: BitBuffer) -> Result<u64, Fault> {
-        Ok(Checksum::new().with_bits(&made).value())
+        Ok(Made::Bits(self.left.and(alloc, &self.right)?))
     }
 }
 
@@ -74,48 +56,36 @@ struct Equal {
 }
 
 impl Operation for Equal {
-    type Made = bool;
-
-    fn run(&mut self, _alloc: Global) -> Result<bool, Fault> {
-        Ok(self.left == self.right)
-    }
-
-    fn checksum(&self, made: bool) -> Result<u64, Fault> {
-        Ok(made as u64)
+    fn run(&mut self, _alloc: Global) -> Result<Made, Fault> {
+        Ok(Made::Number((self.left == self.right) as u64))
     }
 }
 
-// The filling of all but the first three and the last five.
+// The filling of all but the first three and the last five, of bits that are ready for each run.
 #[derive(Drop)]
 struct Fill {
-    rows: usize,
-    bits: BitBufferMut,
+    ready: Vec<BitBufferMut>,
 }
 
 impl Operation for Fill {
-    type Made = BitBufferMut;
-
-    fn prepare(&mut self, alloc: Global) -> Result<(), Fault> {
-        let mut bits = BitBufferMut::with_capacity(alloc, self.rows)?;
-        for _ in 0..self.rows {
-            bits.append(false)?;
-        }
-        self.bits = bits;
-        Ok(())
-    }
-
-    fn run(&mut self, alloc: Global) -> Result<BitBufferMut, Fault> {
-        let none = BitBufferMut::with_capacity(alloc, 0)?;
-        let mut bits = std::mem::replace(&mut self.bits, none);
+    fn run(&mut self, _alloc: Global) -> Result<Made, Fault> {
+        let Some(mut bits) = self.ready.pop() else {
+            return Err(Fault::Usage);
+        };
         if bits.len() >= 8 {
             bits.fill_range(3, bits.len() - 5, true);
         }
-        Ok(bits)
+        Ok(Made::Filled(bits))
     }
+}
 
-    fn checksum(&self, made: BitBufferMut) -> Result<u64, Fault> {
-        Ok(Checksum::new().with_bits(&made.freeze()?).value())
+// Bits that are false, for so many runs.
+fn unset_bits(alloc: Global, rows: usize, runs: usize) -> Result<Vec<BitBufferMut>, Fault> {
+    let mut ready = Vec::new(alloc);
+    for _ in 0..runs {
+        ready.push(BitBufferMut::new_unset(alloc, rows)?)?;
     }
+    Ok(ready)
 }
 
 // The mask of a validity that is an array.
@@ -126,18 +96,13 @@ struct ExecuteMask {
 }
 
 impl Operation for ExecuteMask {
-    type Made = Mask;
-
-    fn run(&mut self, alloc: Global) -> Result<Mask, Fault> {
+    fn run(&mut self, alloc: Global) -> Result<Made, Fault> {
         let array = self.array.try_clone(alloc)?;
         if array.len() != self.rows {
             return Err(Fault::Usage);
         }
-        Ok(Validity::Array(array).execute_mask(alloc, self.rows)?)
-    }
-
-    fn checksum(&self, made: Mask) -> Result<u64, Fault> {
-        Ok(made.true_count() as u64)
+        let mask = Validity::Array(array).execute_mask(alloc, self.rows)?;
+        Ok(Made::Mask(mask))
     }
 }
 
@@ -165,8 +130,8 @@ pub(crate) fn measure(rt: &HostRuntime, bench: &Bench, name: &str) -> Result<(),
             bench.measure(rt, Equal { left, right })
         }
         "fill_bits" => {
-            let bits = BitBufferMut::with_capacity(alloc, 0)?;
-            bench.measure(rt, Fill { rows, bits })
+            let ready = unset_bits(alloc, rows, bench.runs())?;
+            bench.measure(rt, Fill { ready })
         }
         "execute_mask" => {
             let array = bool_array(alloc, random_bits(alloc, rows, 10, 3)?)?;

@@ -1,11 +1,10 @@
 // Operations of encoders: numbers of the least width, and which values of a dictionary are named.
 
-use crate::checksum::Checksum;
 use crate::data::{dictionary, small_numbers};
 use crate::fault::Fault;
+use crate::made::Made;
 use crate::operation::{Bench, Operation};
 use std::alloc::Global;
-use vx_base::BitBuffer;
 use vx_leaves::{DictArray, DictArrayExt, PrimitiveArray, PrimitiveArrayExt};
 use vx_tree::TypedArray;
 
@@ -16,14 +15,8 @@ struct Narrow {
 }
 
 impl Operation for Narrow {
-    type Made = PrimitiveArray;
-
-    fn run(&mut self, alloc: Global) -> Result<PrimitiveArray, Fault> {
-        Ok(self.numbers.narrow(alloc)?)
-    }
-
-    fn checksum(&self, made: PrimitiveArray) -> Result<u64, Fault> {
-        Ok(Checksum::new().with_parts(made.as_array()).value())
+    fn run(&mut self, alloc: Global) -> Result<Made, Fault> {
+        Ok(Made::Array(self.numbers.narrow(alloc)?.into_array()))
     }
 }
 
@@ -34,14 +27,9 @@ struct Scan {
 }
 
 impl Operation for Scan {
-    type Made = BitBuffer;
-
-    fn run(&mut self, alloc: Global) -> Result<BitBuffer, Fault> {
-        Ok(self.dictionary.compute_referenced_values_mask(alloc, true)?)
-    }
-
-    fn checksum(&self, made: BitBuffer) -> Result<u64, Fault> {
-        Ok(Checksum::new().with_bits(&made).value())
+    fn run(&mut self, alloc: Global) -> Result<Made, Fault> {
+        let mask = self.dictionary.compute_referenced_values_mask(alloc, true)?;
+        Ok(Made::Bits(mask))
     }
 }
 
@@ -51,8 +39,9 @@ pub(crate) fn measure_narrow(rt: &HostRuntime, bench: &Bench) -> Result<(), Faul
     bench.measure(rt, Narrow { numbers })
 }
 
-// Measures the scan of codes.
-pub(crate) fn measure_scan(rt: &HostRuntime, bench: &Bench) -> Result<(), Fault> {
-    let dictionary = dictionary(rt.alloc(), bench.scale.rows())?;
+// Measures the scan of codes, which name all of a thousand values, or all but one.
+pub(crate) fn measure_scan(rt: &HostRuntime, bench: &Bench, which: &str) -> Result<(), Fault> {
+    let named = if which == "values_but_one" { 999 } else { 1000 };
+    let dictionary = dictionary(rt.alloc(), bench.scale.rows(), named)?;
     bench.measure(rt, Scan { dictionary })
 }

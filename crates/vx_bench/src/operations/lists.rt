@@ -1,8 +1,8 @@
 // Operations on list views.
 
-use crate::checksum::Checksum;
 use crate::data::{ListShape, list_view};
 use crate::fault::Fault;
+use crate::made::Made;
 use crate::operation::{Bench, Operation};
 use std::alloc::Global;
 use vx_lists::{ListViewArray, ListViewRebuildMode};
@@ -28,15 +28,9 @@ struct Rebuild {
 }
 
 impl Operation for Rebuild {
-    type Made = ListViewArray;
-
-    fn run(&mut self, alloc: Global) -> Result<ListViewArray, Fault> {
+    fn run(&mut self, alloc: Global) -> Result<Made, Fault> {
         let mode = ListViewRebuildMode::MakeZeroCopyToList;
-        Ok(self.lists.rebuild(alloc, mode)?)
-    }
-
-    fn checksum(&self, made: ListViewArray) -> Result<u64, Fault> {
-        Ok(Checksum::new().with_list_view(&made).value())
+        Ok(Made::Lists(self.lists.rebuild(alloc, mode)?))
     }
 }
 
@@ -48,20 +42,14 @@ struct Slice {
 }
 
 impl Operation for Slice {
-    type Made = u64;
-
-    fn run(&mut self, alloc: Global) -> Result<u64, Fault> {
+    fn run(&mut self, alloc: Global) -> Result<Made, Fault> {
         let mut rows = 0u64;
         for i in 0..self.count {
             let start = i % 500;
             let slice = self.array.slice(alloc, start..start + 400)?;
             rows = rows.wrapping_add(slice.len() as u64);
         }
-        Ok(rows)
-    }
-
-    fn checksum(&self, made: u64) -> Result<u64, Fault> {
-        Ok(made)
+        Ok(Made::Number(rows))
     }
 }
 
@@ -72,17 +60,13 @@ struct TryNew {
 }
 
 impl Operation for TryNew {
-    type Made = ListViewArray;
-
-    fn run(&mut self, alloc: Global) -> Result<ListViewArray, Fault> {
+    fn run(&mut self, alloc: Global) -> Result<Made, Fault> {
         let elements = self.lists.elements().try_clone(alloc)?;
         let offsets = self.lists.offsets().try_clone(alloc)?;
         let sizes = self.lists.sizes().try_clone(alloc)?;
-        Ok(ListViewArray::try_new(alloc, elements, offsets, sizes, Validity::NonNullable)?)
-    }
-
-    fn checksum(&self, made: ListViewArray) -> Result<u64, Fault> {
-        Ok(made.len() as u64)
+        let validity = Validity::NonNullable;
+        let made = ListViewArray::try_new(alloc, elements, offsets, sizes, validity)?;
+        Ok(Made::Lists(made))
     }
 }
 
@@ -93,14 +77,8 @@ struct IsConsecutive {
 }
 
 impl Operation for IsConsecutive {
-    type Made = bool;
-
-    fn run(&mut self, _alloc: Global) -> Result<bool, Fault> {
-        Ok(self.lists.is_consecutive())
-    }
-
-    fn checksum(&self, made: bool) -> Result<u64, Fault> {
-        Ok(made as u64)
+    fn run(&mut self, _alloc: Global) -> Result<Made, Fault> {
+        Ok(Made::Number(self.lists.is_consecutive() as u64))
     }
 }
 

@@ -1,8 +1,8 @@
 // Operations on numbers.
 
-use crate::checksum::Checksum;
 use crate::data::{number_array, random_numbers};
 use crate::fault::Fault;
+use crate::made::Made;
 use crate::operation::{Bench, Operation};
 use std::alloc::Global;
 use vx_base::{Buffer, ByteBuffer, PType, read_counts, write_counts};
@@ -16,15 +16,10 @@ struct TryNew {
 }
 
 impl Operation for TryNew {
-    type Made = ArrayRef;
-
-    fn run(&mut self, alloc: Global) -> Result<ArrayRef, Fault> {
+    fn run(&mut self, alloc: Global) -> Result<Made, Fault> {
         let numbers = self.numbers.try_clone(alloc)?;
-        Ok(PrimitiveArray::try_new(alloc, numbers, Validity::NonNullable)?.into_array())
-    }
-
-    fn checksum(&self, made: ArrayRef) -> Result<u64, Fault> {
-        Ok(Checksum::new().with_array(&made).value())
+        let made = PrimitiveArray::try_new(alloc, numbers, Validity::NonNullable)?;
+        Ok(Made::Array(made.into_array()))
     }
 }
 
@@ -35,9 +30,7 @@ struct IntAt {
 }
 
 impl Operation for IntAt {
-    type Made = u64;
-
-    fn run(&mut self, _alloc: Global) -> Result<u64, Fault> {
+    fn run(&mut self, _alloc: Global) -> Result<Made, Fault> {
         let mut sum = 0u64;
         if !self.array.dtype().is_int() {
             return Err(Fault::Usage);
@@ -47,11 +40,7 @@ impl Operation for IntAt {
                 sum = sum.wrapping_add(u64::try_from(number).unwrap_or(0));
             }
         }
-        Ok(sum)
-    }
-
-    fn checksum(&self, made: u64) -> Result<u64, Fault> {
-        Ok(made)
+        Ok(Made::Number(sum))
     }
 }
 
@@ -62,14 +51,8 @@ struct IntoByteBuffer {
 }
 
 impl Operation for IntoByteBuffer {
-    type Made = ByteBuffer;
-
-    fn run(&mut self, alloc: Global) -> Result<ByteBuffer, Fault> {
-        Ok(self.numbers.into_byte_buffer(alloc)?)
-    }
-
-    fn checksum(&self, made: ByteBuffer) -> Result<u64, Fault> {
-        Ok(Checksum::new().with_bytes(made.as_slice()).value())
+    fn run(&mut self, alloc: Global) -> Result<Made, Fault> {
+        Ok(Made::Bytes(self.numbers.into_byte_buffer(alloc)?))
     }
 }
 
@@ -80,14 +63,8 @@ struct FromByteBuffer {
 }
 
 impl Operation for FromByteBuffer {
-    type Made = Buffer<u32>;
-
-    fn run(&mut self, alloc: Global) -> Result<Buffer<u32>, Fault> {
-        Ok(Buffer::from_byte_buffer(alloc, &self.bytes)?)
-    }
-
-    fn checksum(&self, made: Buffer<u32>) -> Result<u64, Fault> {
-        Ok(Checksum::new().with_numbers(made.as_slice()).value())
+    fn run(&mut self, alloc: Global) -> Result<Made, Fault> {
+        Ok(Made::Numbers(Buffer::from_byte_buffer(alloc, &self.bytes)?))
     }
 }
 
@@ -106,14 +83,8 @@ struct ReadCounts {
 }
 
 impl Operation for ReadCounts {
-    type Made = Vec<usize>;
-
-    fn run(&mut self, alloc: Global) -> Result<Vec<usize>, Fault> {
-        read(alloc, self.bytes.as_slice())
-    }
-
-    fn checksum(&self, made: Vec<usize>) -> Result<u64, Fault> {
-        Ok(Checksum::new().with_words(&made).value())
+    fn run(&mut self, alloc: Global) -> Result<Made, Fault> {
+        Ok(Made::Positions(read(alloc, self.bytes.as_slice())?))
     }
 }
 
@@ -124,14 +95,8 @@ struct WriteCounts {
 }
 
 impl Operation for WriteCounts {
-    type Made = ByteBuffer;
-
-    fn run(&mut self, alloc: Global) -> Result<ByteBuffer, Fault> {
-        write(alloc, &self.counts)
-    }
-
-    fn checksum(&self, made: ByteBuffer) -> Result<u64, Fault> {
-        Ok(Checksum::new().with_bytes(made.as_slice()).value())
+    fn run(&mut self, alloc: Global) -> Result<Made, Fault> {
+        Ok(Made::Bytes(write(alloc, &self.counts)?))
     }
 }
 

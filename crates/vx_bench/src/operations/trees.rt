@@ -1,15 +1,15 @@
 // Operations on arrays of each layout: rows that are picked, kept, made null, joined.
 
-use crate::checksum::Checksum;
 use crate::data::{
-    ListShape, Scale, bool_array, constant_list, constant_number, constant_text, dictionary,
-    fixed_size_lists, list_view, lists_of_one_size, number_array, random_bits, random_numbers,
-    records, text_array,
+    ListShape, Scale, bits_in_one_run, bits_in_runs, bool_array, constant_list, constant_number,
+    constant_text, dictionary, fixed_size_lists, list_view, lists_of_one_size, number_array,
+    random_bits, random_numbers, records, text_array,
 };
 use crate::fault::Fault;
+use crate::made::Made;
 use crate::operation::{Bench, Operation};
 use std::alloc::Global;
-use vx_base::Mask;
+use vx_base::{BitBuffer, Mask};
 use vx_tree::{ArrayRef, TypedArray};
 
 const LISTS: ListShape = ListShape {
@@ -26,14 +26,8 @@ struct Take {
 }
 
 impl Operation for Take {
-    type Made = ArrayRef;
-
-    fn run(&mut self, alloc: Global) -> Result<ArrayRef, Fault> {
-        Ok(self.array.take(alloc, &self.indices)?)
-    }
-
-    fn checksum(&self, made: ArrayRef) -> Result<u64, Fault> {
-        Ok(Checksum::new().with_parts(&made).value())
+    fn run(&mut self, alloc: Global) -> Result<Made, Fault> {
+        Ok(Made::Array(self.array.take(alloc, &self.indices)?))
     }
 }
 
@@ -45,14 +39,22 @@ struct Filter {
 }
 
 impl Operation for Filter {
-    type Made = ArrayRef;
-
-    fn run(&mut self, alloc: Global) -> Result<ArrayRef, Fault> {
-        Ok(self.array.filter(alloc, &self.mask)?)
+    fn run(&mut self, alloc: Global) -> Result<Made, Fault> {
+        Ok(Made::Array(self.array.filter(alloc, &self.mask)?))
     }
+}
 
-    fn checksum(&self, made: ArrayRef) -> Result<u64, Fault> {
-        Ok(Checksum::new().with_parts(&made).value())
+// Making a mask of bits, and keeping its rows.
+#[derive(Drop)]
+struct Keep {
+    array: ArrayRef,
+    bits: BitBuffer,
+}
+
+impl Operation for Keep {
+    fn run(&mut self, alloc: Global) -> Result<Made, Fault> {
+        let mask = Mask::from_buffer(alloc, self.bits.try_clone(alloc)?)?;
+        Ok(Made::Array(self.array.filter(alloc, &mask)?))
     }
 }
 
@@ -64,14 +66,8 @@ struct MakeNull {
 }
 
 impl Operation for MakeNull {
-    type Made = ArrayRef;
-
-    fn run(&mut self, alloc: Global) -> Result<ArrayRef, Fault> {
-        Ok(self.array.mask(alloc, &self.mask)?)
-    }
-
-    fn checksum(&self, made: ArrayRef) -> Result<u64, Fault> {
-        Ok(Checksum::new().with_nullable(&made).value())
+    fn run(&mut self, alloc: Global) -> Result<Made, Fault> {
+        Ok(Made::Array(self.array.mask(alloc, &self.mask)?))
     }
 }
 
@@ -82,14 +78,8 @@ struct Concat {
 }
 
 impl Operation for Concat {
-    type Made = ArrayRef;
-
-    fn run(&mut self, alloc: Global) -> Result<ArrayRef, Fault> {
-        Ok(ArrayRef::concat(alloc, &self.arrays)?)
-    }
-
-    fn checksum(&self, made: ArrayRef) -> Result<u64, Fault> {
-        Ok(Checksum::new().with_parts(&made).value())
+    fn run(&mut self, alloc: Global) -> Result<Made, Fault> {
+        Ok(Made::Array(ArrayRef::concat(alloc, &self.arrays)?))
     }
 }
 
@@ -101,18 +91,12 @@ struct ToCanonical {
 }
 
 impl Operation for ToCanonical {
-    type Made = ArrayRef;
-
-    fn run(&mut self, alloc: Global) -> Result<ArrayRef, Fault> {
+    fn run(&mut self, alloc: Global) -> Result<Made, Fault> {
         let mut made = self.array.to_canonical(alloc)?;
         for _ in 1..self.times {
             made = self.array.to_canonical(alloc)?;
         }
-        Ok(made)
-    }
-
-    fn checksum(&self, made: ArrayRef) -> Result<u64, Fault> {
-        Ok(Checksum::new().with_parts(&made).value())
+        Ok(Made::Array(made))
     }
 }
 
@@ -126,7 +110,7 @@ fn array_of(alloc: Global, scale: Scale, layout: &str) -> Result<ArrayRef, Fault
         "views" => text_array(alloc, rows),
         "fixed_lists" => fixed_size_lists(alloc, scale),
         "records" => records(alloc, rows),
-        "dictionary" | "dictionaries" => Ok(dictionary(alloc, rows)?.into_array()),
+        "dictionary" | "dictionaries" => Ok(dictionary(alloc, rows, 1000)?.into_array()),
         "constant" | "constants" => constant_number(alloc, 1_000_003, rows),
         _ => Err(Fault::Usage),
     }
@@ -168,6 +152,20 @@ pub(crate) fn measure_filter(rt: &HostRuntime, bench: &Bench, layout: &str) -> R
     let array = array_of(alloc, bench.scale, layout)?;
     let mask = Mask::from_buffer(alloc, random_bits(alloc, bench.scale.rows(), 4, 8)?)?;
     bench.measure(rt, Filter { array, mask })
+}
+
+// Measures a filter of numbers, the making of its mask counted.
+pub(crate) fn measure_kept(rt: &HostRuntime, bench: &Bench, which: &str) -> Result<(), Fault> {
+    let alloc = rt.alloc();
+    let rows = bench.scale.rows();
+    let array = array_of(alloc, bench.scale, "numbers")?;
+    let bits = match which {
+        "at_random" => random_bits(alloc, rows, 4, 8)?,
+        "in_runs" => bits_in_runs(alloc, rows)?,
+        "in_one_run" => bits_in_one_run(alloc, rows)?,
+        _ => return Err(Fault::Usage),
+    };
+    bench.measure(rt, Keep { array, bits })
 }
 
 // Measures making one row of four null.

@@ -1,21 +1,12 @@
 // Operations on views.
 
-use crate::checksum::Checksum;
-use crate::data::{Heap, offsets_of, text_heap};
+use crate::data::{Heap, Texts, offsets_of, short_texts, text_heap};
 use crate::fault::Fault;
+use crate::made::Made;
 use crate::operation::{Bench, Operation};
 use std::alloc::Global;
 use vx_base::{Buffer, ByteBuffer, Mask};
 use vx_views::{BinaryView, MAX_BUFFER_LEN, build_views, build_views_from_offsets, check_views};
-
-type Built = (Vec<ByteBuffer>, Buffer<BinaryView>);
-
-fn checksum_of(made: &Built) -> u64 {
-    Checksum::new()
-        .with_views(made.1.as_slice())
-        .with_buffers(&made.0)
-        .value()
-}
 
 // The views of values whose lengths are given.
 #[derive(Drop)]
@@ -24,15 +15,11 @@ struct Build {
 }
 
 impl Operation for Build {
-    type Made = Built;
-
-    fn run(&mut self, alloc: Global) -> Result<Built, Fault> {
+    fn run(&mut self, alloc: Global) -> Result<Made, Fault> {
         let bytes = self.heap.bytes.try_clone(alloc)?;
-        Ok(build_views(alloc, 0, MAX_BUFFER_LEN, bytes, &self.heap.lengths)?)
-    }
-
-    fn checksum(&self, made: Built) -> Result<u64, Fault> {
-        Ok(checksum_of(&made))
+        let lengths = &self.heap.lengths;
+        let (buffers, views) = build_views(alloc, 0, MAX_BUFFER_LEN, bytes, lengths)?;
+        Ok(Made::Views(buffers, views))
     }
 }
 
@@ -44,15 +31,11 @@ struct BuildFromOffsets {
 }
 
 impl Operation for BuildFromOffsets {
-    type Made = Built;
-
-    fn run(&mut self, alloc: Global) -> Result<Built, Fault> {
+    fn run(&mut self, alloc: Global) -> Result<Made, Fault> {
         let bytes = self.bytes.try_clone(alloc)?;
-        Ok(build_views_from_offsets(alloc, 0, MAX_BUFFER_LEN, bytes, &self.offsets)?)
-    }
-
-    fn checksum(&self, made: Built) -> Result<u64, Fault> {
-        Ok(checksum_of(&made))
+        let offsets = &self.offsets;
+        let (buffers, views) = build_views_from_offsets(alloc, 0, MAX_BUFFER_LEN, bytes, offsets)?;
+        Ok(Made::Views(buffers, views))
     }
 }
 
@@ -65,23 +48,31 @@ struct Check {
 }
 
 impl Operation for Check {
-    type Made = ();
-
-    fn run(&mut self, alloc: Global) -> Result<(), Fault> {
+    fn run(&mut self, alloc: Global) -> Result<Made, Fault> {
         let views = self.views.as_slice();
         let mask = Mask::new_true(views.len());
         check_views(alloc, views, &mask, &self.buffers, self.is_text, usize::MAX)?;
-        Ok(())
-    }
-
-    fn checksum(&self, _made: ()) -> Result<u64, Fault> {
-        Ok(self.views.len() as u64)
+        Ok(Made::Number(views.len() as u64))
     }
 }
 
-fn measure_check(rt: &HostRuntime, bench: &Bench, mixed: bool, is_text: bool) -> Result<(), Fault> {
+// Texts of which one in 128 has 2000 bytes.
+fn long_texts(mixed: bool) -> Texts {
+    Texts {
+        mixed,
+        longest: 2000,
+    }
+}
+
+// Measures a check of views.
+fn measure_check(
+    rt: &HostRuntime,
+    bench: &Bench,
+    texts: Texts,
+    is_text: bool,
+) -> Result<(), Fault> {
     let alloc = rt.alloc();
-    let heap = text_heap(alloc, bench.scale.rows(), mixed)?;
+    let heap = text_heap(alloc, bench.scale.rows(), texts)?;
     let (buffers, views) = build_views(alloc, 0, MAX_BUFFER_LEN, heap.bytes, &heap.lengths)?;
     bench.measure(
         rt,
@@ -98,17 +89,19 @@ pub(crate) fn measure(rt: &HostRuntime, bench: &Bench, name: &str) -> Result<(),
     let alloc = rt.alloc();
     match name {
         "build_views" => {
-            let heap = text_heap(alloc, bench.scale.rows(), false)?;
+            let heap = text_heap(alloc, bench.scale.rows(), short_texts(false))?;
             bench.measure(rt, Build { heap })
         }
         "build_views_from_offsets" => {
-            let Heap { bytes, lengths } = text_heap(alloc, bench.scale.rows(), false)?;
+            let Heap { bytes, lengths } = text_heap(alloc, bench.scale.rows(), short_texts(false))?;
             let offsets = offsets_of(alloc, &lengths)?;
             bench.measure(rt, BuildFromOffsets { bytes, offsets })
         }
-        "check_views_ascii" => measure_check(rt, bench, false, true),
-        "check_views_mixed" => measure_check(rt, bench, true, true),
-        "check_views_bytes" => measure_check(rt, bench, true, false),
+        "check_views_ascii" => measure_check(rt, bench, short_texts(false), true),
+        "check_views_mixed" => measure_check(rt, bench, short_texts(true), true),
+        "check_views_bytes" => measure_check(rt, bench, short_texts(true), false),
+        "check_long_ascii" => measure_check(rt, bench, long_texts(false), true),
+        "check_long_mixed" => measure_check(rt, bench, long_texts(true), true),
         _ => Err(Fault::Usage),
     }
 }
