@@ -139,9 +139,10 @@ fn show_values(
 fn show_bits(bits: &BitBuffer, mask: &Mask, text: &mut String) -> Result<(), VortexError>
     requires { length mask.now ≡ length bits.now.bits }
 {
+    let mut valid = mask.rows();
     for row in 0..bits.len() {
         separate(row, text)?;
-        let word = match (mask.value(row), bits.value(row)) {
+        let word = match (valid.value(row), bits.value(row)) {
             (false, _) => "null",
             (true, false) => "false",
             (true, true) => "true",
@@ -173,9 +174,10 @@ fn show_native<T: NativePType + Drop>(
     requires { length (numbers T.PTYPE bytes.now) ≡ length mask.now }
 {
     let numbers = Buffer::<T>::from_byte_buffer(alloc, bytes)?;
+    let mut valid = mask.rows();
     for (row, number) in numbers.as_slice().iter().enumerate() {
         separate(row, text)?;
-        if mask.value(row) {
+        if valid.value(row) {
             let number = number.as_i128();
             write!(text, "{number}")?;
         } else {
@@ -217,9 +219,10 @@ fn show_lists(
         slice_index offsets.now i + slice_index sizes.now i ≤ tree_len elements.now }
 {
     let len = elements.len();
+    let mut valid = mask.rows();
     for row in 0..offsets.len() {
         separate(row, text)?;
-        if mask.value(row) {
+        if valid.value(row) {
             let (start, size) = (offsets[row], sizes[row]);
             prove!(start <= len && size <= len - start);
             text.push('[')?;
@@ -246,9 +249,10 @@ fn show_fixed_lists(
     requires mask { length mask.now ≡ end - start }
     requires in_bounds { end * size ≤ tree_len elements.now }
 {
+    let mut valid = mask.rows();
     for row in start..end {
         separate(row - start, text)?;
-        if mask.value(row - start) {
+        if valid.value(row - start) {
             let (first, last) = list_range(elements, size, row);
             text.push('[')?;
             show_rows(alloc, elements, first, last, text)?;
@@ -287,9 +291,10 @@ fn show_records(
     requires mask { length mask.now ≡ end - start }
     requires in_bounds { AllReach end (trees_from columns.now) }
 {
+    let mut valid = mask.rows();
     for row in start..end {
         separate(row - start, text)?;
-        if mask.value(row - start) {
+        if valid.value(row - start) {
             text.push('{')?;
             show_record(alloc, names, columns, row, row + 1, text)?;
             text.push('}')?;

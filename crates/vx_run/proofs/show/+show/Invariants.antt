@@ -1,4 +1,4 @@
-use Rattle.std.proofs.Common.{◌+◌, ◌*◌}
+use Rattle.std.proofs.Common.{◌≡◌, ◌+◌, ◌*◌}
 use Rattle.vx_tree.specs.Tree.{depth, trees_depth}
 use Rattle.vx_tree.specs.Meaning.{trees_from}
 use Rattle.vx_run.proofs.show.+show.Given as goal
@@ -23,3 +23,12 @@ decreases-show_records l = 4 * trees_depth (trees_from l.columns.now) + 1
 
 abbrev pub decreases-show_record : goal.decreases-show_record
 decreases-show_record l = 4 * trees_depth (trees_from l.columns.now)
+
+abbrev pub invariant-show_lists-loop-row : goal.invariant-show_lists-loop-row
+invariant-show_lists-loop-row l = l.valid ≡ l.mask
+
+abbrev pub invariant-show_fixed_lists-loop-row : goal.invariant-show_fixed_lists-loop-row
+invariant-show_fixed_lists-loop-row l = l.valid ≡ l.mask
+
+abbrev pub invariant-show_records-loop-row : goal.invariant-show_records-loop-row
+invariant-show_records-loop-row l = l.valid ≡ l.mask
