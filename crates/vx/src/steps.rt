@@ -5,7 +5,7 @@ use std::test::Fail;
 use vx_base::{BitBuffer, NativePType, VortexError};
 use vx_leaves::{BoolArray, PrimitiveArray};
 use vx_lists::{ListViewArray, ListViewArrayExt, ListViewRebuildMode};
-use vx_run::{RunFault, Step, run};
+use vx_run::{Step, run};
 use vx_tree::{ArrayRef, TypedArray, Validity};
 
 // Numbers, none of them null.
@@ -100,13 +100,9 @@ fn refused_step_gives_the_arrays_back(rt: HostRuntime) -> Result<(), Fail> {
         assert!(rt; false);
         return Ok(());
     };
-    let RunFault {
-        step,
-        error,
-        mut arrays,
-    } = fault;
-    assert_eq!(rt; step, 2);
-    assert_eq!(rt; error, VortexError::MismatchedTypes);
+    assert_eq!(rt; fault.step, 2);
+    assert_eq!(rt; fault.error, VortexError::MismatchedTypes);
+    let mut arrays = fault.into_arrays();
     assert_eq!(rt; arrays.len(), 3);
     if let Some(last) = arrays.pop() {
         assert!(rt; is_one_list(alloc, last, &[Some(2), Some(3)])?);
