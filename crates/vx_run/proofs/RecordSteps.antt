@@ -1,0 +1,113 @@
+-- What each step on records appends, by what its call gives.
+use Rattle.std.proofs.Common.{◌≡◌, ℕ, Bool, true, false, List, [], ◌∷◌, ◌++◌, refl, sym, ◌∙◌, ap, subst}
+use Rattle.std.specs.Prelude.{Option, Some, None}
+use Rattle.std.specs.Global.{Vec}
+use Rattle.vx_base.specs.Fields.{place_of_name}
+use Rattle.vx_base.specs.Kinds.{Kind, booleans, integers, texts, binaries, lists, fixed_lists, records, Kinds}
+use Rattle.vx_base.specs.Rows.{Row}
+use Rattle.vx_tree.specs.Tree.{Tree, bools, primitive, constant, dictionary, fixed_list, list_view, structure, view_array}
+use Rattle.vx_tree.specs.Meaning.{kind_of, rows}
+use Rattle.vx_tree.specs.Shapes.{tree_state}
+use Rattle.vx_tree.specs.Validities.{is_full_state}
+use Rattle.vx_lists.specs.Records.{projected, with_column, without_column, pushed, names_in}
+use Rattle.vx_lists.specs.Records.{projected_kind, kind_with_column, kind_without, kind_without_column, pushed_kind}
+use Rattle.vx_lists.specs.Structs.{is_struct, names_of, IsProjected, added, removed, IsPushed}
+use Rattle.vx_run.specs.declared.steps.Step.TheVariants.{Project, WithColumn, RemoveColumn, PushValidity}
+use Rattle.vx_run.specs.Steps.{names_without, array_at, IsStep}
+use Rattle.vx_run.proofs.StepResults.{named_rows-same}
+
+-- ---- the kind of an array of records
+
+-- an array of records has a kind of records, under the same names
+record IsRecords (t : Tree) : Type 0 where
+  kinds : Kinds
+  nullable : Bool
+  kind : kind_of t ≡ records (names_of t) kinds nullable
+
+is_records : (t : Tree) → is_struct t ≡ true → IsRecords t
+is_records (structure ns ts v n) laid = record { kinds = _; nullable = _; kind = refl }
+is_records (bools bits v) laid = absurd (cc)
+is_records (primitive p bs v) laid = absurd (cc)
+is_records (constant k r n) laid = absurd (cc)
+is_records (dictionary c v f) laid = absurd (cc)
+is_records (fixed_list e k v n) laid = absurd (cc)
+is_records (list_view e o s v f) laid = absurd (cc)
+is_records (view_array vs bs k v) laid = absurd (cc)
+
+-- ---- projected
+
+pub step-project : (arrays : List Tree) (array : ℕ) (names : Vec (List ℕ)) (t r out : Tree) → t ≡ array_at arrays array
+    → is_struct (array_at arrays array) ≡ true → IsProjected t names.items r → rows r ≡ projected names.items (rows t)
+    → kind_of r ≡ projected_kind names.items (kind_of t) → out ≡ r → IsStep (Project array names) arrays out
+step-project arrays array names t r out is laid made same kind equal =
+    let of = kind ∙ ap (λ u. projected_kind names.items (kind_of u)) is in
+    let wide = is_records (array_at arrays array) laid in
+    subst (λ u. IsStep (Project array names) arrays u) (sym equal) (record {
+      same_rows = named_rows-same _ _ _ _ (ap names_in of ∙ ap (λ k. names_in (projected_kind names.items k)) wide.kind) (same ∙ ap (λ u. projected names.items (rows u)) is);
+      kind = of;
+      layout = subst (λ u. IsProjected u names.items r) is made;
+    })
+
+-- ---- one column more
+
+pub step-with : (arrays : List Tree) (array column : ℕ) (name : List ℕ) (t c r out : Tree) → t ≡ array_at arrays array → c ≡ array_at arrays column
+    → is_struct (array_at arrays array) ≡ true → r ≡ added t name c → rows r ≡ with_column name (rows c) (rows t)
+    → kind_of r ≡ kind_with_column name (kind_of c) (kind_of t) → out ≡ r → IsStep (WithColumn array name column) arrays out
+step-with arrays array column name t c r out is at laid made same kind equal =
+    let of = kind ∙ (λ i. kind_with_column name (kind_of (at i)) (kind_of (is i))) in
+    let wide = is_records (array_at arrays array) laid in
+    let names = ap (λ k. names_in (kind_with_column name (kind_of (array_at arrays column)) k)) wide.kind in
+    subst (λ u. IsStep (WithColumn array name column) arrays u) (sym equal) (record {
+      same_rows = named_rows-same _ _ _ _ (ap names_in of ∙ names ∙ sym (ap (λ k. names_in k ++ name ∷ []) wide.kind))
+          (same ∙ (λ i. with_column name (rows (at i)) (rows (is i))));
+      kind = of;
+      layout = made ∙ (λ i. added (is i) name (at i));
+    })
+
+-- ---- one column less
+
+kept-names : (place : Option ℕ) (ns : List (List ℕ)) (ks : Kinds) (n : Bool) → names_in (kind_without place (records ns ks n)) ≡ names_without place ns
+kept-names None ns ks n = refl
+kept-names (Some i) ns ks n = refl
+
+left-names : (name : List ℕ) (k : Kind) (ns : List (List ℕ)) (ks : Kinds) (n : Bool) → k ≡ records ns ks n
+    → names_in (kind_without_column name k) ≡ names_without (place_of_name (names_in k) name) (names_in k)
+left-names name k ns ks n is =
+    ap (λ l. names_in (kind_without_column name l)) is ∙ kept-names (place_of_name ns name) ns ks n
+    ∙ sym (ap (λ l. names_without (place_of_name (names_in l) name) (names_in l)) is)
+
+pub step-without : (arrays : List Tree) (array : ℕ) (name : List ℕ) (t c r out : Tree) → t ≡ array_at arrays array
+    → is_struct (array_at arrays array) ≡ true → removed t name ≡ Some (r, c) → rows r ≡ without_column name (rows t)
+    → kind_of r ≡ kind_without_column name (kind_of t) → out ≡ r → IsStep (RemoveColumn array name) arrays out
+step-without arrays array name t c r out is laid made same kind equal =
+    let of = kind ∙ ap (λ u. kind_without_column name (kind_of u)) is in
+    let wide = is_records (array_at arrays array) laid in
+    subst (λ u. IsStep (RemoveColumn array name) arrays u) (sym equal) (record {
+      same_rows = named_rows-same _ _ _ _ (ap names_in of ∙ left-names name _ (names_of (array_at arrays array)) wide.kinds wide.nullable wide.kind)
+          (same ∙ ap (λ u. without_column name (rows u)) is);
+      kind = of;
+      layout = (c, ap (λ u. removed u name) (sym is) ∙ made);
+    })
+
+-- ---- nulls pushed into the columns
+
+pushed-names : (full remove : Bool) (k : Kind) → names_in (pushed_kind full remove k) ≡ names_in k
+pushed-names full remove (records ns ks n) = refl
+pushed-names full remove (booleans n) = refl
+pushed-names full remove (integers t n) = refl
+pushed-names full remove (texts n) = refl
+pushed-names full remove (binaries n) = refl
+pushed-names full remove (lists k n) = refl
+pushed-names full remove (fixed_lists k size n) = refl
+
+pub step-push : (arrays : List Tree) (array : ℕ) (remove : Bool) (t r out : Tree) → t ≡ array_at arrays array
+    → is_struct (array_at arrays array) ≡ true → IsPushed t remove r → out ≡ r → IsStep (PushValidity array remove) arrays out
+step-push arrays array remove t r out is laid made equal =
+    let there = subst (λ u. IsPushed u remove r) is made in
+    let wide = is_records (array_at arrays array) laid in
+    subst (λ u. IsStep (PushValidity array remove) arrays u) (sym equal) (record {
+      same_rows = named_rows-same _ _ _ _ (ap names_in there.kind ∙ pushed-names _ remove _)
+          (there.same_rows ∙ ap (λ ns. pushed ns remove (rows (array_at arrays array))) (sym (ap names_in wide.kind)));
+      kind = there.kind;
+      layout = there;
+    })
