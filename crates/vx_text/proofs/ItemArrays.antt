@@ -14,6 +14,7 @@ use Rattle.vx_base.specs.Kinds.{Kind, is_nullable_kind}
 use Rattle.vx_base.specs.Rows.{null}
 use Rattle.vx_base.specs.Refusals.{Refusal, IsMemoryOr, refusal_of, mismatched_types, not_utf8, value_too_long}
 use Rattle.vx_base.specs.declared.errors.VortexError.{VortexError}
+use Rattle.vx_base.specs.declared.errors.VortexError.TheVariants.{Memory}
 use Rattle.vx_base.proofs.FirstFaults.{or_else-none, first_fault-none_at}
 use Rattle.vx_views.specs.BuildFaults.{IsPieceCount, numbering_fault}
 use Rattle.vx_views.specs.Faulty.{text_fault}

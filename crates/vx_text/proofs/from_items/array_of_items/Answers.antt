@@ -36,7 +36,7 @@ returns-in_err-buffers-clause-err g c =
 pub returns-in_err-all-clause-err : goal.returns-in_err-all-clause-err
 returns-in_err-all-clause-err g c =
     let k = dtype_meaning c.args.dtype in
-    let p = err_from_is_err_and c.from_residual-in_err-all.result c.from_residual-in_err-all.ensures.1 in
+    let p = err_from_is_err_and c.from_residual.result c.from_residual.ensures.1 in
     let values = no_type_fault k (sym c.has_values.ensures ∙ c.if-not-has_values.false) in
     rw (p.1, p.2) (refused_item g.I.Iterator.next_gives c.args.items g.T.Item.item k c.in_err-all.field-0.0 values c.in_err-all.ensures.err)
 
