@@ -5,3 +5,4 @@ pub mod StepRuns
 pub mod StepResults
 pub mod StepPositions
 pub mod RecordSteps
+pub mod WrittenLines

@@ -61,7 +61,8 @@ step-take arrays array indices t u r is at kind same shape one =
     let of : kind_of r ≡ or_nullable (is_nullable_kind (kind_of (array_at arrays indices))) (kind_of (array_at arrays array)) =
     kind ∙ (λ i. or_nullable (is_nullable_kind (kind_of (at i))) (kind_of (is i))) in
     record {
-      same_rows = named_rows-same _ _ _ _ (ap names_in of ∙ names_in-or_nullable _ _) (same ∙ (λ i. picks (rows (is i)) (positions (rows (at i)))));
+      same_rows = named_rows-same _ _ _ _ (ap names_in of ∙ names_in-or_nullable (is_nullable_kind (kind_of (array_at arrays indices))) (kind_of (array_at arrays array)))
+          (same ∙ (λ i. picks (rows (is i)) (positions (rows (at i)))));
       kind = of;
       layout = (shape ∙ (λ i. taken_shape (shape_of (is i)) (tree_state (at i))), λ constant. one (ap is_constant is ∙ constant));
     }
@@ -80,7 +81,8 @@ pub step-mask : (arrays : List Tree) (array mask : ℕ) (t u r : Tree) → t ≡
 step-mask arrays array mask t u r is at kind same shape one =
     let of = kind ∙ ap (λ w. or_nullable true (kind_of w)) is in
     record {
-      same_rows = named_rows-same _ _ _ _ (ap names_in of ∙ names_in-or_nullable true _) (same ∙ (λ i. masked (truths (rows (at i))) (rows (is i))));
+      same_rows = named_rows-same _ _ _ _ (ap names_in of ∙ names_in-or_nullable true (kind_of (array_at arrays array)))
+          (same ∙ (λ i. masked (truths (rows (at i))) (rows (is i))));
       kind = of;
       layout = (shape ∙ ap (λ w. nulled_shape (shape_of w) told) is, λ constant. one (ap is_constant is ∙ constant));
     }
@@ -225,7 +227,7 @@ step-narrow arrays array t r out is of made same laid =
     let plain : is_primitive r ≡ true = ap is_primitive (sym same) ∙ laid in
     let kind = narrow-kind t r (ap is_primitive is ∙ of) plain made ∙ ap (λ u. narrowed_kind (kind_of u) (rows u)) is in
     subst (λ u. IsStep (Narrow array) arrays u) (sym same) (record {
-      same_rows = named_rows-same _ _ _ _ (ap names_in kind ∙ narrowed-names _ _) (made.same_rows ∙ ap rows is);
+      same_rows = named_rows-same _ _ _ _ (ap names_in kind ∙ narrowed-names (kind_of (array_at arrays array)) (rows (array_at arrays array))) (made.same_rows ∙ ap rows is);
       kind = kind;
       layout = (plain, subst (λ u. IsNarrowed u r) is made);
     })

@@ -8,7 +8,7 @@ use crate::run_steps::{array_at, typed, typed_at};
 use crate::steps::Step;
 use std::alloc::Global;
 use vx_base::{FieldName, VortexError};
-use vx_lists::StructArray;
+use vx_lists::{StructArray, StructArrayExt};
 use vx_tree::{ArrayRef, TypedArray};
 
 // Records with the first field of each of these names.
@@ -58,9 +58,10 @@ pub(crate) fn without_column(
     ensures refuses { Refuses result (step_fault (Step.RemoveColumn array name.now) arrays.now) }
 {
     let records: StructArray = typed_at(alloc, arrays, array)?;
+    records.unmasked_field_by_name(name.as_str())?;
     match records.remove_column(alloc, name.as_str())? {
         Some((rest, _column)) => Ok(rest.into_array()),
-        None => Err(VortexError::UnknownField),
+        None => unreachable!(),
     }
 }
 

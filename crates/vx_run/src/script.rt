@@ -7,7 +7,7 @@ ghost use Rattle.vx_run.specs.declared.faults.LineFault.TheVariants.{Refused};
 ghost use Rattle.vx_run.specs.declared.script.Stop.TheVariants.{Fault};
 
 use crate::command::parse_command;
-use crate::counted_reader::CountedReader;
+use crate::counted_reader::{CountedReader, MOST_READS};
 use crate::faults::LineFault;
 use crate::line_buffer::LineBuffer;
 use crate::registers::Registers;
@@ -106,13 +106,14 @@ impl Script {
         output: &mut W,
     ) -> Result<(), Stop> {
         let mut block = vec![in alloc; 0u8; BLOCK_BYTES]?;
-        loop {
+        for _ in 0..MOST_READS {
             let count = input.read(block.as_mut_slice())?;
             if count == 0 {
                 return self.run_line(alloc, output);
             }
             self.run_block(alloc, &block.as_slice()[..count], output)?;
         }
+        Err(Stop::Fault(LineFault::Read))
     }
 
     // Runs the lines that end in a block, and keeps the beginning of the next.
