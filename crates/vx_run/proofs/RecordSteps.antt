@@ -1,12 +1,11 @@
 -- What each step on records appends, by what its call gives.
-use Rattle.std.proofs.Common.{◌≡◌, ℕ, Bool, true, false, List, [], ◌∷◌, ◌++◌, refl, sym, ◌∙◌, ap, subst, inr}
+use Rattle.std.proofs.Common.{◌≡◌, ℕ, Bool, true, List, [], ◌∷◌, ◌++◌, refl, sym, ◌∙◌, ap, subst, inr}
 use Rattle.std.specs.Prelude.{Option, Some, None, IfSome}
 use Rattle.std.specs.Global.{Vec}
 use Rattle.vx_base.specs.Fields.{place_of_name}
 use Rattle.vx_base.specs.declared.errors.VortexError.{VortexError}
 use Rattle.vx_base.specs.Refusals.{Refusal, Names, IsMemoryOr, or_else}
 use Rattle.vx_base.specs.Kinds.{Kind, booleans, integers, texts, binaries, lists, fixed_lists, records, Kinds}
-use Rattle.vx_base.specs.Rows.{Row}
 use Rattle.vx_tree.specs.Tree.{Tree, bools, primitive, constant, dictionary, fixed_list, list_view, structure, view_array}
 use Rattle.vx_tree.specs.Meaning.{kind_of, rows}
 use Rattle.vx_tree.specs.Shapes.{tree_state}

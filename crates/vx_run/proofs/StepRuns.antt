@@ -1,6 +1,6 @@
 -- Lists of steps, one step after another.
 use Rattle.std.proofs.Common.{◌≡◌, ℕ, zero, suc, ◌+◌, ◌<◌, ◌≤◌, List, [], ◌∷◌, ◌++◌, length, take, map, get_or, refl, sym, ◌∙◌, ap, subst, arith, add-zero, append_assoc, length-append, inl, inr}
-use Rattle.std.specs.Prelude.{Option, Some, None, slice_get, IsSomeAnd}
+use Rattle.std.specs.Prelude.{Option, None, IsSomeAnd}
 use Rattle.std.proofs.Math.ListN.{get_or-map}
 use Rattle.std.proofs.Math.Seq.{take-append_seam}
 use Rattle.std.proofs.lemmas.List.{map-append, take_more, take_all}
