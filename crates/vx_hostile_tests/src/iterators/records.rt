@@ -1,5 +1,9 @@
 // Columns of records, and records to be joined.
 
+ghost use Rattle.std.specs.Prelude.{◌≡◌, [], ◌∷◌};
+ghost use Rattle.vx_base.specs.Refusals.{Gives};
+ghost use Rattle.vx_tree.specs.Meaning.{tree_len};
+
 use super::Boasting;
 use crate::columns::{has_numbers, ints};
 use std::alloc::Global;
@@ -22,12 +26,43 @@ fn named_columns(alloc: Global) -> Result<Vec<(&'static str, ArrayRef)>, VortexE
     Ok(vec![in alloc; ("a", first), ("b", second), ("c", third)]?)
 }
 
+// One column.
+fn one(alloc: Global, column: ArrayRef) -> Result<Vec<ArrayRef>, VortexError>
+    ensures { Gives result (λ columns. columns.items ≡ column ∷ []) }
+{
+    let mut columns = Vec::with_capacity(alloc, 1)?;
+    columns.push(column)?;
+    Ok(columns)
+}
+
+// Three records of one column, which is asked to have three rows.
+fn asked(alloc: Global, column: ArrayRef) -> Result<StructArray, VortexError>
+    requires { tree_len column ≡ 3 }
+{
+    let names = FieldNames::try_new(alloc, &["a"])?;
+    let columns = one(alloc, column)?;
+    let items = Boasting {
+        items: columns.into_iter(),
+    };
+    StructArray::new(alloc, names, items, 3, Validity::AllValid)
+}
+
 // Whether records are the three rows of these columns.
 fn are_three(records: &StructArray) -> bool {
     let Some(last) = records.unmasked_field_opt(2) else {
         return false;
     };
     records.len() == 3 && records.fields().len() == 3 && has_numbers(last, &[7, 8, 9])
+}
+
+#[test]
+fn a_column_that_is_asked_to_fit(rt: HostRuntime) -> Result<(), Fail> {
+    let column = ints(rt.alloc(), &[7u8, 8, 9])?;
+    assert!(rt; column.len() == 3);
+    let records = asked(rt.alloc(), column)?;
+    assert!(rt; records.len() == 3 && records.fields().len() == 1);
+    assert!(rt; has_numbers(records.unmasked_field(0), &[7, 8, 9]));
+    Ok(())
 }
 
 #[test]
