@@ -114,12 +114,15 @@ def is_mask(validity) -> bool:
     return isinstance(validity, str) or (validity.kind == "bool" and not validity.nullable)
 
 
+def want_rows(validity, count: int):
+    """Refuses an array of another length as the validity of so many rows."""
+    want(isinstance(validity, str) or len(validity.rows) == count, "LengthMismatch")
+
+
 def mask_of(validity, count: int) -> List[bool]:
     """Which of so many rows a validity says are there."""
-    if isinstance(validity, str):
-        return [validity != "allinvalid"] * count
-    want(len(validity.rows) == count, "LengthMismatch")
-    return validity.rows
+    want_rows(validity, count)
+    return [validity != "allinvalid"] * count if isinstance(validity, str) else validity.rows
 
 
 def list_view(elements: Array, offsets: Array, sizes: Array, validity) -> Array:
@@ -139,12 +142,12 @@ def list_view(elements: Array, offsets: Array, sizes: Array, validity) -> Array:
 
 def fixed_lists(elements: Array, size: int, validity, count: int) -> Array:
     want(is_mask(validity), "MismatchedTypes")
-    mask = mask_of(validity, count)
+    want_rows(validity, count)
     want(size > 0 or not elements.rows, "DegenerateElements")
     want(count * size < 2**64, "Overflow")
     want(len(elements.rows) == count * size, "LengthMismatch")
     offsets = [row * size for row in range(count)]
-    rows = list_rows(elements, offsets, [size] * count, mask)
+    rows = list_rows(elements, offsets, [size] * count, mask_of(validity, count))
     return Array("fixed", "fixed", validity != "nonnull", rows, elements=elements, size=size)
 
 

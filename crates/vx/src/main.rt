@@ -4,9 +4,13 @@
 #![tactic(auto)]
 
 #[cfg(test)]
+mod record_steps;
+#[cfg(test)]
+mod step_arrays;
+#[cfg(test)]
 mod steps;
 #[cfg(test)]
-mod tests;
+mod streams;
 
 use std::process::ExitCode;
 use vx_run::run_script;

@@ -1,69 +1,15 @@
 // Lists of steps on arrays.
 
+use crate::step_arrays::{
+    bools, has_numbers, has_record, ints, is_one_list, list_of, names, of_each_kind, positions,
+    shared_lists, taken,
+};
 use std::alloc::Global;
 use std::test::Fail;
-use vx_base::{BitBuffer, NativePType, VortexError};
-use vx_leaves::{BoolArray, PrimitiveArray};
-use vx_lists::{ListViewArray, ListViewArrayExt, ListViewRebuildMode};
-use vx_run::{RunFault, Step, run};
-use vx_tree::{ArrayRef, TypedArray, Validity};
-
-// Numbers, none of them null.
-fn ints<T: NativePType>(alloc: Global, items: &[T]) -> Result<ArrayRef, VortexError> {
-    let items = items.iter().copied();
-    Ok(PrimitiveArray::from_iter(alloc, items)?.into_array())
-}
-
-// Truth values, none of them null.
-fn bools(alloc: Global, items: &[bool]) -> Result<ArrayRef, VortexError> {
-    let bits = BitBuffer::from_bools(alloc, items)?;
-    Ok(BoolArray::from_bit_buffer(alloc, bits)?.into_array())
-}
-
-// The lists [1, 2, 3] and [2, 3], over elements that they share.
-fn shared_lists(alloc: Global) -> Result<ArrayRef, VortexError> {
-    let elements = ints(alloc, &[1i32, 2, 3])?;
-    let offsets = ints(alloc, &[0u32, 1])?;
-    let sizes = ints(alloc, &[3u32, 2])?;
-    let lists = ListViewArray::try_new(alloc, elements, offsets, sizes, Validity::NonNullable)?;
-    Ok(lists.into_array())
-}
-
-// A list of one array.
-fn list_of(alloc: Global, array: ArrayRef) -> Result<Vec<ArrayRef>, VortexError> {
-    let mut arrays = Vec::new(alloc);
-    arrays.push(array)?;
-    Ok(arrays)
-}
-
-// Whether these are the numbers of an array, `None` where null.
-fn has_numbers(array: &ArrayRef, wanted: &[Option<i128>]) -> bool {
-    if !array.dtype().is_int() || array.len() != wanted.len() {
-        return false;
-    }
-    for (i, number) in wanted.iter().enumerate() {
-        if array.int_at(i) != *number {
-            return false;
-        }
-    }
-    true
-}
-
-// Whether an array is one list of these numbers.
-fn is_one_list(
-    alloc: Global,
-    array: ArrayRef,
-    wanted: &[Option<i128>],
-) -> Result<bool, VortexError> {
-    let Ok(lists) = ListViewArray::try_from_array(array) else {
-        return Ok(false);
-    };
-    if lists.len() != 1 {
-        return Ok(false);
-    }
-    let elements = lists.list_elements_at(alloc, 0)?;
-    Ok(has_numbers(&elements, wanted))
-}
+use vx_base::{DType, FieldName, PType, VortexError};
+use vx_lists::{ListViewArray, ListViewRebuildMode};
+use vx_run::{Step, run};
+use vx_tree::{ArrayRef, TypedArray};
 
 // Whether an array has these numbers after one step on two arrays, of which it comes last.
 fn makes(
@@ -100,13 +46,9 @@ fn refused_step_gives_the_arrays_back(rt: HostRuntime) -> Result<(), Fail> {
         assert!(rt; false);
         return Ok(());
     };
-    let RunFault {
-        step,
-        error,
-        mut arrays,
-    } = fault;
-    assert_eq!(rt; step, 2);
-    assert_eq!(rt; error, VortexError::MismatchedTypes);
+    assert_eq!(rt; fault.step, 2);
+    assert_eq!(rt; fault.error, VortexError::MismatchedTypes);
+    let mut arrays = fault.into_arrays();
     assert_eq!(rt; arrays.len(), 3);
     if let Some(last) = arrays.pop() {
         assert!(rt; is_one_list(alloc, last, &[Some(2), Some(3)])?);
@@ -205,5 +147,162 @@ fn mask_of_numbers_is_refused(rt: HostRuntime) -> Result<(), Fail> {
         return Ok(());
     };
     assert_eq!(rt; fault.error, VortexError::MismatchedTypes);
+    Ok(())
+}
+
+#[test]
+fn steps_that_pick_rows_are_refused(rt: HostRuntime) -> Result<(), Fail> {
+    let alloc = rt.alloc();
+    let past_the_end = Step::Slice {
+        array: 0,
+        start: 2,
+        end: 9,
+    };
+    let refused = taken(alloc, past_the_end);
+    assert!(rt; matches!(refused, Err(VortexError::OutOfBounds { index: 9, len: 3 })));
+    let by_truth_values = Step::Take {
+        array: 0,
+        indices: 1,
+    };
+    assert!(rt;
+        matches!(
+            taken(alloc, by_truth_values),
+            Err(VortexError::MismatchedTypes)
+        )
+    );
+    let by_numbers = Step::Mask { array: 0, mask: 0 };
+    assert!(rt; matches!(taken(alloc, by_numbers), Err(VortexError::MismatchedTypes)));
+    let shorter = Step::Filter { array: 3, mask: 1 };
+    assert!(rt;
+        matches!(
+            taken(alloc, shorter),
+            Err(VortexError::LengthMismatch { .. })
+        )
+    );
+    Ok(())
+}
+
+#[test]
+fn steps_that_make_rows_anew_are_refused(rt: HostRuntime) -> Result<(), Fail> {
+    let alloc = rt.alloc();
+    let nowhere = Step::Canonical { array: 5 };
+    let refused = taken(alloc, nowhere);
+    assert!(rt; matches!(refused, Err(VortexError::OutOfBounds { index: 5, len: 5 })));
+    let of_two_types = Step::Concat {
+        arrays: positions(alloc, &[0, 1])?,
+    };
+    assert!(rt;
+        matches!(
+            taken(alloc, of_two_types),
+            Err(VortexError::DifferingDtypes)
+        )
+    );
+    let of_none = Step::Concat {
+        arrays: positions(alloc, &[])?,
+    };
+    assert!(rt; matches!(taken(alloc, of_none), Err(VortexError::EmptyInput)));
+    let no_lists = Step::Rebuild {
+        array: 0,
+        mode: ListViewRebuildMode::MakeZeroCopyToList,
+    };
+    assert!(rt; matches!(taken(alloc, no_lists), Err(VortexError::MismatchedTypes)));
+    let not_built = Step::Rebuild {
+        array: 2,
+        mode: ListViewRebuildMode::OverlapCompression,
+    };
+    assert!(rt; matches!(taken(alloc, not_built), Err(VortexError::NotImplemented)));
+    let no_numbers = Step::Narrow { array: 1 };
+    assert!(rt; matches!(taken(alloc, no_numbers), Err(VortexError::MismatchedTypes)));
+    Ok(())
+}
+
+// A step of each kind, on the arrays of each kind and the results of the steps before.
+fn a_step_of_each_kind(alloc: Global) -> Result<Vec<Step>, VortexError> {
+    let mut steps = array_steps(alloc)?;
+    steps.push(Step::Rebuild {
+        array: 2,
+        mode: ListViewRebuildMode::MakeZeroCopyToList,
+    })?;
+    steps.push(Step::WithColumn {
+        array: 3,
+        name: FieldName::try_new(alloc, "b")?,
+        column: 6,
+    })?;
+    steps.push(Step::Project {
+        array: 13,
+        names: names(alloc, &["b", "a", "b"])?,
+    })?;
+    steps.push(Step::RemoveColumn {
+        array: 14,
+        name: FieldName::try_new(alloc, "b")?,
+    })?;
+    steps.push(Step::PushValidity {
+        array: 15,
+        remove: true,
+    })?;
+    Ok(steps)
+}
+
+// The first seven of them, which make arrays 5 to 11 of numbers.
+fn array_steps(alloc: Global) -> Result<Vec<Step>, VortexError> {
+    let mut steps = Vec::new(alloc);
+    steps.push(Step::Slice {
+        array: 0,
+        start: 1,
+        end: 3,
+    })?;
+    steps.push(Step::Take {
+        array: 5,
+        indices: 4,
+    })?;
+    steps.push(Step::Filter { array: 0, mask: 1 })?;
+    steps.push(Step::Concat {
+        arrays: positions(alloc, &[7, 6])?,
+    })?;
+    steps.push(Step::Mask { array: 0, mask: 1 })?;
+    steps.push(Step::Canonical { array: 9 })?;
+    steps.push(Step::Narrow { array: 10 })?;
+    Ok(steps)
+}
+
+// Whether the results of the first seven steps have the numbers that they should have.
+fn are_array_results(results: &[ArrayRef]) -> bool {
+    results.len() > 11
+        && has_numbers(&results[5], &[Some(6), Some(7)])
+        && has_numbers(&results[6], &[Some(7), Some(6)])
+        && has_numbers(&results[7], &[Some(5), Some(7)])
+        && has_numbers(&results[8], &[Some(5), Some(7), Some(7), Some(6)])
+        && has_numbers(&results[9], &[Some(5), None, Some(7)])
+        && has_numbers(&results[10], &[Some(5), None, Some(7)])
+        && has_numbers(&results[11], &[Some(5), None, Some(7)])
+}
+
+#[test]
+fn a_list_of_twelve_steps_of_all_kinds(rt: HostRuntime) -> Result<(), Fail> {
+    let alloc = rt.alloc();
+    let steps = a_step_of_each_kind(alloc)?;
+    assert_eq!(rt; steps.len(), 12);
+    let Ok(results) = run(alloc, of_each_kind(alloc)?, &steps) else {
+        assert!(rt; false);
+        return Ok(());
+    };
+    assert_eq!(rt; results.len(), 17);
+    assert!(rt; are_array_results(&results));
+    assert!(rt; matches!(results[11].dtype(), DType::Primitive(PType::U8, _)));
+    let Ok(lists) = ListViewArray::try_from_array(results[12].try_clone(alloc)?) else {
+        assert!(rt; false);
+        return Ok(());
+    };
+    let elements = [Some(1), Some(2), Some(3), Some(2), Some(3)];
+    assert!(rt; has_numbers(lists.elements(), &elements));
+    let wide = [("a", Some(1)), ("b", Some(7))];
+    assert!(rt; has_record(alloc, &results[13], 0, Some(&wide))?);
+    assert!(rt; has_record(alloc, &results[13], 1, None)?);
+    let chosen = [("b", Some(7)), ("a", Some(1)), ("b", Some(7))];
+    assert!(rt; has_record(alloc, &results[14], 0, Some(&chosen))?);
+    let rest = [("a", Some(1)), ("b", Some(7))];
+    assert!(rt; has_record(alloc, &results[15], 0, Some(&rest))?);
+    assert!(rt; has_record(alloc, &results[16], 0, Some(&rest))?);
+    assert!(rt; has_record(alloc, &results[16], 1, Some(&[("a", None), ("b", None)]))?);
     Ok(())
 }

@@ -4,3 +4,5 @@ pub mod Fields
 pub mod StepRuns
 pub mod StepResults
 pub mod StepPositions
+pub mod RecordSteps
+pub mod WrittenLines

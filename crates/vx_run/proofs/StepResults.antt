@@ -1,24 +1,25 @@
 -- What each step appends, by what its call gives.
-use Rattle.std.proofs.Common.{◌≡◌, ℕ, zero, suc, Bool, true, false, cond, List, [], ◌∷◌, length, map, refl, sym, ◌∙◌, ap, subst, arith}
-use Rattle.std.specs.Prelude.{◌≢◌, ◌<◌, slice_range, Option, Some, None}
+use Rattle.std.proofs.Common.{◌≡◌, ℕ, zero, suc, Bool, true, false, cond, List, [], ◌∷◌, refl, sym, ◌∙◌, ap, subst, arith}
+use Rattle.std.specs.Prelude.{◌≢◌, slice_range, Some, None}
 use Rattle.std.specs.Global.{Vec}
 use Rattle.std.specs.List.{All, flat_map, range_with_len}
 use Rattle.std.proofs.lemmas.Bool.{ne_eqb}
 use Rattle.std.proofs.lemmas.List.Folds.{flat_map-map}
 use Rattle.std.proofs.lemmas.Simd.{map-map}
-use Rattle.vx_base.specs.Kinds.{Kind, integers, is_nullable_kind, or_nullable}
-use Rattle.vx_base.specs.Refusals.{empty_input, not_implemented}
+use Rattle.vx_base.specs.Kinds.{Kind, booleans, integers, texts, binaries, lists, fixed_lists, records, is_nullable_kind, or_nullable}
+use Rattle.vx_base.specs.Refusals.{not_implemented}
 use Rattle.vx_base.specs.Rows.{Row, truth_of}
-use Rattle.vx_tree.specs.Tree.{Tree, bools, primitive, constant, dictionary, fixed_list, list_view, structure, view_array, non_nullable, by_array}
+use Rattle.vx_tree.specs.Tree.{Tree, bools, primitive, constant, dictionary, fixed_list, list_view, structure, view_array, by_array}
 use Rattle.vx_tree.specs.Meaning.{tree_len, kind_of, row_at, rows, nullable, valid_mask}
+use Rattle.vx_tree.specs.Canonical.{IsCanonical}
 use Rattle.vx_tree.specs.Concatenated.{concat_fault}
 use Rattle.vx_tree.specs.Flags.{is_flagged}
 use Rattle.vx_tree.specs.Joined.{joined_state}
 use Rattle.vx_tree.specs.Layouts.{is_constant, is_list_view, is_primitive}
 use Rattle.vx_tree.specs.OneValue.{HasOneValue}
-use Rattle.vx_tree.specs.Operations.{picks, positions, truths}
+use Rattle.vx_tree.specs.Operations.{picks, positions, filtered, masked, truths}
 use Rattle.vx_tree.specs.Plain.{IsPlain}
-use Rattle.vx_tree.specs.Shapes.{tree_state, shape_of, taken_shape}
+use Rattle.vx_tree.specs.Shapes.{tree_state, told, shape_of, sliced_shape, selected_shape, nulled_shape, taken_shape}
 use Rattle.vx_tree.proofs.RowLists.{length-valid_mask}
 use Rattle.vx_leaves.specs.Narrow.{IsNarrowed}
 use Rattle.vx_lists.specs.declared.rebuild.ListViewRebuildMode.{ListViewRebuildMode}
@@ -26,22 +27,75 @@ use Rattle.vx_lists.specs.declared.rebuild.ListViewRebuildMode.TheVariants.{Make
 use Rattle.vx_lists.specs.ListReferences.{IsTrimmedToBounds}
 use Rattle.vx_lists.specs.ListViewFaults.{rebuild_fault}
 use Rattle.vx_lists.specs.ListViews.{flag_of, with_flag, IsRebuilt}
+use Rattle.vx_lists.specs.Records.{names_in}
 use Rattle.vx_lists.specs.RebuildModes.{IsMadeBy, IsRebuiltBy}
-use Rattle.vx_run.specs.declared.steps.Step.TheVariants.{Take, Concat, Rebuild, Narrow}
-use Rattle.vx_run.specs.Steps.{typed_rows, rows_of, joined_kind, narrowed_kind, array_at, arrays_at, IsStep}
+use Rattle.vx_run.specs.declared.steps.Step.TheVariants.{Slice, Take, Filter, Mask, Concat, Canonical, Rebuild, Narrow}
+use Rattle.vx_run.specs.Steps.{named_rows, rows_of, joined_names, array_at, arrays_at, joined_kind, narrowed_kind, IsStep}
 
-typed_rows-same : (k l : Kind) (rs ss : List Row) → k ≡ l → rs ≡ ss → typed_rows k rs ≡ typed_rows l ss
-typed_rows-same k l rs ss kinds same = λ i. typed_rows (kinds i) (same i)
+pub named_rows-same : (ns ms : List (List ℕ)) (rs ss : List Row) → ns ≡ ms → rs ≡ ss → named_rows ns rs ≡ named_rows ms ss
+named_rows-same ns ms rs ss names same = λ i. named_rows (names i) (same i)
 
 -- ---- rows at positions and under masks
+
+pub step-slice : (arrays : List Tree) (array start end : ℕ) (t r : Tree) → t ≡ array_at arrays array → kind_of r ≡ kind_of t
+    → rows r ≡ slice_range (rows t) start end → shape_of r ≡ sliced_shape (shape_of t) → IsStep (Slice array start end) arrays r
+step-slice arrays array start end t r is kind same shape = record {
+  same_rows = named_rows-same _ _ _ _ (ap names_in (kind ∙ ap kind_of is)) (same ∙ ap (λ u. slice_range (rows u) start end) is);
+  kind = kind ∙ ap kind_of is;
+  layout = shape ∙ ap (λ u. sliced_shape (shape_of u)) is;
+}
+
+names_in-or_nullable : (c : Bool) (k : Kind) → names_in (or_nullable c k) ≡ names_in k
+names_in-or_nullable c (booleans n) = refl
+names_in-or_nullable c (integers t n) = refl
+names_in-or_nullable c (texts n) = refl
+names_in-or_nullable c (binaries n) = refl
+names_in-or_nullable c (lists k n) = refl
+names_in-or_nullable c (fixed_lists k size n) = refl
+names_in-or_nullable c (records ns ks n) = refl
 
 pub step-take : (arrays : List Tree) (array indices : ℕ) (t u r : Tree) → t ≡ array_at arrays array → u ≡ array_at arrays indices
     → kind_of r ≡ or_nullable (is_nullable_kind (kind_of u)) (kind_of t) → rows r ≡ picks (rows t) (positions (rows u))
     → shape_of r ≡ taken_shape (shape_of t) (tree_state u) → (is_constant t ≡ true → HasOneValue r) → IsStep (Take array indices) arrays r
-step-take arrays array indices t u r is at kind same shape one = record {
-  same_rows = typed_rows-same _ _ _ _ (kind ∙ (λ i. or_nullable (is_nullable_kind (kind_of (at i))) (kind_of (is i)))) (same ∙ (λ i. picks (rows (is i)) (positions (rows (at i)))));
-  layout = (shape ∙ (λ i. taken_shape (shape_of (is i)) (tree_state (at i))), λ constant. one (ap is_constant is ∙ constant));
+step-take arrays array indices t u r is at kind same shape one =
+    let of : kind_of r ≡ or_nullable (is_nullable_kind (kind_of (array_at arrays indices))) (kind_of (array_at arrays array)) =
+    kind ∙ (λ i. or_nullable (is_nullable_kind (kind_of (at i))) (kind_of (is i))) in
+    record {
+      same_rows = named_rows-same _ _ _ _ (ap names_in of ∙ names_in-or_nullable (is_nullable_kind (kind_of (array_at arrays indices))) (kind_of (array_at arrays array)))
+          (same ∙ (λ i. picks (rows (is i)) (positions (rows (at i)))));
+      kind = of;
+      layout = (shape ∙ (λ i. taken_shape (shape_of (is i)) (tree_state (at i))), λ constant. one (ap is_constant is ∙ constant));
+    }
+
+pub step-filter : (arrays : List Tree) (array mask : ℕ) (t r : Tree) (bs : List Bool) → t ≡ array_at arrays array → bs ≡ truths (rows (array_at arrays mask))
+    → kind_of r ≡ kind_of t → rows r ≡ filtered bs (rows t) → shape_of r ≡ selected_shape (shape_of t) → IsStep (Filter array mask) arrays r
+step-filter arrays array mask t r bs is at kind same shape = record {
+  same_rows = named_rows-same _ _ _ _ (ap names_in (kind ∙ ap kind_of is)) (same ∙ (λ i. filtered (at i) (rows (is i))));
+  kind = kind ∙ ap kind_of is;
+  layout = shape ∙ ap (λ u. selected_shape (shape_of u)) is;
 }
+
+pub step-mask : (arrays : List Tree) (array mask : ℕ) (t u r : Tree) → t ≡ array_at arrays array → u ≡ array_at arrays mask
+    → kind_of r ≡ or_nullable true (kind_of t) → rows r ≡ masked (truths (rows u)) (rows t) → shape_of r ≡ nulled_shape (shape_of t) told
+    → (is_constant t ≡ true → HasOneValue r) → IsStep (Mask array mask) arrays r
+step-mask arrays array mask t u r is at kind same shape one =
+    let of = kind ∙ ap (λ w. or_nullable true (kind_of w)) is in
+    record {
+      same_rows = named_rows-same _ _ _ _ (ap names_in of ∙ names_in-or_nullable true (kind_of (array_at arrays array)))
+          (same ∙ (λ i. masked (truths (rows (at i))) (rows (is i))));
+      kind = of;
+      layout = (shape ∙ ap (λ w. nulled_shape (shape_of w) told) is, λ constant. one (ap is_constant is ∙ constant));
+    }
+
+pub step-canonical : (arrays : List Tree) (array : ℕ) (t r : Tree) → t ≡ array_at arrays array → rows r ≡ rows t → IsCanonical t r
+    → IsStep (Canonical array) arrays r
+step-canonical arrays array t r is same canonical =
+    let of = canonical.same.kind ∙ ap kind_of is in
+    record {
+      same_rows = named_rows-same _ _ _ _ (ap names_in of) (same ∙ ap rows is);
+      kind = of;
+      layout = subst (λ u. IsCanonical u r) is canonical;
+    }
 
 -- the mask of an array is its truth values
 pub mask-truths : (u : Tree) (n : ℕ) → tree_len u ≡ n → valid_mask (by_array u) n ≡ truths (rows u)
@@ -52,19 +106,25 @@ pub ruleset plain_masks = (mask-truths, length-valid_mask)
 -- ---- arrays that are joined
 
 -- their kind is that of the first, which there is
-joined-kind : (arrays : List Tree) (is : List ℕ) (r : Tree) → concat_fault (arrays_at arrays is) ≡ None → All (λ t. kind_of t ≡ kind_of r) (arrays_at arrays is)
-    → kind_of r ≡ joined_kind is (λ i. rows_of (array_at arrays i))
-joined-kind arrays [] r none alike = absurd (cc)
-joined-kind arrays (i ∷ is) r none alike = sym (alike 0 (array_at arrays i) (omega arith))
+joined-kind : (ts : List Tree) (r : Tree) → concat_fault ts ≡ None → All (λ t. kind_of t ≡ kind_of r) ts → kind_of r ≡ joined_kind ts
+joined-kind [] r none alike = absurd (cc)
+joined-kind (t ∷ ts) r none alike = sym (alike 0 t (omega arith))
+
+joined-names : (arrays : List Tree) (is : List ℕ) → names_in (joined_kind (arrays_at arrays is)) ≡ joined_names is (λ i. rows_of (array_at arrays i))
+joined-names arrays [] = refl
+joined-names arrays (i ∷ is) = refl
 
 pub step-concat : (arrays : List Tree) (v : Vec ℕ) (found : List Tree) (r : Tree) → found ≡ arrays_at arrays v.items → concat_fault found ≡ None
     → rows r ≡ flat_map rows found → All (λ t. kind_of t ≡ kind_of r) found → IsPlain r → tree_state r ≡ joined_state found → is_flagged r ≡ false
     → IsStep (Concat v) arrays r
-step-concat arrays v found r is none same alike plain state flag = record {
-  same_rows = typed_rows-same _ _ _ _ (joined-kind arrays v.items r (ap concat_fault (sym is) ∙ none) (subst (All (λ t. kind_of t ≡ kind_of r)) is alike))
-      (same ∙ ap (flat_map rows) is ∙ flat_map-map rows (array_at arrays) v.items);
-  layout = (plain, state ∙ ap joined_state is, flag);
-}
+step-concat arrays v found r is none same alike plain state flag =
+    let of = joined-kind found r none alike ∙ ap joined_kind is in
+    record {
+      same_rows = named_rows-same _ _ _ _ (ap names_in of ∙ joined-names arrays v.items)
+          (same ∙ ap (flat_map rows) is ∙ flat_map-map rows (array_at arrays) v.items);
+      kind = of;
+      layout = (plain, state ∙ ap joined_state is, flag);
+    }
 
 -- ---- rebuilt and narrowed arrays
 
@@ -127,9 +187,10 @@ pub step-rebuild : (arrays : List Tree) (array : ℕ) (mode : ListViewRebuildMod
     → is_list_view (array_at arrays array) ≡ true → IsRebuildAnswer mode t r → out ≡ r → is_list_view out ≡ true → IsStep (Rebuild array mode) arrays out
 step-rebuild arrays array mode t r out is view answer same laid =
     let made = rebuilt-by mode t r answer in
-    let kind = rebuilt-kind (tree_len t) mode t r refl (ap is_list_view is ∙ view) made in
+    let of = rebuilt-kind (tree_len t) mode t r refl (ap is_list_view is ∙ view) made ∙ ap kind_of is in
     subst (λ u. IsStep (Rebuild array mode) arrays u) (sym same) (record {
-      same_rows = typed_rows-same _ _ _ _ (kind ∙ ap kind_of is) (answer.same ∙ ap rows is);
+      same_rows = named_rows-same _ _ _ _ (ap names_in of) (answer.same ∙ ap rows is);
+      kind = of;
       layout = (ap is_list_view (sym same) ∙ laid, subst (λ u. IsRebuiltBy mode u r) is made);
     })
 
@@ -150,13 +211,23 @@ narrow-kind (list_view e o s v f) r of laid made = absurd (cc)
 narrow-kind (structure ns ts v n) r of laid made = absurd (cc)
 narrow-kind (view_array vs bs k v) r of laid made = absurd (cc)
 
+narrowed-names : (k : Kind) (rs : List Row) → names_in (narrowed_kind k rs) ≡ names_in k
+narrowed-names (booleans n) rs = refl
+narrowed-names (integers t n) rs = refl
+narrowed-names (texts n) rs = refl
+narrowed-names (binaries n) rs = refl
+narrowed-names (lists k n) rs = refl
+narrowed-names (fixed_lists k size n) rs = refl
+narrowed-names (records ns ks n) rs = refl
+
 -- the numbers that `narrow` gives of the array t, as an array
 pub step-narrow : (arrays : List Tree) (array : ℕ) (t r out : Tree) → t ≡ array_at arrays array → is_primitive (array_at arrays array) ≡ true → IsNarrowed t r
     → out ≡ r → is_primitive out ≡ true → IsStep (Narrow array) arrays out
 step-narrow arrays array t r out is of made same laid =
     let plain : is_primitive r ≡ true = ap is_primitive (sym same) ∙ laid in
-    let kind = narrow-kind t r (ap is_primitive is ∙ of) plain made in
+    let kind = narrow-kind t r (ap is_primitive is ∙ of) plain made ∙ ap (λ u. narrowed_kind (kind_of u) (rows u)) is in
     subst (λ u. IsStep (Narrow array) arrays u) (sym same) (record {
-      same_rows = typed_rows-same _ _ _ _ (kind ∙ (λ i. narrowed_kind (kind_of (is i)) (rows (is i)))) (made.same_rows ∙ ap rows is);
+      same_rows = named_rows-same _ _ _ _ (ap names_in kind ∙ narrowed-names (kind_of (array_at arrays array)) (rows (array_at arrays array))) (made.same_rows ∙ ap rows is);
+      kind = kind;
       layout = (plain, subst (λ u. IsNarrowed u r) is made);
     })

@@ -1,6 +1,6 @@
 -- Lists of steps, one step after another.
-use Rattle.std.proofs.Common.{◌≡◌, ℕ, ◌+◌, ◌<◌, ◌≤◌, List, [], ◌∷◌, ◌++◌, length, take, map, get_or, refl, sym, ◌∙◌, ap, subst, arith, add-zero, append_assoc, length-append, inr}
-use Rattle.std.specs.Prelude.{Option, Some, None, slice_get, IsSomeAnd}
+use Rattle.std.proofs.Common.{◌≡◌, ℕ, zero, suc, ◌+◌, ◌<◌, ◌≤◌, List, [], ◌∷◌, ◌++◌, length, take, map, get_or, refl, sym, ◌∙◌, ap, subst, arith, add-zero, append_assoc, length-append, inl, inr}
+use Rattle.std.specs.Prelude.{Option, None, IsSomeAnd}
 use Rattle.std.proofs.Math.ListN.{get_or-map}
 use Rattle.std.proofs.Math.Seq.{take-append_seam}
 use Rattle.std.proofs.lemmas.List.{map-append, take_more, take_all}
@@ -82,3 +82,13 @@ stops_at steps i s results lent e inside is same refused =
 pub run-all : (steps : List Step) (i : ℕ) (arrays results : List Tree) → IsRun (take i steps) arrays results → length steps ≤ i → HasRun steps arrays results
 run-all steps i arrays results run past =
     has_run steps arrays results (subst (λ ss. IsRun ss arrays results) (take_all i steps past) run)
+
+-- ---- one step alone
+
+-- where it is refused, the arrays are as they were
+pub one-stop : (s : Step) (k : ℕ) (arrays results : List Tree) (e : VortexError) → HasRun (take k (s ∷ [])) arrays results → IsStop (s ∷ []) k results e
+    → (results ≡ arrays) × IsMemoryOr (step_fault s arrays) e
+one-stop s zero arrays results e run (inl room) = (run.each, inl room.1)
+one-stop s zero arrays results e run (inr refused) = (run.each, subst (λ ts. IsMemoryOr (step_fault s ts) e) run.each refused)
+one-stop s (suc k) arrays results e run (inl room) = absurd (cc)
+one-stop s (suc k) arrays results e run (inr refused) = absurd refused

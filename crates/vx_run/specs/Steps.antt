@@ -1,9 +1,10 @@
 -- What steps append to a list of arrays, and why a step is refused.
 use Rattle.std.specs.Prelude.{◌≡◌, ◌+◌, ◌++◌, ◌⊎◌, ℕ, Bool, true, false, List, [], ◌∷◌, length, take, map, slice_range, slice_get}
 use Rattle.std.specs.Prelude.{slice_index_or, Option, Some, None, IsSomeAnd, if◌then◌else◌}
-use Rattle.std.specs.List.{flat_map}
+use Rattle.std.specs.List.{flat_map, remove}
 use Rattle.vx_base.specs.declared.errors.VortexError.{VortexError}
 use Rattle.vx_base.specs.declared.errors.VortexError.TheVariants.{Memory}
+use Rattle.vx_base.specs.Fields.{place_of_name}
 use Rattle.vx_base.specs.Kinds.{Kind, booleans, integers, is_nullable_kind, or_nullable}
 use Rattle.vx_base.specs.Refusals.{Refusal, mismatched_types, IsMemoryOr, or_else}
 use Rattle.vx_base.specs.Rows.{Row}
@@ -19,54 +20,65 @@ use Rattle.vx_tree.specs.OneValue.{HasOneValue}
 use Rattle.vx_tree.specs.Operations.{picks, positions, filtered, masked, truths}
 use Rattle.vx_tree.specs.Plain.{IsPlain}
 use Rattle.vx_tree.specs.Shapes.{tree_state, told, shape_of, sliced_shape, selected_shape, nulled_shape, taken_shape}
+use Rattle.vx_tree.specs.Validities.{is_full_state}
 use Rattle.vx_leaves.specs.Narrow.{narrowed_type, numbers_among, IsNarrowed}
 use Rattle.vx_lists.specs.ListViewFaults.{rebuild_fault}
 use Rattle.vx_lists.specs.RebuildModes.{IsRebuiltBy}
+use Rattle.vx_lists.specs.Records.{projected, with_column, without_column, pushed, names_in}
+use Rattle.vx_lists.specs.Records.{projected_kind, kind_with_column, kind_without_column, pushed_kind}
+use Rattle.vx_lists.specs.StructFaults.{names_fault, unknown_fault}
+use Rattle.vx_lists.specs.Structs.{is_struct, names_of, IsProjected, added, removed, IsPushed}
 use Rattle.vx_run.specs.declared.steps.Step.{Step}
 use Rattle.vx_run.specs.declared.steps.Step.TheVariants.{Slice, Take, Filter, Mask, Concat, Canonical, Rebuild, Narrow}
+use Rattle.vx_run.specs.declared.steps.Step.TheVariants.{Project, WithColumn, RemoveColumn, PushValidity}
 
 -- ---- on rows
 
--- rows, and of what kind they are
-pub record TypedRows : Type 0 where
-  pub kind : Kind
+-- rows, and the names of their fields where they are records
+pub record NamedRows : Type 0 where
+  pub names : List (List ℕ)
   pub row_list : List Row
 
-abbrev pub typed_rows : Kind → List Row → TypedRows
-typed_rows k rs = record { kind = k; row_list = rs }
+abbrev pub named_rows : List (List ℕ) → List Row → NamedRows
+named_rows ns rs = record { names = ns; row_list = rs }
 
 -- the rows of an array
-abbrev pub rows_of : Tree → TypedRows
-rows_of t = typed_rows (kind_of t) (rows t)
+abbrev pub rows_of : Tree → NamedRows
+rows_of t = named_rows (names_in (kind_of t)) (rows t)
 
 -- the rows at a position, none where nothing stands there
-abbrev pub rows_at : List TypedRows → ℕ → TypedRows
-rows_at given i = slice_index_or given i (typed_rows (booleans false) [])
+abbrev pub rows_at : List NamedRows → ℕ → NamedRows
+rows_at given i = slice_index_or given i (named_rows [] [])
 
--- the kind of rows that are joined: that of the first
-abbrev pub joined_kind : List ℕ → (ℕ → TypedRows) → Kind
-joined_kind [] at = booleans false
-joined_kind (i ∷ is) at = (at i).kind
+-- the names of rows that are joined: those of the first
+abbrev pub joined_names : List ℕ → (ℕ → NamedRows) → List (List ℕ)
+joined_names [] at = []
+joined_names (i ∷ is) at = (at i).names
 
--- the kind of numbers in the narrowest type that has them
-abbrev pub narrowed_kind : Kind → List Row → Kind
-narrowed_kind (integers t n) rs = integers (narrowed_type t (numbers_among rs)) n
-narrowed_kind k rs = k
+-- without the name at a place, where there is one
+abbrev pub names_without : Option ℕ → List (List ℕ) → List (List ℕ)
+names_without None ns = ns
+names_without (Some i) ns = remove ns i
 
 -- the rows that a step appends, by the rows at each position
-abbrev pub step_rows : Step → (ℕ → TypedRows) → TypedRows
-step_rows (Slice array start end) at = typed_rows (at array).kind (slice_range (at array).row_list start end)
-step_rows (Take array indices) at =
-    typed_rows (or_nullable (is_nullable_kind (at indices).kind) (at array).kind) (picks (at array).row_list (positions (at indices).row_list))
-step_rows (Filter array mask) at = typed_rows (at array).kind (filtered (truths (at mask).row_list) (at array).row_list)
-step_rows (Mask array mask) at = typed_rows (or_nullable true (at array).kind) (masked (truths (at mask).row_list) (at array).row_list)
-step_rows (Concat arrays) at = typed_rows (joined_kind arrays.items at) (flat_map (λ i. (at i).row_list) arrays.items)
+abbrev pub step_rows : Step → (ℕ → NamedRows) → NamedRows
+step_rows (Slice array start end) at = named_rows (at array).names (slice_range (at array).row_list start end)
+step_rows (Take array indices) at = named_rows (at array).names (picks (at array).row_list (positions (at indices).row_list))
+step_rows (Filter array mask) at = named_rows (at array).names (filtered (truths (at mask).row_list) (at array).row_list)
+step_rows (Mask array mask) at = named_rows (at array).names (masked (truths (at mask).row_list) (at array).row_list)
+step_rows (Concat arrays) at = named_rows (joined_names arrays.items at) (flat_map (λ i. (at i).row_list) arrays.items)
 step_rows (Canonical array) at = at array
 step_rows (Rebuild array mode) at = at array
-step_rows (Narrow array) at = typed_rows (narrowed_kind (at array).kind (at array).row_list) (at array).row_list
+step_rows (Narrow array) at = at array
+step_rows (Project array names) at = named_rows names.items (projected names.items (at array).row_list)
+step_rows (WithColumn array name column) at =
+    named_rows ((at array).names ++ name ∷ []) (with_column name (at column).row_list (at array).row_list)
+step_rows (RemoveColumn array name) at =
+    named_rows (names_without (place_of_name (at array).names name) (at array).names) (without_column name (at array).row_list)
+step_rows (PushValidity array remove) at = named_rows (at array).names (pushed (at array).names remove (at array).row_list)
 
 -- the rows after steps: each step appends its own
-abbrev pub run_rows : List Step → List TypedRows → List TypedRows
+abbrev pub run_rows : List Step → List NamedRows → List NamedRows
 run_rows [] given = given
 run_rows (s ∷ ss) given = run_rows ss (given ++ step_rows s (rows_at given) ∷ [])
 
@@ -79,6 +91,32 @@ array_at arrays i = slice_index_or arrays i (bools [] non_nullable)
 -- the arrays at positions
 abbrev pub arrays_at : List Tree → List ℕ → List Tree
 arrays_at arrays is = map (array_at arrays) is
+
+-- the kind of arrays that are joined: that of the first
+abbrev pub joined_kind : List Tree → Kind
+joined_kind [] = booleans false
+joined_kind (t ∷ ts) = kind_of t
+
+-- the kind of numbers in the narrowest type that has them
+abbrev pub narrowed_kind : Kind → List Row → Kind
+narrowed_kind (integers t n) rs = integers (narrowed_type t (numbers_among rs)) n
+narrowed_kind k rs = k
+
+-- the kind of what a step appends
+abbrev pub step_kind : Step → List Tree → Kind
+step_kind (Slice array start end) arrays = kind_of (array_at arrays array)
+step_kind (Take array indices) arrays = or_nullable (is_nullable_kind (kind_of (array_at arrays indices))) (kind_of (array_at arrays array))
+step_kind (Filter array mask) arrays = kind_of (array_at arrays array)
+step_kind (Mask array mask) arrays = or_nullable true (kind_of (array_at arrays array))
+step_kind (Concat is) arrays = joined_kind (arrays_at arrays is.items)
+step_kind (Canonical array) arrays = kind_of (array_at arrays array)
+step_kind (Rebuild array mode) arrays = kind_of (array_at arrays array)
+step_kind (Narrow array) arrays = narrowed_kind (kind_of (array_at arrays array)) (rows (array_at arrays array))
+step_kind (Project array names) arrays = projected_kind names.items (kind_of (array_at arrays array))
+step_kind (WithColumn array name column) arrays = kind_with_column name (kind_of (array_at arrays column)) (kind_of (array_at arrays array))
+step_kind (RemoveColumn array name) arrays = kind_without_column name (kind_of (array_at arrays array))
+step_kind (PushValidity array remove) arrays =
+    pushed_kind (is_full_state (tree_state (array_at arrays array))) remove (kind_of (array_at arrays array))
 
 -- the layout, the state and the flag of what a step appends
 abbrev pub HasLayout : Step → List Tree → Tree → Type 0
@@ -94,10 +132,15 @@ HasLayout (Concat is) arrays r =
 HasLayout (Canonical array) arrays r = IsCanonical (array_at arrays array) r
 HasLayout (Rebuild array mode) arrays r = (is_list_view r ≡ true) × IsRebuiltBy mode (array_at arrays array) r
 HasLayout (Narrow array) arrays r = (is_primitive r ≡ true) × IsNarrowed (array_at arrays array) r
+HasLayout (Project array names) arrays r = IsProjected (array_at arrays array) names.items r
+HasLayout (WithColumn array name column) arrays r = r ≡ added (array_at arrays array) name (array_at arrays column)
+HasLayout (RemoveColumn array name) arrays r = (column : Tree) × (removed (array_at arrays array) name ≡ Some (r, column))
+HasLayout (PushValidity array remove) arrays r = IsPushed (array_at arrays array) remove r
 
 -- what a step appends to arrays
 pub record IsStep (step : Step) (arrays : List Tree) (r : Tree) : Type 0 where
   pub same_rows : rows_of r ≡ step_rows step (λ i. rows_of (array_at arrays i))
+  pub kind : kind_of r ≡ step_kind step arrays
   pub layout : HasLayout step arrays r
 
 -- ---- faults
@@ -114,6 +157,10 @@ positions_fault n (i ∷ is) = or_else (position_fault n i) (positions_fault n i
 -- no array at a position, or one that is not of plain booleans
 abbrev pub mask_fault : List Tree → ℕ → Option Refusal
 mask_fault arrays i = or_else (position_fault (length arrays) i) (valid_type_fault (by_array (array_at arrays i)))
+
+-- no array at a position, or one that has not the struct layout
+abbrev pub records_fault : List Tree → ℕ → Option Refusal
+records_fault arrays i = or_else (position_fault (length arrays) i) (layout_fault (is_struct (array_at arrays i)))
 
 -- the first fault of a step: a position at which no array stands, another layout than it takes, then what its call refuses
 abbrev pub step_fault : Step → List Tree → Option Refusal
@@ -135,6 +182,15 @@ step_fault (Rebuild array mode) arrays =
     (rebuild_fault mode (array_at arrays array))
 step_fault (Narrow array) arrays =
     or_else (position_fault (length arrays) array) (layout_fault (is_primitive (array_at arrays array)))
+step_fault (Project array names) arrays =
+    or_else (records_fault arrays array) (names_fault (names_of (array_at arrays array)) names.items)
+step_fault (WithColumn array name column) arrays =
+    or_else (position_fault (length arrays) array) (or_else (position_fault (length arrays) column)
+    (or_else (layout_fault (is_struct (array_at arrays array)))
+    (length_fault (tree_len (array_at arrays array)) (tree_len (array_at arrays column)))))
+step_fault (RemoveColumn array name) arrays =
+    or_else (records_fault arrays array) (unknown_fault (place_of_name (names_of (array_at arrays array)) name))
+step_fault (PushValidity array remove) arrays = records_fault arrays array
 
 -- ---- lists of steps
 

@@ -27,6 +27,21 @@ pub(crate) enum Command {
     },
     // `struct N V NAME=R ...`: records.
     Struct(StructWords),
+    // `slice`, `take`, `filter`, `mask`, `concat`, `rebuild`, `narrow`, `project`: one step.
+    Step(StepWords),
+    // `show R`: prints the rows.
+    Show {
+        array: RegisterWord,
+    },
+    // `parts R`: prints the parts.
+    Parts {
+        array: RegisterWord,
+    },
+}
+
+// One step on registers, as a line names them.
+#[derive(Drop)]
+pub(crate) enum StepWords {
     // `slice R N N`: the rows from `start` up to `end`.
     Slice {
         array: RegisterWord,
@@ -65,14 +80,6 @@ pub(crate) enum Command {
     Project {
         array: RegisterWord,
         names: Vec<FieldName>,
-    },
-    // `show R`: prints the rows.
-    Show {
-        array: RegisterWord,
-    },
-    // `parts R`: prints the parts.
-    Parts {
-        array: RegisterWord,
     },
 }
 
@@ -129,22 +136,29 @@ fn command_named(alloc: Global, name: &[u8], words: &mut Words<'_>) -> Result<Co
         b"fixed" => fixed_size_list(words),
         b"dict" => dictionary(words),
         b"struct" => records(alloc, words),
-        b"slice" => slice(words),
-        b"take" => take(words),
-        b"filter" => filter(words),
-        b"mask" => mask(words),
-        b"concat" => concat(alloc, words),
-        b"rebuild" => rebuild(words),
-        b"narrow" => Ok(Command::Narrow {
-            array: register(words)?,
-        }),
-        b"project" => project(alloc, words),
         b"show" => Ok(Command::Show {
             array: register(words)?,
         }),
         b"parts" => Ok(Command::Parts {
             array: register(words)?,
         }),
+        name => Ok(Command::Step(step_named(alloc, name, words)?)),
+    }
+}
+
+// The step of this name, with the operands that it takes from the words after it.
+fn step_named(alloc: Global, name: &[u8], words: &mut Words<'_>) -> Result<StepWords, LineFault> {
+    match name {
+        b"slice" => slice(words),
+        b"take" => take(words),
+        b"filter" => filter(words),
+        b"mask" => mask(words),
+        b"concat" => concat(alloc, words),
+        b"rebuild" => rebuild(words),
+        b"narrow" => Ok(StepWords::Narrow {
+            array: register(words)?,
+        }),
+        b"project" => project(alloc, words),
         _ => Err(LineFault::Syntax),
     }
 }
@@ -224,44 +238,44 @@ fn records(alloc: Global, words: &mut Words<'_>) -> Result<Command, LineFault> {
     }))
 }
 
-fn slice(words: &mut Words<'_>) -> Result<Command, LineFault> {
-    Ok(Command::Slice {
+fn slice(words: &mut Words<'_>) -> Result<StepWords, LineFault> {
+    Ok(StepWords::Slice {
         array: register(words)?,
         start: number(words)?,
         end: number(words)?,
     })
 }
 
-fn take(words: &mut Words<'_>) -> Result<Command, LineFault> {
-    Ok(Command::Take {
+fn take(words: &mut Words<'_>) -> Result<StepWords, LineFault> {
+    Ok(StepWords::Take {
         array: register(words)?,
         indices: register(words)?,
     })
 }
 
-fn filter(words: &mut Words<'_>) -> Result<Command, LineFault> {
-    Ok(Command::Filter {
+fn filter(words: &mut Words<'_>) -> Result<StepWords, LineFault> {
+    Ok(StepWords::Filter {
         array: register(words)?,
         mask: register(words)?,
     })
 }
 
-fn mask(words: &mut Words<'_>) -> Result<Command, LineFault> {
-    Ok(Command::Mask {
+fn mask(words: &mut Words<'_>) -> Result<StepWords, LineFault> {
+    Ok(StepWords::Mask {
         array: register(words)?,
         mask: register(words)?,
     })
 }
 
-fn concat(alloc: Global, words: &mut Words<'_>) -> Result<Command, LineFault> {
+fn concat(alloc: Global, words: &mut Words<'_>) -> Result<StepWords, LineFault> {
     let mut arrays = Vec::new(alloc);
     for word in words.by_ref() {
         arrays.push(RegisterWord::from_word(word).ok_or(LineFault::Syntax)?)?;
     }
-    Ok(Command::Concat { arrays })
+    Ok(StepWords::Concat { arrays })
 }
 
-fn rebuild(words: &mut Words<'_>) -> Result<Command, LineFault> {
+fn rebuild(words: &mut Words<'_>) -> Result<StepWords, LineFault> {
     let array = register(words)?;
     let mode = match word(words)? {
         b"zctl" => ListViewRebuildMode::MakeZeroCopyToList,
@@ -270,17 +284,17 @@ fn rebuild(words: &mut Words<'_>) -> Result<Command, LineFault> {
         b"overlap" => ListViewRebuildMode::OverlapCompression,
         _ => return Err(LineFault::Syntax),
     };
-    Ok(Command::Rebuild { array, mode })
+    Ok(StepWords::Rebuild { array, mode })
 }
 
-fn project(alloc: Global, words: &mut Words<'_>) -> Result<Command, LineFault> {
+fn project(alloc: Global, words: &mut Words<'_>) -> Result<StepWords, LineFault> {
     let array = register(words)?;
     let mut names = Vec::new(alloc);
     for word in words.by_ref() {
         let name = field_name(word).ok_or(LineFault::Syntax)?;
         names.push(FieldName::try_new(alloc, name)?)?;
     }
-    Ok(Command::Project { array, names })
+    Ok(StepWords::Project { array, names })
 }
 
 // The next word, which the grammar asks for.

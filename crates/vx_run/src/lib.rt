@@ -4,12 +4,14 @@
 
 mod byte_items;
 mod command;
+mod counted_reader;
 mod faults;
 mod hexadecimal;
 mod line_buffer;
 mod literals;
 mod operands;
 mod parts;
+mod record_steps;
 mod registers;
 mod run_steps;
 mod script;

@@ -1,14 +1,20 @@
 // The arrays that a script has made, and the commands on them.
 
-use crate::command::{Command, FixedSizeListWords, ListViewWords, StructWords};
+ghost use Rattle.std.specs.Prelude.{◌≡◌, ◌∷◌, [], OnOk, OnErr, IfErr};
+ghost use Rattle.vx_run.specs.Script.{IsRefusedStep};
+ghost use Rattle.vx_run.specs.Steps.{HasRun};
+
+use crate::command::{Command, FixedSizeListWords, ListViewWords, StepWords, StructWords};
 use crate::faults::LineFault;
 use crate::operands::{RegisterWord, ValidityWord};
 use crate::parts::show_parts;
+use crate::run_steps::{drop_last_first, run};
 use crate::show::show_array;
+use crate::steps::Step;
 use std::alloc::Global;
-use vx_base::{FieldName, VortexError};
-use vx_leaves::{DictArray, PrimitiveArray, PrimitiveArrayExt};
-use vx_lists::{FixedSizeListArray, ListViewArray, ListViewRebuildMode, StructArray};
+use std::mem;
+use vx_leaves::DictArray;
+use vx_lists::{FixedSizeListArray, ListViewArray, StructArray};
 use vx_tree::{ArrayRef, TypedArray, Validity};
 
 // The arrays that a script has made, by the numbers of their registers.
@@ -17,13 +23,9 @@ pub(crate) struct Registers {
 }
 
 impl Drop for Registers {
-    // The last array first: an array shares those before it, so lists of lists of lists go level
-    // by level and not in one deep recursion.
     fn drop(self) {
-        let Registers { mut arrays } = self;
-        while let Some(array) = arrays.pop() {
-            drop(array);
-        }
+        let Registers { arrays } = self;
+        drop_last_first(arrays);
     }
 }
 
@@ -50,14 +52,11 @@ impl Registers {
             Command::FixedSizeList(parts) => self.fixed_size_list(alloc, parts)?,
             Command::Dictionary { codes, values } => self.dictionary(alloc, codes, values)?,
             Command::Struct(parts) => self.records(alloc, parts)?,
-            Command::Slice { array, start, end } => self.get(array)?.slice(alloc, start..end)?,
-            Command::Take { array, indices } => self.get(array)?.take(alloc, self.get(indices)?)?,
-            Command::Filter { array, mask } => self.filter(alloc, array, mask)?,
-            Command::Mask { array, mask } => self.get(array)?.mask(alloc, self.get(mask)?)?,
-            Command::Concat { arrays } => self.concat(alloc, &arrays)?,
-            Command::Rebuild { array, mode } => self.rebuild(alloc, array, mode)?,
-            Command::Narrow { array } => self.narrow(alloc, array)?,
-            Command::Project { array, names } => self.project(alloc, array, &names)?,
+            Command::Step(words) => {
+                let step = self.step(alloc, words)?;
+                self.take_step(alloc, step)?;
+                return Ok(None);
+            }
             Command::Show { array } => return Ok(Some(self.show(alloc, array)?)),
             Command::Parts { array } => return Ok(Some(self.parts(alloc, array)?)),
         };
@@ -71,6 +70,27 @@ impl Registers {
             .number()
             .and_then(|number| self.arrays.get(number))
             .ok_or(LineFault::NoRegister)
+    }
+
+    // The position of a register. Refuses `NoRegister` where it is not made yet.
+    fn position(&self, register: RegisterWord) -> Result<usize, LineFault> {
+        register
+            .number()
+            .filter(|number| *number < self.arrays.len())
+            .ok_or(LineFault::NoRegister)
+    }
+
+    // The positions of registers.
+    fn positions(
+        &self,
+        alloc: Global,
+        registers: &[RegisterWord],
+    ) -> Result<Vec<usize>, LineFault> {
+        let mut positions = Vec::with_capacity(alloc, registers.len())?;
+        for register in registers {
+            positions.push(self.position(*register)?)?;
+        }
+        Ok(positions)
     }
 
     // The arrays of registers, shared.
@@ -163,64 +183,63 @@ impl Registers {
         })
     }
 
-    // The rows at which a register of truth values is true. Refuses `MismatchedTypes` where that is
-    // not one of plain truth values, then what the call refuses.
-    fn filter(
-        &self,
-        alloc: Global,
-        array: RegisterWord,
-        mask: RegisterWord,
-    ) -> Result<ArrayRef, LineFault> {
-        let array = self.get(array)?;
-        let mask = self.get(mask)?;
-        let truths = Validity::Array(mask.try_clone(alloc)?);
-        let mask = truths.execute_mask(alloc, mask.len())?;
-        Ok(array.filter(alloc, &mask)?)
+    // The step that a line names, on the registers that it names. Refuses `NoRegister` where one of
+    // them is not made yet.
+    fn step(&self, alloc: Global, words: StepWords) -> Result<Step, LineFault> {
+        Ok(match words {
+            StepWords::Slice { array, start, end } => Step::Slice {
+                array: self.position(array)?,
+                start,
+                end,
+            },
+            StepWords::Take { array, indices } => Step::Take {
+                array: self.position(array)?,
+                indices: self.position(indices)?,
+            },
+            StepWords::Filter { array, mask } => Step::Filter {
+                array: self.position(array)?,
+                mask: self.position(mask)?,
+            },
+            StepWords::Mask { array, mask } => Step::Mask {
+                array: self.position(array)?,
+                mask: self.position(mask)?,
+            },
+            StepWords::Concat { arrays } => Step::Concat {
+                arrays: self.positions(alloc, &arrays)?,
+            },
+            StepWords::Rebuild { array, mode } => Step::Rebuild {
+                array: self.position(array)?,
+                mode,
+            },
+            StepWords::Narrow { array } => Step::Narrow {
+                array: self.position(array)?,
+            },
+            StepWords::Project { array, names } => Step::Project {
+                array: self.position(array)?,
+                names,
+            },
+        })
     }
 
-    // The rows of several registers, one array after another.
-    fn concat(&self, alloc: Global, registers: &[RegisterWord]) -> Result<ArrayRef, LineFault> {
-        let arrays = self.get_all(alloc, registers)?;
-        Ok(ArrayRef::concat(alloc, &arrays)?)
-    }
-
-    // A list view rebuilt. Refuses `MismatchedTypes` where the register is no list view.
-    fn rebuild(
-        &self,
-        alloc: Global,
-        array: RegisterWord,
-        mode: ListViewRebuildMode,
-    ) -> Result<ArrayRef, LineFault> {
-        let array = self.get(array)?.try_clone(alloc)?;
-        let Ok(list_view) = ListViewArray::try_from_array(array) else {
-            return Err(LineFault::Refused(VortexError::MismatchedTypes));
-        };
-        Ok(list_view.rebuild(alloc, mode)?.into_array())
-    }
-
-    // Numbers in the narrowest type that has them. Refuses `MismatchedTypes` where the register
-    // does not hold plain numbers.
-    fn narrow(&self, alloc: Global, array: RegisterWord) -> Result<ArrayRef, LineFault> {
-        let array = self.get(array)?.try_clone(alloc)?;
-        let Ok(numbers) = PrimitiveArray::try_from_array(array) else {
-            return Err(LineFault::Refused(VortexError::MismatchedTypes));
-        };
-        Ok(numbers.narrow(alloc)?.into_array())
-    }
-
-    // Records with the first field of each of some names. Refuses `MismatchedTypes` where the
-    // register does not hold records by columns.
-    fn project(
-        &self,
-        alloc: Global,
-        array: RegisterWord,
-        names: &[FieldName],
-    ) -> Result<ArrayRef, LineFault> {
-        let array = self.get(array)?.try_clone(alloc)?;
-        let Ok(records) = StructArray::try_from_array(array) else {
-            return Err(LineFault::Refused(VortexError::MismatchedTypes));
-        };
-        Ok(records.project(alloc, names)?.into_array())
+    // Takes one step on the arrays. They are handed over and come back: with the step's result, or
+    // as they were.
+    fn take_step(&mut self, alloc: Global, step: Step) -> Result<(), LineFault>
+        ensures taken { OnOk result (HasRun (step ∷ []) self.old.arrays.items self.new.arrays.items) }
+        ensures kept { OnErr result (self.new.arrays.items ≡ self.old.arrays.items) }
+        ensures refused { IfErr result (IsRefusedStep step self.old.arrays.items) }
+    {
+        let arrays = mem::replace(&mut self.arrays, Vec::new(alloc));
+        match run(alloc, arrays, &[step]) {
+            Ok(results) => {
+                self.arrays = results;
+                Ok(())
+            }
+            Err(fault) => {
+                let error = fault.error;
+                self.arrays = fault.into_arrays();
+                Err(LineFault::Refused(error))
+            }
+        }
     }
 
     // The rows of a register, and a line feed.

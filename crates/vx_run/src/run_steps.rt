@@ -7,6 +7,7 @@ ghost use Rattle.vx_tree.specs.Meaning.{tree_len, rows};
 ghost use Rattle.vx_tree.specs.Operations.{truths};
 ghost use Rattle.vx_run.specs.Steps.{IsStep, HasRun, IsStop, array_at, arrays_at, positions_fault, mask_fault, layout_fault, step_fault};
 
+use crate::record_steps::{projected, pushed, with_column, without_column};
 use crate::steps::Step;
 use std::alloc::Global;
 use vx_base::{Mask, VortexError};
@@ -15,8 +16,7 @@ use vx_lists::{ListViewArray, ListViewRebuildMode};
 use vx_tree::{ArrayRef, TypedArray, Validity};
 
 /// Why a list of steps ended before its last step, and the arrays that stood before the step that
-/// was refused.
-#[derive(Drop)]
+/// was refused. The last array is let go first, so that lists of lists of lists go level by level.
 pub struct RunFault {
     /// The step that was refused, counted from 0.
     pub step: usize,
@@ -24,6 +24,39 @@ pub struct RunFault {
     pub error: VortexError,
     /// The given arrays, then the results of the steps before.
     pub arrays: Vec<ArrayRef>,
+}
+
+impl Drop for RunFault {
+    fn drop(self) {
+        let RunFault {
+            step: _,
+            error: _,
+            arrays,
+        } = self;
+        drop_last_first(arrays);
+    }
+}
+
+impl RunFault {
+    /// The given arrays, then the results of the steps before, to go on with.
+    pub fn into_arrays(self) -> Vec<ArrayRef>
+        ensures { result.items ≡ self.arrays.items }
+    {
+        let RunFault {
+            step: _,
+            error: _,
+            arrays,
+        } = self;
+        arrays
+    }
+}
+
+// Lets arrays go, the last first: an array shares those before it, so each goes while its parts
+// are still held, and no drop recurses into what another step made.
+pub(crate) fn drop_last_first(mut arrays: Vec<ArrayRef>) {
+    while let Some(array) = arrays.pop() {
+        drop(array);
+    }
 }
 
 /// Takes the steps in order, each on the arrays that were given and the results of the steps
@@ -35,7 +68,9 @@ pub struct RunFault {
 /// refused with `OutOfBounds` and the position where no array stands, in the order of its fields;
 /// then with `MismatchedTypes` where an array has not the layout that the step takes, or the mask
 /// of `Filter` is not one of plain booleans; then as its call refuses: `slice`, `take`, `filter`,
-/// `mask`, `concat` and `to_canonical` of arrays, `rebuild` of list views, `narrow` of numbers.
+/// `mask`, `concat` and `to_canonical` of arrays, `rebuild` of list views, `narrow` of numbers,
+/// `project`, `with_column` and `push_validity_into_children` of records. `RemoveColumn` is refused
+/// with `UnknownField` where no field has the name.
 pub fn run(
     alloc: Global,
     mut arrays: Vec<ArrayRef>,
@@ -81,11 +116,19 @@ fn taken(alloc: Global, arrays: &[ArrayRef], step: &Step) -> Result<ArrayRef, Vo
         Step::Canonical { array } => canonical(alloc, arrays, *array),
         Step::Rebuild { array, mode } => rebuilt(alloc, arrays, *array, *mode),
         Step::Narrow { array } => narrowed(alloc, arrays, *array),
+        Step::Project { array, names } => projected(alloc, arrays, *array, names),
+        Step::WithColumn {
+            array,
+            name,
+            column,
+        } => with_column(alloc, arrays, *array, name, *column),
+        Step::RemoveColumn { array, name } => without_column(alloc, arrays, *array, name),
+        Step::PushValidity { array, remove } => pushed(alloc, arrays, *array, *remove),
     }
 }
 
 // The array at a position.
-fn array_at(arrays: &[ArrayRef], position: usize) -> Result<&ArrayRef, VortexError>
+pub(crate) fn array_at(arrays: &[ArrayRef], position: usize) -> Result<&ArrayRef, VortexError>
     ensures found { IfOk result (λ array. array.now ≡ array_at arrays.now position) }
     ensures tests { Tests result (position_fault (length arrays.now) position) }
 {
@@ -124,7 +167,7 @@ fn mask_at(alloc: Global, arrays: &[ArrayRef], position: usize) -> Result<Mask, 
 }
 
 // The array at a position, shared, as one of its layout.
-fn typed_at<T: TypedArray>(
+pub(crate) fn typed_at<T: TypedArray>(
     alloc: Global,
     arrays: &[ArrayRef],
     position: usize,
@@ -134,8 +177,16 @@ fn typed_at<T: TypedArray>(
     ensures refuses { Refuses result (or_else (position_fault (length arrays.now) position)
         (layout_fault (T.has_layout (array_at arrays.now position)))) }
 {
-    let array = array_at(arrays, position)?.try_clone(alloc)?;
-    match T::try_from_array(array) {
+    typed(alloc, array_at(arrays, position)?)
+}
+
+// The array, shared, as one of its layout.
+pub(crate) fn typed<T: TypedArray>(alloc: Global, array: &ArrayRef) -> Result<T, VortexError>
+    ensures found { IfOk result (λ a. T.as_tree a ≡ array.now) }
+    ensures layout { IfOk result (λ _. T.has_layout array.now ≡ true) }
+    ensures refuses { Refuses result (layout_fault (T.has_layout array.now)) }
+{
+    match T::try_from_array(array.try_clone(alloc)?) {
         Ok(typed) => Ok(typed),
         Err(_other) => Err(VortexError::MismatchedTypes),
     }

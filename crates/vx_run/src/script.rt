@@ -1,19 +1,18 @@
 // Runs a script line by line as it is read.
 
-ghost use Rattle.std.specs.Prelude.{◌≡◌, ◌≤◌};
+ghost use Rattle.std.specs.Prelude.{◌≡◌, ◌≤◌, OnOk};
+ghost use Rattle.std.specs.Io.KnownBytes.{Appends};
 ghost use Rattle.vx_base.specs.declared.errors.VortexError.TheVariants.{Memory};
 ghost use Rattle.vx_run.specs.declared.faults.LineFault.TheVariants.{Refused};
 ghost use Rattle.vx_run.specs.declared.script.Stop.TheVariants.{Fault};
 
 use crate::command::parse_command;
+use crate::counted_reader::{CountedReader, MOST_READS};
 use crate::faults::LineFault;
 use crate::line_buffer::LineBuffer;
 use crate::registers::Registers;
 use std::alloc::{AllocError, Global};
 use std::io::{Cursor, Read, Write};
-
-// The most read calls that a reader may answer before it ends.
-const MOST_READS: usize = 1_048_576;
 
 // How many bytes are asked for at a time.
 const BLOCK_BYTES: usize = 65_536;
@@ -57,8 +56,8 @@ impl From<AllocError> for Stop {
 ///
 /// A line has at most 1,048,576 bytes without its line feed, and is `Syntax` as soon as it has
 /// more. A failed read, also one that was interrupted, is `Read`, and so is a reader that has
-/// answered 1,048,576 read calls without an end. A failed write ends the script at once, and
-/// nothing more is written.
+/// answered 1,048,576 read calls without an end. A failed write or flush, also one that was
+/// interrupted, ends the script at once, and nothing more is written.
 ///
 /// ```text
 /// ints i32 1,2,3
@@ -73,7 +72,7 @@ pub fn run_script<R: Read, W: Write>(alloc: Global, input: &mut R, output: &mut 
     ensures { result ≤ 1 }
 {
     let mut script = Script::new(alloc);
-    match script.run_all(alloc, input, output) {
+    match script.run_all(alloc, &mut CountedReader::new(input), output) {
         Ok(()) => 0,
         Err(Stop::Fault(fault)) => {
             let _ = write_fault(script.line.number(), fault, output);
@@ -103,14 +102,12 @@ impl Script {
     fn run_all<R: Read, W: Write>(
         &mut self,
         alloc: Global,
-        input: &mut R,
+        input: &mut CountedReader<'_, R>,
         output: &mut W,
     ) -> Result<(), Stop> {
         let mut block = vec![in alloc; 0u8; BLOCK_BYTES]?;
         for _ in 0..MOST_READS {
-            let Ok(count) = input.read(block.as_mut_slice()) else {
-                return Err(Stop::Fault(LineFault::Read));
-            };
+            let count = input.read(block.as_mut_slice())?;
             if count == 0 {
                 return self.run_line(alloc, output);
             }
@@ -150,12 +147,18 @@ impl Script {
     }
 }
 
-// Writes a whole line, its line feed included.
-fn write_line<W: Write>(line: &[u8], output: &mut W) -> Result<(), Stop> {
-    if output.write_all(line).is_err() || output.flush().is_err() {
-        return Err(Stop::Output);
+// Writes a whole line, its line feed included. A write that was interrupted is not tried again.
+fn write_line<W: Write>(line: &[u8], output: &mut W) -> Result<(), Stop>
+    ensures { OnOk result (Appends (W.contents output.old) (W.contents output.new) line.now) }
+{
+    let mut rest = line;
+    while !rest.is_empty() {
+        match output.write(rest) {
+            Ok(0) | Err(_) => return Err(Stop::Output),
+            Ok(count) => rest = &rest[count..],
+        }
     }
-    Ok(())
+    output.flush().map_err(|_| Stop::Output)
 }
 
 // Writes the line that tells a fault. It takes no memory.

@@ -1,5 +1,6 @@
 // Steps on a list of arrays.
 
+use vx_base::FieldName;
 use vx_lists::ListViewRebuildMode;
 
 /// One step of `run`: what it appends to the list of arrays. An array is named by its position in
@@ -43,5 +44,28 @@ pub enum Step {
     /// The same numbers in the narrowest type that has them. The array has the primitive layout.
     Narrow {
         array: usize,
+    },
+    /// Records with the first field of each of these names. The array has the struct layout.
+    Project {
+        array: usize,
+        names: Vec<FieldName>,
+    },
+    /// Records with one field more, the last: the rows of a column under the name. The array has
+    /// the struct layout.
+    WithColumn {
+        array: usize,
+        name: FieldName,
+        column: usize,
+    },
+    /// Records without the first field of the name. The array has the struct layout.
+    RemoveColumn {
+        array: usize,
+        name: FieldName,
+    },
+    /// The same records, whose fields are null where the record is; with `remove` no record is
+    /// null any more, and a null one becomes a record of nulls. The array has the struct layout.
+    PushValidity {
+        array: usize,
+        remove: bool,
     },
 }

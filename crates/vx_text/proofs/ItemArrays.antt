@@ -14,6 +14,7 @@ use Rattle.vx_base.specs.Kinds.{Kind, is_nullable_kind}
 use Rattle.vx_base.specs.Rows.{null}
 use Rattle.vx_base.specs.Refusals.{Refusal, IsMemoryOr, refusal_of, mismatched_types, not_utf8, value_too_long}
 use Rattle.vx_base.specs.declared.errors.VortexError.{VortexError}
+use Rattle.vx_base.specs.declared.errors.VortexError.TheVariants.{Memory}
 use Rattle.vx_base.proofs.FirstFaults.{or_else-none, first_fault-none_at}
 use Rattle.vx_views.specs.BuildFaults.{IsPieceCount, numbering_fault}
 use Rattle.vx_views.specs.Faulty.{text_fault}
@@ -31,7 +32,7 @@ use Rattle.vx_tree.proofs.Worked.{are_below, are_text}
 use Rattle.vx_tree.proofs.Dictionaries.{memory_only}
 use Rattle.vx_text.specs.TextFaults.{is_values, value_type_fault}
 use Rattle.vx_text.proofs.TextParts.{kind_of_values}
-use Rattle.vx_text.specs.Collected.{AreRefused}
+use Rattle.vx_text.specs.Collected.{IsFirstFaulty, AreRefused}
 use Rattle.vx_text.specs.Items.{Item, item_at, heap_lens, value_of, valid_items, item_row, item_fault, items_fault, AreCut, IsArrayOf}
 
 -- ---- items without a fault
@@ -179,12 +180,19 @@ none_or_some : (o : Option Refusal) → (o ≡ None) ⊎ IsSome o
 none_or_some None = inl refl
 none_or_some (Some r) = inr refl
 
-pub refused_buffers : {S A : Type 0} (steps : S → Option A → S → Type 0) (s : S) (item : A → Item) (k : Kind) (e : VortexError) (all : List A) → Drains steps s all
-    → items_fault (is_texts k) (is_nullable_kind k) (map item all) ≡ None → (pieces : ℕ) × (IsPieceCount MAX_BUFFER_LEN (heap_lens (map item all)) pieces × IsMemoryOr (numbering_fault 0 pieces) e)
+-- the first faulty item refuses items of a kind that has values, unless memory does
+pub refused_item : {S A : Type 0} (steps : S → Option A → S → Type 0) (s : S) (item : A → Item) (k : Kind) (e : VortexError) → value_type_fault k ≡ None
+    → (e ≡ Memory) ⊎ IsFirstFaulty steps s item k e → AreRefused steps s item k e
+refused_item steps s item k e values (inl memory) = inl memory
+refused_item steps s item k e values (inr faulty) = inr (inr (values, inl faulty))
+
+pub refused_buffers : {S A : Type 0} (steps : S → Option A → S → Type 0) (s : S) (item : A → Item) (k : Kind) (e : VortexError) (all : List A) → value_type_fault k ≡ None
+    → Drains steps s all → items_fault (is_texts k) (is_nullable_kind k) (map item all) ≡ None → (pieces : ℕ) × (IsPieceCount MAX_BUFFER_LEN (heap_lens (map item all)) pieces × IsMemoryOr (numbering_fault 0 pieces) e)
     → AreRefused steps s item k e
-refused_buffers steps s item k e all came none (pieces, (counted, inl memory)) = inl memory
-refused_buffers steps s item k e all came none (pieces, (counted, inr same)) = by_refusal (none_or_some (refusal_of e))
+refused_buffers steps s item k e all values came none (pieces, (counted, inl memory)) = inl memory
+refused_buffers steps s item k e all values came none (pieces, (counted, inr same)) = by_refusal (none_or_some (refusal_of e))
   where
     by_refusal : (refusal_of e ≡ None) ⊎ IsSome (refusal_of e) → AreRefused steps s item k e
     by_refusal (inl nothing) = inl (memory_only (refusal_of e) e nothing (inr refl))
-    by_refusal (inr some) = inr (inr (inr (record { all = all; came = came; faultless = none; pieces = pieces; counted = counted; many = (some, same) })))
+    by_refusal (inr some) =
+        inr (inr (values, inr (record { all = all; came = came; faultless = none; pieces = pieces; counted = counted; many = (some, same) })))

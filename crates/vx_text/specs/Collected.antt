@@ -57,8 +57,9 @@ pub record AreTooMany {S A : Type 0} (steps : S → Option A → S → Type 0) (
   pub counted : IsPieceCount MAX_BUFFER_LEN (heap_lens (map item all)) pieces
   pub many : Names (numbering_fault 0 pieces) e
 
--- why items make no array of a kind: want of memory, a kind of neither texts nor byte lists, a faulty item, or too many
--- buffers
+-- why items make no array of a kind: want of memory; a kind of neither texts nor byte lists; of another kind a faulty item,
+-- or too many buffers
 abbrev pub AreRefused : {S A : Type 0} → (S → Option A → S → Type 0) → S → (A → Item) → Kind → VortexError → Type 0
 AreRefused steps s item k e =
-    (e ≡ Memory) ⊎ Names (value_type_fault k) e ⊎ IsFirstFaulty steps s item k e ⊎ AreTooMany steps s item k e
+    (e ≡ Memory) ⊎ Names (value_type_fault k) e
+    ⊎ ((value_type_fault k ≡ None) × (IsFirstFaulty steps s item k e ⊎ AreTooMany steps s item k e))

@@ -8,3 +8,4 @@ pub mod ComparedLists
 pub mod FirstLists
 pub mod RebuildModes
 pub mod PackedRows
+pub mod SliceSteps

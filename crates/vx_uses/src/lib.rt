@@ -8,6 +8,7 @@ pub mod encoder;
 pub mod first;
 pub mod kernel;
 pub mod modes;
+pub mod part_by_steps;
 pub mod reader;
 pub mod repacking;
 pub mod texts;

@@ -7,6 +7,7 @@ use vx_leaves::{DictArrayExt, PrimitiveArray};
 use vx_tree::{TypedArray, Validity};
 use vx_uses::encoder::{flagged_dictionary, narrowed_column};
 use vx_uses::first::column;
+use vx_uses::part_by_steps::part_of_part;
 use vx_uses::writer::write_values;
 
 #[test]
@@ -57,5 +58,25 @@ fn values_come_back_from_fewest_buffers(rt: HostRuntime) -> Result<(), Fail> {
     assert!(rt; written.value(0) == b"a longer value!".as_slice());
     assert!(rt; written.value(1) == b"abc".as_slice());
     assert!(rt; written.value(2) == b"another long one".as_slice());
+    Ok(())
+}
+
+#[test]
+fn two_steps_cut_a_part_of_a_part(rt: HostRuntime) -> Result<(), Fail> {
+    let alloc = rt.alloc();
+    let part = part_of_part(
+        alloc,
+        column::<u8>(alloc, &[10, 11, 12, 13, 14])?,
+        1..4,
+        1..3,
+    )?;
+    assert!(rt; has_numbers(&part, &[Some(12), Some(13)]));
+    let refused = part_of_part(
+        alloc,
+        column::<u8>(alloc, &[10, 11, 12, 13, 14])?,
+        1..4,
+        1..4,
+    );
+    assert!(rt; matches!(refused, Err(VortexError::OutOfBounds { index: 4, len: 3 })));
     Ok(())
 }

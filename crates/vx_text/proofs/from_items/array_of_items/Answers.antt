@@ -8,7 +8,7 @@ use Rattle.vx_tree.specs.Parts.{valid_of}
 use Rattle.vx_tree.specs.Tree.{view_array}
 use Rattle.vx_text.specs.Items.{valid_items}
 use Rattle.vx_text.specs.TextFaults.{is_values}
-use Rattle.vx_text.proofs.ItemArrays.{items_array, items_made, no_type_fault, short_items, refused_buffers}
+use Rattle.vx_text.proofs.ItemArrays.{items_array, items_made, no_type_fault, short_items, refused_item, refused_buffers}
 use Rattle.vx_text.proofs.from_items.array_of_items.Goals as goal
 
 pub var_bin_view-requires : goal.var_bin_view-requires
@@ -30,7 +30,15 @@ returns-in_err-buffers-clause-err g c =
     let items = map g.T.Item.item all.0 in
     let p = err_from_is_err_and c.from_residual-in_err-buffers.result c.from_residual-in_err-buffers.ensures.1 in
     let refused = c.in_err-buffers.ensures.refuses items all.3 (short_items (is_texts k) (is_nullable_kind k) items all.2) in
-    rw (p.1, p.2) (refused_buffers g.I.Iterator.next_gives c.args.items g.T.Item.item k c.in_err-buffers.field-0.0 all.0 all.1 all.2 refused)
+    let values = no_type_fault k (sym c.has_values.ensures ∙ c.if-not-has_values.false) in
+    rw (p.1, p.2) (refused_buffers g.I.Iterator.next_gives c.args.items g.T.Item.item k c.in_err-buffers.field-0.0 all.0 values all.1 all.2 refused)
+
+pub returns-in_err-all-clause-err : goal.returns-in_err-all-clause-err
+returns-in_err-all-clause-err g c =
+    let k = dtype_meaning c.args.dtype in
+    let p = err_from_is_err_and c.from_residual.result c.from_residual.ensures.1 in
+    let values = no_type_fault k (sym c.has_values.ensures ∙ c.if-not-has_values.false) in
+    rw (p.1, p.2) (refused_item g.I.Iterator.next_gives c.args.items g.T.Item.item k c.in_err-all.field-0.0 values c.in_err-all.ensures.err)
 
 pub returns-clause-ok : goal.returns-clause-ok
 returns-clause-ok g c =

@@ -1,5 +1,5 @@
 use Rattle.std.proofs.Common.{vec_len}
-use Rattle.vx_run.proofs.registers.Registers.drop.Given as goal
+use Rattle.vx_run.proofs.run_steps.drop_last_first.Given as goal
 
 abbrev pub decreases-loop-array : goal.decreases-loop-array
 decreases-loop-array l = vec_len l.arrays

@@ -1,0 +1,124 @@
+// Iterators that promise more items than memory has, and give three: each call that takes an
+// iterator takes these.
+
+mod records;
+mod texts;
+
+use std::test::Fail;
+use vx_base::{BitBuffer, Mask, Nullability};
+use vx_leaves::{BoolArray, BoolArrayExt, PrimitiveArray, PrimitiveArrayExt};
+use vx_tree::Validity;
+
+// The items of an iterator, under a hint that they are as many as can be counted.
+#[derive(Drop)]
+struct Boasting<I> {
+    items: I,
+}
+
+impl<I: Iterator> Iterator for Boasting<I> {
+    type Item = I::Item;
+
+    ghost use Rattle.std.specs.Prelude.{◌+◌, ◌^◌};
+    ghost use Rattle.std.specs.Iterator.{count_map};
+
+    ghost can_next = { λ s. I.can_next s.items };
+
+    ghost next_gives = { λ s item t. I.next_gives s.items item t.items };
+
+    ghost remaining = { λ s. count_map (λ n. 2 ^ 64 + n) (I.remaining s.items) };
+
+    fn next(&mut self) -> Option<I::Item> {
+        self.items.next()
+    }
+
+    fn size_hint(&self) -> (usize, Option<usize>) {
+        (usize::MAX, None)
+    }
+}
+
+#[test]
+fn numbers(rt: HostRuntime) -> Result<(), Fail> {
+    let items = [7u8, 8, 9];
+    let items = Boasting {
+        items: items.iter().copied(),
+    };
+    let array = PrimitiveArray::from_iter(rt.alloc(), items)?;
+    assert!(rt; array.buffer_handle().as_slice() == [7u8, 8, 9].as_slice());
+    assert_eq!(rt; array.nullability(), Nullability::NonNullable);
+    Ok(())
+}
+
+#[test]
+fn numbers_that_may_be_none(rt: HostRuntime) -> Result<(), Fail> {
+    let items = [Some(7u8), None, Some(9)];
+    let items = Boasting {
+        items: items.iter().copied(),
+    };
+    let array = PrimitiveArray::from_option_iter(rt.alloc(), items)?;
+    assert!(rt; array.buffer_handle().as_slice() == [7u8, 0, 9].as_slice());
+    let valid = array.validity(rt.alloc())?;
+    assert!(rt; valid.is_valid(rt.alloc(), 0)? && !valid.is_valid(rt.alloc(), 1)?);
+    Ok(())
+}
+
+#[test]
+fn places(rt: HostRuntime) -> Result<(), Fail> {
+    let items = [2usize, 0, 2];
+    let items = Boasting {
+        items: items.iter().copied(),
+    };
+    let array = BoolArray::from_indices(rt.alloc(), 3, items, Validity::NonNullable)?;
+    let bits = array.to_bit_buffer(rt.alloc())?;
+    assert!(rt; bits == BitBuffer::from_bools(rt.alloc(), &[true, false, true])?);
+    Ok(())
+}
+
+#[test]
+fn truth_values(rt: HostRuntime) -> Result<(), Fail> {
+    let items = [true, false, true];
+    let items = Boasting {
+        items: items.iter().copied(),
+    };
+    let array = BoolArray::from_iter(rt.alloc(), items)?;
+    let bits = array.to_bit_buffer(rt.alloc())?;
+    assert!(rt; bits == BitBuffer::from_bools(rt.alloc(), &[true, false, true])?);
+    Ok(())
+}
+
+#[test]
+fn truth_values_that_may_be_none(rt: HostRuntime) -> Result<(), Fail> {
+    let items = [Some(true), None, Some(true)];
+    let items = Boasting {
+        items: items.iter().copied(),
+    };
+    let array = BoolArray::from_option_iter(rt.alloc(), items)?;
+    let bits = array.to_bit_buffer(rt.alloc())?;
+    assert!(rt; bits == BitBuffer::from_bools(rt.alloc(), &[true, false, true])?);
+    let valid = array.validity(rt.alloc())?;
+    assert!(rt; valid.is_valid(rt.alloc(), 0)? && !valid.is_valid(rt.alloc(), 1)?);
+    Ok(())
+}
+
+#[test]
+fn rows_that_are_valid(rt: HostRuntime) -> Result<(), Fail> {
+    let items = [true, false, true];
+    let items = Boasting {
+        items: items.iter().copied(),
+    };
+    let valid = Validity::from_iter(rt.alloc(), items)?;
+    assert_eq!(rt; valid.maybe_len(), Some(3));
+    assert!(rt; valid.is_valid(rt.alloc(), 0)? && !valid.is_valid(rt.alloc(), 1)?);
+    Ok(())
+}
+
+#[test]
+fn masks(rt: HostRuntime) -> Result<(), Fail> {
+    let masks = [Mask::new_true(1), Mask::new_false(1), Mask::new_true(1)];
+    let items = Boasting {
+        items: Vec::from_array(rt.alloc(), masks)?.into_iter(),
+    };
+    let valid = Validity::from_mask_iter(rt.alloc(), items)?;
+    assert_eq!(rt; valid.maybe_len(), Some(3));
+    assert!(rt; valid.is_valid(rt.alloc(), 0)? && !valid.is_valid(rt.alloc(), 1)?);
+    Ok(())
+}

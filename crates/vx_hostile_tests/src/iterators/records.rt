@@ -1,0 +1,123 @@
+// Columns of records, and records to be joined.
+
+ghost use Rattle.std.specs.Prelude.{◌≡◌, [], ◌∷◌};
+ghost use Rattle.vx_base.specs.Refusals.{Gives};
+ghost use Rattle.vx_tree.specs.Meaning.{tree_len};
+
+use super::Boasting;
+use crate::columns::{has_numbers, ints};
+use std::alloc::Global;
+use std::test::Fail;
+use vx_base::{FieldNames, VortexError};
+use vx_lists::{StructArray, StructArrayExt};
+use vx_tree::{ArrayRef, TypedArray, Validity};
+
+// Three columns of three rows each.
+fn columns(alloc: Global) -> Result<Vec<ArrayRef>, VortexError> {
+    let (first, second) = (ints(alloc, &[1u8, 2, 3])?, ints(alloc, &[4u8, 5, 6])?);
+    let third = ints(alloc, &[7u8, 8, 9])?;
+    Ok(vec![in alloc; first, second, third]?)
+}
+
+// The same columns, each with its name.
+fn named_columns(alloc: Global) -> Result<Vec<(&'static str, ArrayRef)>, VortexError> {
+    let (first, second) = (ints(alloc, &[1u8, 2, 3])?, ints(alloc, &[4u8, 5, 6])?);
+    let third = ints(alloc, &[7u8, 8, 9])?;
+    Ok(vec![in alloc; ("a", first), ("b", second), ("c", third)]?)
+}
+
+// One column.
+fn one(alloc: Global, column: ArrayRef) -> Result<Vec<ArrayRef>, VortexError>
+    ensures { Gives result (λ columns. columns.items ≡ column ∷ []) }
+{
+    let mut columns = Vec::with_capacity(alloc, 1)?;
+    columns.push(column)?;
+    Ok(columns)
+}
+
+// Three records of one column, which is asked to have three rows.
+fn asked(alloc: Global, column: ArrayRef) -> Result<StructArray, VortexError>
+    requires { tree_len column ≡ 3 }
+{
+    let names = FieldNames::try_new(alloc, &["a"])?;
+    let columns = one(alloc, column)?;
+    let items = Boasting {
+        items: columns.into_iter(),
+    };
+    StructArray::new(alloc, names, items, 3, Validity::AllValid)
+}
+
+// Whether records are the three rows of these columns.
+fn are_three(records: &StructArray) -> bool {
+    let Some(last) = records.unmasked_field_opt(2) else {
+        return false;
+    };
+    records.len() == 3 && records.fields().len() == 3 && has_numbers(last, &[7, 8, 9])
+}
+
+#[test]
+fn a_column_that_is_asked_to_fit(rt: HostRuntime) -> Result<(), Fail> {
+    let column = ints(rt.alloc(), &[7u8, 8, 9])?;
+    assert!(rt; column.len() == 3);
+    let records = asked(rt.alloc(), column)?;
+    assert!(rt; records.len() == 3 && records.fields().len() == 1);
+    assert!(rt; has_numbers(records.unmasked_field(0), &[7, 8, 9]));
+    Ok(())
+}
+
+#[test]
+fn columns_under_names(rt: HostRuntime) -> Result<(), Fail> {
+    let names = FieldNames::try_new(rt.alloc(), &["a", "b", "c"])?;
+    let items = Boasting {
+        items: columns(rt.alloc())?.into_iter(),
+    };
+    let records = StructArray::try_new(rt.alloc(), names, items, 3, Validity::NonNullable)?;
+    assert!(rt; are_three(&records));
+    Ok(())
+}
+
+#[test]
+fn columns_of_data_types(rt: HostRuntime) -> Result<(), Fail> {
+    let like = StructArray::from_fields(rt.alloc(), &named_columns(rt.alloc())?)?;
+    let fields = like.struct_fields().try_clone(rt.alloc())?;
+    let items = Boasting {
+        items: columns(rt.alloc())?.into_iter(),
+    };
+    let valid = Validity::AllValid;
+    let records = StructArray::try_new_with_dtype(rt.alloc(), items, fields, 3, valid)?;
+    assert!(rt; are_three(&records));
+    Ok(())
+}
+
+#[test]
+fn columns_with_their_names(rt: HostRuntime) -> Result<(), Fail> {
+    let items = Boasting {
+        items: named_columns(rt.alloc())?.into_iter(),
+    };
+    assert!(rt; are_three(&StructArray::try_from_iter(rt.alloc(), items)?));
+    Ok(())
+}
+
+#[test]
+fn columns_and_a_validity(rt: HostRuntime) -> Result<(), Fail> {
+    let items = Boasting {
+        items: named_columns(rt.alloc())?.into_iter(),
+    };
+    let null = Validity::AllInvalid;
+    let records = StructArray::try_from_iter_with_validity(rt.alloc(), items, null)?;
+    assert!(rt; are_three(&records) && !records.as_array().is_valid(rt.alloc(), 0)?);
+    Ok(())
+}
+
+#[test]
+fn records_one_after_another(rt: HostRuntime) -> Result<(), Fail> {
+    let fields = vec![in rt.alloc(); ("a", ints(rt.alloc(), &[5u8])?)]?;
+    let one = StructArray::from_fields(rt.alloc(), &fields)?;
+    let chunks = [&one, &one, &one];
+    let items = Boasting {
+        items: chunks.iter().copied(),
+    };
+    let all = StructArray::try_concat(rt.alloc(), items)?;
+    assert!(rt; all.len() == 3 && has_numbers(all.unmasked_field_by_name("a")?, &[5, 5, 5]));
+    Ok(())
+}

@@ -1,0 +1,48 @@
+// Records of no rows, of which rows are taken.
+
+use super::columns::ints;
+use std::alloc::Global;
+use std::test::Fail;
+use vx_base::{Buffer, DType, Nullability, PType, VortexError};
+use vx_lists::{StructArray, StructArrayExt};
+use vx_tree::{ArrayRef, TypedArray, Validity};
+
+// The one index null, at which a number is stored that no array has.
+fn null_index(alloc: Global) -> Result<ArrayRef, VortexError> {
+    let bytes = Buffer::copy_from(alloc, &[200u8])?.into_byte_buffer(alloc)?;
+    ArrayRef::primitive(alloc, PType::U8, bytes, Validity::AllInvalid)
+}
+
+// No records, of one column of numbers.
+fn no_records(alloc: Global) -> Result<StructArray, VortexError> {
+    let fields = vec![in alloc; ("a", ints::<u8>(alloc, &[])?)]?;
+    StructArray::from_fields(alloc, &fields)
+}
+
+#[test]
+fn a_null_record_of_no_records(rt: HostRuntime) -> Result<(), Fail> {
+    let taken = no_records(rt.alloc())?
+        .into_array()
+        .take(rt.alloc(), &null_index(rt.alloc())?)?;
+    assert!(rt; taken.len() == 1 && taken.dtype().is_nullable());
+    assert!(rt; !taken.is_valid(rt.alloc(), 0)?);
+    Ok(())
+}
+
+#[test]
+fn the_column_stays_without_nulls(rt: HostRuntime) -> Result<(), Fail> {
+    let taken = no_records(rt.alloc())?
+        .as_array()
+        .take(rt.alloc(), &null_index(rt.alloc())?)?;
+    let Ok(records) = StructArray::try_from_array(taken) else {
+        return Err(VortexError::MismatchedTypes.into());
+    };
+    let column = records.unmasked_field_by_name("a")?;
+    assert!(rt; column.len() == 1);
+    assert!(rt; *column.dtype() == DType::Primitive(PType::U8, Nullability::NonNullable));
+    let DType::Struct(fields, Nullability::Nullable) = records.dtype() else {
+        return Err(VortexError::MismatchedTypes.into());
+    };
+    assert!(rt; fields.fields().len() == 1 && !fields.fields()[0].is_nullable());
+    Ok(())
+}
