@@ -43,6 +43,7 @@ fn the_column_stays_without_nulls(rt: HostRuntime) -> Result<(), Fail> {
     let DType::Struct(fields, Nullability::Nullable) = records.dtype() else {
         return Err(VortexError::MismatchedTypes.into());
     };
-    assert!(rt; fields.fields().len() == 1 && !fields.fields()[0].is_nullable());
+    let own = fields.fields();
+    assert!(rt; own.len() == 1 && !own[0].is_nullable());
     Ok(())
 }
