@@ -1,13 +1,14 @@
 -- The default of a kind fits it, and is what its parts' defaults make.
-use Rattle.std.proofs.Common.{◌≡◌, ◌∙◌, ◌+◌, ◌<◌, ◌&&◌, ◌++◌, sym, ap, subst, refl, arith, List, [], ◌∷◌, ℕ, zero, suc, pos, Bool, true, false, length, drop, take, map, replicate, get_or, slice_index_or, Option, Some, add-one}
-use Rattle.std.proofs.lemmas.List.{get_or_default}
-use Rattle.vx_base.proofs.StructKinds.{from_place, struct_kind}
+use Rattle.std.proofs.Common.{◌≡◌, ◌∙◌, ◌+◌, ◌<◌, ◌&&◌, ◌++◌, sym, ap, subst, refl, arith, List, [], ◌∷◌, ℕ, zero, suc, pos, Bool, true, false, length, take, map, replicate, slice_index_or, Option, Some, add-one}
+use Rattle.vx_base.proofs.StructKinds.{struct_kind}
 use Rattle.vx_base.specs.Kinds.{Kind, booleans, integers, texts, binaries, lists, fixed_lists, records, Kinds, no_kinds, kind, is_nullable_kind, Fits, AllFit, FieldsFit, row_count}
 use Rattle.vx_base.specs.Rows.{Row, null, items, record_of, Rows, no_rows, row, rows_from, Fields, no_fields, field}
 use Rattle.vx_base.specs.Defaults.{default_row, default_fields, is_even, even_fields}
 use Rattle.vx_base.specs.ValueRows.{option_row, row_under, all_named, fields_named, unnamed}
-use Rattle.vx_base.specs.DTypes.{dtype_meaning, field_names, field_kinds, kinds_of}
-use Rattle.vx_base.specs.declared.dtypes.DType.{DType, Struct as struct_dtype}
+use Rattle.vx_base.specs.DTypes.{dtype_meaning, row_kinds, field_names, field_kinds, kinds_of}
+use Rattle.vx_base.specs.NamedItems.{names_in}
+use mathlib.Core.Former.{Count, none_left, one_more, const, pair, this, list_count}
+use Rattle.vx_base.specs.declared.dtypes.DType.{DType, Struct as struct_dtype, Row_of-DType, end_of-DType, more_of-DType}
 use Rattle.vx_base.specs.declared.nullability.Nullability.{Nullability}
 use Rattle.vx_base.specs.declared.struct_fields.StructFields.{StructFields}
 use Rattle.vx_base.specs.declared.scalar_value.ScalarValue.TheVariants as value
@@ -89,6 +90,38 @@ mutual
       let each = both (is_even k) (even_fields ns ks) even in
       (refl, default_fits k each.0, default_fields_fit ns ks each.1)
 
+-- ---- each record in a data type has as many names as data types
+
+abbrev item_count : List (List ℕ × Unit {0}) → Count
+item_count ns = list_count (pair (const (List ℕ)) this) ns none_left
+
+even_and : (k : Kind) (ns : List (List ℕ)) (ks : Kinds) → is_even k ≡ true → even_fields ns ks ≡ true → (is_even k && even_fields ns ks) ≡ true
+even_and k ns ks p q = ap (λ x. x && even_fields ns ks) p ∙ q
+
+abbrev one_less : Count → Count
+one_less none_left = none_left
+one_less (one_more n) = n
+
+mutual
+  pub dtype_even : (d : DType) → is_even (dtype_meaning d) ≡ true
+  dtype_even (DType.Bool n) = refl
+  dtype_even (DType.Primitive t n) = refl
+  dtype_even (DType.Utf8 n) = refl
+  dtype_even (DType.Binary n) = refl
+  dtype_even (DType.List' p d n) = dtype_even d
+  dtype_even (DType.FixedSizeList' p d size n) = dtype_even d
+  dtype_even (DType.Struct' names dtypes n) = row_even names _ dtypes refl
+
+  row_even : (ns : List (List ℕ × Unit {0})) (m : Count) (r : Row_of-DType m) → m ≡ item_count ns → even_fields (names_in ns) (row_kinds r) ≡ true
+  row_even [] _ end_of-DType e = refl
+  row_even [] _ (more_of-DType d r) e = cc
+  row_even (n ∷ ns) _ end_of-DType e = cc
+  row_even (n ∷ ns) _ (more_of-DType d r) e = even_and (dtype_meaning d) (names_in ns) (row_kinds r) (dtype_even d) (row_even ns _ r (ap one_less e))
+
+-- so each data type has a default that fits
+pub default_of_dtype : (d : DType) → Fits (dtype_meaning d) (default_row (dtype_meaning d))
+default_of_dtype d = default_fits (dtype_meaning d) (dtype_even d)
+
 -- ---- where any row fits, the default does
 
 mutual
@@ -125,22 +158,6 @@ mutual
   fields_where_fit (n ∷ ns) (kind k ks) (field m r fs) fit = (refl, default_where_fits k r fit.1, fields_where_fit ns ks fs fit.2)
 
 -- ---- read at a data type that is known
-
-pub even_lengths : (ns : List (List ℕ)) (ds : List DType) → ¬ (length ns ≡ length ds) → even_fields ns (kinds_of ds) ≡ false
-even_lengths [] [] apart = absurd (apart refl)
-even_lengths [] (d ∷ ds) apart = refl
-even_lengths (n ∷ ns) [] apart = refl
-even_lengths (n ∷ ns) (d ∷ ds) apart =
-    ap (λ x. is_even (dtype_meaning d) && x) (even_lengths ns ds (λ same. apart (ap suc same))) ∙ and_false (is_even (dtype_meaning d))
-  where
-    and_false : (b : Bool) → (b && false) ≡ false
-    and_false true = refl
-    and_false false = refl
-
-pub even_from : (ns : List (List ℕ)) (ds : List DType) (i : ℕ) (d : DType) → i < length ns → i < length ds → d ≡ slice_index_or ds i d
-    → even_fields (drop i ns) (kinds_of (drop i ds)) ≡ (is_even (dtype_meaning d) && even_fields (drop (i + 1) ns) (kinds_of (drop (i + 1) ds)))
-even_from ns ds i d in_ns in_ds at =
-    λ k. even_fields (from_place ns i (get_or ns i []) in_ns (get_or_default ns i [] (get_or ns i []) in_ns) k) (kinds_of (from_place ds i d in_ds at k))
 
 pub fixed_default : (h k : Kind) (size : ℕ) (n : Bool) (v : Option ScalarValue) (vs : List (Option ScalarValue)) (rs : Rows)
     → h ≡ fixed_lists k size n → is_nullable_kind h ≡ false → (Fits k (default_row k) → row_under k v ≡ default_row k)

@@ -43,6 +43,13 @@ fields_step ns ds vs i d v X in_ns in_ds in_vs at_d at_v good same =
     let here = fields_here ns ds vs i d v X in_ns in_ds in_vs at_d at_v same in
     ((λ h. here.0 (refl, good, h)), (λ x. (here.1 x).2))
 
+-- where all fields fit, the one at a place does
+pub fields_stop : (ns : List (List ℕ)) (ds : List DType) (vs : List (Option ScalarValue)) (i : ℕ) (d : DType) (v : Option ScalarValue) (X : Type 0)
+    → i < length ns → i < length ds → i < length vs → d ≡ slice_index_or ds i d → v ≡ slice_index_or vs i v
+    → (RecordFits (drop i ns) (kinds_of (drop i ds)) (drop i vs) ↔ X) → X → Fits (dtype_meaning d) (row_under (dtype_meaning d) v)
+fields_stop ns ds vs i d v X in_ns in_ds in_vs at_d at_v same x =
+    ((fields_here ns ds vs i d v X in_ns in_ds in_vs at_d at_v same).1 x).1
+
 pub fields_lengths : (ns : List (List ℕ)) (ds : List DType) (vs : List (Option ScalarValue)) → RecordFits ns (kinds_of ds) vs
     → (length ns ≡ length vs) × (length ds ≡ length vs)
 fields_lengths [] [] [] h = (refl, refl)

@@ -1,8 +1,7 @@
 -- The row of a kind where none is given.
-use Rattle.std.specs.Prelude.{◌&&◌, if◌then◌else◌, ℕ, pos, Bool, true, false, List, [], ◌∷◌, replicate, Option, Some, None}
+use Rattle.std.specs.Prelude.{◌&&◌, if◌then◌else◌, ℕ, pos, Bool, true, false, List, [], ◌∷◌, replicate}
 use Rattle.vx_base.specs.Kinds.{Kind, booleans, integers, texts, binaries, lists, fixed_lists, records, Kinds, no_kinds, kind}
 use Rattle.vx_base.specs.Rows.{Row, null, boolean, whole, bytes, text, items, record_of, no_rows, rows_from, Fields, no_fields, field}
-use Rattle.vx_base.specs.Refusals.{Refusal, mismatched_types}
 
 -- null where it may stand, and else false, 0, nothing, a list of defaults of the fixed size, or a record of defaults
 abbrev mutual
@@ -31,7 +30,3 @@ abbrev mutual
   even_fields [] no_kinds = true
   even_fields (n ∷ ns) (kind k ks) = is_even k && even_fields ns ks
   even_fields _ _ = false
-
--- a kind has no default where a record has another number of names than of kinds
-abbrev pub default_fault : Kind → Option Refusal
-default_fault k = if is_even k then None else Some mismatched_types

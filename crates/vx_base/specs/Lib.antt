@@ -20,3 +20,5 @@ pub mod ValueRows
 pub mod ValueFalls
 pub mod Scalars
 pub mod Defaults
+pub mod NamedItems
+pub mod formers

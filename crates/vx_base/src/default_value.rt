@@ -1,51 +1,18 @@
 // The value of a row where none is given.
 
-ghost use Rattle.std.specs.Prelude.{◌≡◌, ◌&&◌, replicate};
+ghost use Rattle.std.specs.Prelude.{◌≡◌, replicate};
 ghost use Rattle.std.specs.List.{AllZip};
 ghost use Rattle.vx_base.specs.Refusals.{Gives};
-ghost use Rattle.vx_base.specs.DTypes.{dtype_meaning, field_names, field_kinds, kinds_of};
+ghost use Rattle.vx_base.specs.DTypes.{dtype_meaning};
 ghost use Rattle.vx_base.specs.Kinds.{Fits};
-ghost use Rattle.vx_base.specs.Defaults.{default_row, is_even, even_fields};
+ghost use Rattle.vx_base.specs.Defaults.{default_row};
 ghost use Rattle.vx_base.specs.ValueRows.{row_under};
 
 use crate::byte_buffer::ByteBuffer;
 use crate::dtypes::DType;
 use crate::errors::VortexError;
 use crate::scalar_value::{ScalarValue, ScalarValues, share_value};
-use crate::struct_fields::StructFields;
 use std::alloc::Global;
-
-// Whether each record has as many names as data types.
-#[tactic(auto, using(crate::proofs::ValueFits::struct_depth))]
-#[cycle(is_even)]
-pub(crate) fn is_even(dtype: &DType) -> bool
-    ensures { result ≡ is_even (dtype_meaning dtype.now) }
-{
-    match dtype {
-        DType::Bool(_) | DType::Primitive(_, _) | DType::Utf8(_) | DType::Binary(_) => true,
-        DType::List(items, _) => is_even(items),
-        DType::FixedSizeList(items, _, _) => is_even(items),
-        DType::Struct(fields, _) => are_even(fields),
-    }
-}
-
-// The same of a record's fields.
-#[tactic(auto, using(crate::proofs::ValueFits::field_depth))]
-#[cycle(is_even)]
-fn are_even(fields: &StructFields) -> bool
-    ensures { result ≡ even_fields (field_names fields.now) (field_kinds fields.now) }
-{
-    let dtypes = fields.fields();
-    if fields.names().len() != dtypes.len() {
-        return false;
-    }
-    for dtype in dtypes {
-        if !is_even(dtype) {
-            return false;
-        }
-    }
-    true
-}
 
 // The default of a data type, where it fits.
 #[tactic(auto, using(crate::proofs::ValueFits::struct_depth))]

@@ -214,6 +214,7 @@ impl DType {
     }
 
     // Whether both say the same.
+    #[tactic(auto, using(crate::proofs::ValueFits::struct_depth))]
     #[cycle(same_dtype)]
     fn same(&self, other: &DType) -> bool
         ensures { result ≡ kind_eq (dtype_meaning self.now) (dtype_meaning other.now) }
@@ -255,6 +256,7 @@ impl DType {
 }
 
 // Whether the data types are the same, one by one.
+#[tactic(auto, using(crate::proofs::ValueFits::field_depth))]
 #[cycle(same_dtype)]
 pub(crate) fn same_dtypes(dtypes: &[DType], others: &[DType]) -> bool
     ensures { result ≡ kinds_eq (kinds_of dtypes.now) (kinds_of others.now) }

@@ -19,6 +19,7 @@ mod mask;
 mod mask_rows;
 mod mask_runs;
 mod mask_values;
+mod named;
 mod native;
 mod nullability;
 mod numbers;

@@ -35,7 +35,8 @@ impl<'a> Model for MaskRows<'a> {
 
     ghost view = { λ m. marked m.len m.runs.now };
 
-    ghost invariant = { λ m. AreRuns m.len m.runs.now × IsStretch m.runs.now m.stretch.run m.stretch.start m.stretch.end m.stretch.is_true };
+    ghost invariant = { λ m. AreRuns m.len m.runs.now
+        × IsStretch m.runs.now m.stretch.run m.stretch.start m.stretch.end m.stretch.is_true };
 }
 
 impl<'a> MaskRows<'a> {

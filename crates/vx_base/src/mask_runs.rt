@@ -53,7 +53,8 @@ pub(crate) fn push_run(
     requires runs { AreRuns start runs.old.items }
     requires filled { start < end }
     ensures apart { OnOk result (AreRuns end runs.new.items) }
-    ensures rows { Gives result (λ _. (k : ℕ) → is_in_runs runs.new.items k ≡ (is_in_runs runs.old.items k || is_in_run (start, end) k)) }
+    ensures rows { Gives result (λ _. (k : ℕ) → is_in_runs runs.new.items k
+        ≡ (is_in_runs runs.old.items k || is_in_run (start, end) k)) }
 {
     let count = runs.len();
     if count > 0 && runs[count - 1].1 == start {

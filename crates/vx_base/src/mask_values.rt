@@ -33,7 +33,8 @@ impl Model for MaskValues {
 
     ghost view = { λ v. marked v.len v.runs.items };
 
-    ghost invariant = { λ v. AreRuns v.len v.runs.items × (v.true_count ≡ count_by (λ b. b) (marked v.len v.runs.items)) × IsMixed (marked v.len v.runs.items) };
+    ghost invariant = { λ v. AreRuns v.len v.runs.items × (v.true_count ≡ count_by (λ b. b) (marked v.len v.runs.items))
+        × IsMixed (marked v.len v.runs.items) };
 }
 
 impl MaskValues {

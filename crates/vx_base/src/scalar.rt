@@ -1,8 +1,8 @@
 // One row with its data type.
 
 ghost use Rattle.std.specs.Prelude.{◌≡◌, ◌↔◌, IsTrue, IfOk, IfErr};
-ghost use Rattle.vx_base.specs.Refusals.{Gives, Refuses};
-ghost use Rattle.vx_base.specs.Defaults.{default_row, default_fault};
+ghost use Rattle.vx_base.specs.Refusals.{Gives};
+ghost use Rattle.vx_base.specs.Defaults.{default_row};
 ghost use Rattle.vx_base.specs.Rows.{null, boolean, whole, is_present, number_in, truth_of};
 ghost use Rattle.vx_base.specs.Kinds.{booleans, integers, is_nullable_kind, Fits};
 ghost use Rattle.vx_base.specs.Integers.{Holds};
@@ -11,7 +11,7 @@ ghost use Rattle.vx_base.specs.ValueRows.{row_under};
 ghost use Rattle.vx_base.specs.Scalars.{typed_row};
 ghost use Rattle.vx_base.specs.declared.errors.VortexError.TheVariants.{MismatchedTypes};
 
-use crate::default_value::{default_of, is_even};
+use crate::default_value::default_of;
 use crate::dtypes::DType;
 use crate::errors::VortexError;
 use crate::nullability::Nullability;
@@ -71,22 +71,8 @@ impl Scalar {
 
     /// The row of a data type where none is given: null where it may stand, and else false, 0, an
     /// empty text, byte list or list, a list of defaults of the fixed size, or a record of
-    /// defaults. Refuses with `MismatchedTypes` a data type with a record that has another number
-    /// of names than of data types, as none has whose fields `StructFields::new` gave.
+    /// defaults. Fails only for want of memory.
     pub fn default_value(alloc: Global, dtype: DType) -> Result<Scalar, VortexError>
-        ensures row { IfOk result (λ s. s ≡ typed_row (dtype_meaning dtype) (default_row (dtype_meaning dtype))) }
-        ensures refused { Refuses result (default_fault (dtype_meaning dtype)) }
-    {
-        if !is_even(&dtype) {
-            return Err(VortexError::MismatchedTypes);
-        }
-        Scalar::default_that_fits(alloc, dtype)
-    }
-
-    /// The row of a data type where none is given, as `default_value` gives it. Asks that it fits,
-    /// as it does where any row does. Fails only for want of memory.
-    pub fn default_that_fits(alloc: Global, dtype: DType) -> Result<Scalar, VortexError>
-        requires { Fits (dtype_meaning dtype) (default_row (dtype_meaning dtype)) }
         ensures { Gives result (λ s. s ≡ typed_row (dtype_meaning dtype) (default_row (dtype_meaning dtype))) }
     {
         let value = default_of(alloc, &dtype)?;

@@ -195,9 +195,6 @@ fn fields_fit(fields: &StructFields, values: &[Option<ScalarValue>]) -> bool
     ensures { IsTrue result ↔ RecordFits (field_names fields.now) (field_kinds fields.now) values.now }
 {
     let dtypes = fields.fields();
-    if fields.names().len() != values.len() {
-        return false;
-    }
     if dtypes.len() != values.len() {
         return false;
     }

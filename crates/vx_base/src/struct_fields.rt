@@ -11,6 +11,7 @@ ghost use Rattle.vx_base.specs.SameKind.{kinds_eq};
 use crate::dtypes::{DType, same_dtypes};
 use crate::errors::VortexError;
 use crate::field_names::FieldNames;
+use crate::named::Named;
 use std::alloc::Global;
 use std::rc::Rc;
 
@@ -18,8 +19,7 @@ use std::rc::Rc;
 #[cycle(dtype)]
 #[derive(Drop)]
 pub struct StructFields {
-    names: FieldNames,
-    dtypes: Rc<Vec<DType>>,
+    named: Named<DType>,
 }
 
 impl StructFields {
@@ -29,43 +29,45 @@ impl StructFields {
         ensures names { field_names result ≡ names }
         ensures kinds { field_kinds result ≡ kinds_of dtypes.value.items }
     {
-        StructFields { names, dtypes }
+        StructFields {
+            named: Named::new(names, dtypes),
+        }
     }
 
     /// The names, in order.
     pub fn names(&self) -> &FieldNames
         ensures { result.now ≡ field_names self.now }
     {
-        &self.names
+        self.named.names()
     }
 
-    /// The data types, in order.
+    /// The data types, in order, as many as names.
     pub fn fields(&self) -> &[DType]
-        ensures { kinds_of result.now ≡ field_kinds self.now }
+        ensures kinds { kinds_of result.now ≡ field_kinds self.now }
+        ensures count { length result.now ≡ length (field_names self.now) }
     {
-        self.dtypes.as_slice()
+        self.named.items()
     }
 
     /// The place of the first field of this name, if there is one.
     pub fn find(&self, name: &str) -> Option<usize>
         ensures { result ≡ place_of_name (field_names self.now) name.now }
     {
-        self.names.find(name)
+        self.names().find(name)
     }
 
     /// The fields without field `i`, counted from 0, shared. Asks that there is one. Fails only for
     /// want of memory.
     #[tactic(auto, using(crate::proofs::Fields::kind_count_of))]
     pub fn without_field(&self, alloc: Global, i: usize) -> Result<StructFields, VortexError>
-        requires names { i < length (field_names self.now) }
-        requires kinds { i < kind_count (field_kinds self.now) }
+        requires { i < length (field_names self.now) }
         ensures names { Gives result (λ f. field_names f ≡ remove (field_names self.now) i) }
         ensures kinds { IfOk result (λ f. field_kinds f ≡ kinds_without i (field_kinds self.now)) }
     {
-        let names = self.names.without(alloc, i)?;
-        let rest = dtypes_without(alloc, self.dtypes.as_slice(), i)?;
+        let names = self.names().without(alloc, i)?;
+        let rest = dtypes_without(alloc, self.fields(), i)?;
         let dtypes = Rc::new(alloc, rest)?;
-        Ok(StructFields { names, dtypes })
+        Ok(StructFields::new(names, dtypes))
     }
 
     // Whether both have the same names and data types.
@@ -74,8 +76,8 @@ impl StructFields {
         ensures { result ≡ (pointwise bytes_eq (field_names self.now) (field_names other.now)
             && kinds_eq (field_kinds self.now) (field_kinds other.now)) }
     {
-        self.names.as_slice() == other.names.as_slice()
-            && same_dtypes(self.dtypes.as_slice(), other.dtypes.as_slice())
+        self.names().as_slice() == other.names().as_slice()
+            && same_dtypes(self.fields(), other.fields())
     }
 
     /// The same fields, shared. Fails only for want of memory.
@@ -83,9 +85,9 @@ impl StructFields {
         ensures names { Gives result (λ f. field_names f ≡ field_names self.now) }
         ensures kinds { IfOk result (λ f. field_kinds f ≡ field_kinds self.now) }
     {
-        let names = self.names.try_clone(alloc)?;
-        let dtypes = self.dtypes.clone()?;
-        Ok(StructFields { names, dtypes })
+        Ok(StructFields {
+            named: self.named.try_clone(alloc)?,
+        })
     }
 }
 

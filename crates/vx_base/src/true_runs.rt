@@ -24,7 +24,8 @@ struct Edge {
 fn end_run(runs: &mut Vec<(usize, usize)>, from: Edge, to: usize) -> Result<(), VortexError>
     requires { IsEdge from.at to from.is_true runs.old.items }
     ensures apart { OnOk result (IsEdge to (to + 1) (not from.is_true) runs.new.items) }
-    ensures rows { Gives result (λ _. (k : ℕ) → is_in_runs runs.new.items k ≡ (is_in_runs runs.old.items k || (is_in_run (from.at, to) k && from.is_true))) }
+    ensures rows { Gives result (λ _. (k : ℕ) → is_in_runs runs.new.items k
+        ≡ (is_in_runs runs.old.items k || (is_in_run (from.at, to) k && from.is_true))) }
 {
     if from.is_true {
         runs.push((from.at, to))?;

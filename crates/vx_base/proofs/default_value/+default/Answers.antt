@@ -22,7 +22,7 @@ default_of-returns-in_ok-rows-in-FixedSizeList t c =
 pub default_of-returns-in_ok-values-in-Struct : goal.default_of-returns-in_ok-values-in-Struct
 default_of-returns-in_ok-values-in-Struct t c =
     record_default c.args.dtype.now c.in-Struct.fields c.in-Struct.field-1 c.fields.result.now c.in_ok-defaults_of-in-Struct.field-0.items c.in_ok-values-in-Struct.values
-    c.in-Struct.is (sym c.is_nullable.ensures ∙ c.if-is_nullable.false) c.fields.ensures c.in_ok-defaults_of-in-Struct.ensures c.in_ok-values-in-Struct.ensures
+    c.in-Struct.is (sym c.is_nullable.ensures ∙ c.if-is_nullable.false) c.fields.ensures.kinds c.in_ok-defaults_of-in-Struct.ensures c.in_ok-values-in-Struct.ensures
 
 pub defaults_of-loop-dtype-preserved : goal.defaults_of-loop-dtype-preserved
 defaults_of-loop-dtype-preserved t c =
