@@ -3,8 +3,9 @@
 
 ghost use Rattle.std.specs.Prelude.{◌≡◌, ◌≢◌, ◌≤◌, ◌<◌, ◌+◌, ◌-◌, ◌/◌, ◌*◌, ◌^◌, ℕ, Bool, true, false, [], ◌∷◌, ◌++◌, length, take, drop};
 ghost use Rattle.std.specs.Prelude.{replicate, slice_set, slice_range, OnOk, OnErr, IfOk, IsOkUnless};
-ghost use Rattle.vx_base.specs.Refusals.{Gives};
+ghost use Rattle.vx_base.specs.Refusals.{Gives, Refuses};
 ghost use Rattle.vx_base.specs.Bits.{bit_of, bool_at, Filled};
+ghost use Rattle.vx_base.specs.Booleans.{count_fault};
 ghost use Rattle.vx_base.specs.declared.errors.VortexError.TheVariants.{Memory};
 
 use crate::bit_buffer::{BitBuffer, byte_like};
@@ -172,16 +173,17 @@ impl BitBufferMut {
         self.len
     }
 
-    /// Adds a boolean at the end. Fails only for want of memory, also where more booleans could not
-    /// be counted, and then the booleans are what they were.
+    /// Adds a boolean at the end. Refuses `Overflow` where there would be 2^64, more than a `usize`
+    /// counts. Where it is refused, the booleans are what they were.
     #[tactic(auto, using(crate::proofs::PackedBits::unpacked_push, crate::proofs::PackedBits::length_unpacked))]
     #[inline]
     pub fn append(&mut self, value: bool) -> Result<(), VortexError>
-        ensures ok { Gives result (λ _. self.new ≡ self.old ++ value ∷ []) }
+        ensures ok { IfOk result (λ _. self.new ≡ self.old ++ value ∷ []) }
+        ensures refuses { Refuses result (count_fault (length self.old + 1)) }
         ensures err { OnErr result (self.new ≡ self.old) }
     {
         if self.len == usize::MAX {
-            return Err(VortexError::Memory);
+            return Err(VortexError::Overflow);
         }
         make_room(&mut self.bytes, self.len)?;
         put_bit(&mut self.bytes, self.len, value);
@@ -189,14 +191,15 @@ impl BitBufferMut {
         Ok(())
     }
 
-    /// Adds a boolean `count` times at the end. Fails only for want of memory, also where they
-    /// could not be counted, and then the booleans are what they were.
+    /// Adds a boolean `count` times at the end. Refuses `Overflow` where there would be 2^64 or
+    /// more. Where it is refused, the booleans are what they were.
     pub fn append_n(&mut self, value: bool, count: usize) -> Result<(), VortexError>
-        ensures ok { Gives result (λ _. self.new ≡ self.old ++ replicate count value) }
+        ensures ok { IfOk result (λ _. self.new ≡ self.old ++ replicate count value) }
+        ensures refuses { Refuses result (count_fault (length self.old + count)) }
         ensures err { OnErr result (self.new ≡ self.old) }
     {
         if count > usize::MAX - self.len {
-            return Err(VortexError::Memory);
+            return Err(VortexError::Overflow);
         }
         let end = self.len + count;
         let room = end.div_ceil(8).max(self.bytes.len());
@@ -207,9 +210,9 @@ impl BitBufferMut {
     }
 
     /// Adds booleans of a buffer at the end: those from place `start` up to, but not at, place
-    /// `end`. Asks that `start` is at most `end`, and `end` at most the buffer's length. Fails only
-    /// for want of memory, also where the booleans could not be counted, and then they are what
-    /// they were.
+    /// `end`. Asks that `start` is at most `end`, and `end` at most the buffer's length. Refuses
+    /// `Overflow` where there would be 2^64 or more. Where it is refused, the booleans are what they
+    /// were.
     pub fn append_slice(
         &mut self,
         bits: &BitBuffer,
@@ -218,12 +221,13 @@ impl BitBufferMut {
     ) -> Result<(), VortexError>
         requires start_le_end { start ≤ end }
         requires in_bounds { end ≤ length bits.now.bits }
-        ensures ok { Gives result (λ _. self.new ≡ self.old ++ slice_range bits.now.bits start end) }
+        ensures ok { IfOk result (λ _. self.new ≡ self.old ++ slice_range bits.now.bits start end) }
+        ensures refuses { Refuses result (count_fault (length self.old + (end - start))) }
         ensures err { OnErr result (self.new ≡ self.old) }
     {
         let count = end - start;
         if count > usize::MAX - self.len {
-            return Err(VortexError::Memory);
+            return Err(VortexError::Overflow);
         }
         let total = self.len + count;
         grow(&mut self.bytes, self.len, total)?;

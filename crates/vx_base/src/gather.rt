@@ -426,7 +426,8 @@ fn bits_of_runs(
     runs: &[(usize, usize)],
     capacity: usize,
 ) -> Result<BitBuffer, VortexError>
-    requires { All (λ k. k < length bits.now.bits) (flat_map run_positions runs.now) }
+    requires within { All (λ k. k < length bits.now.bits) (flat_map run_positions runs.now) }
+    requires countable { length (flat_map run_positions runs.now) < 2 ^ 64 }
     ensures bits { Gives result (λ b. b.bits ≡ map (bool_at bits.now.bits) (flat_map run_positions runs.now)) }
     ensures offset { IfOk result (λ b. b.offset ≡ 0) }
 {
@@ -446,7 +447,8 @@ fn bits_of_lists_at_numbers<T: NativePType>(
     size: usize,
     capacity: usize,
 ) -> Result<BitBuffer, VortexError>
-    requires { All (λ k. k < length bits.now.bits) (flat_map (list_positions size) (map unsigned_abs (numbers T.PTYPE places.now))) }
+    requires within { All (λ k. k < length bits.now.bits) (flat_map (list_positions size) (map unsigned_abs (numbers T.PTYPE places.now))) }
+    requires countable { length (flat_map (list_positions size) (map unsigned_abs (numbers T.PTYPE places.now))) < 2 ^ 64 }
     ensures bits { Gives result (λ b. b.bits ≡ map (bool_at bits.now.bits)
         (flat_map (list_positions size) (map unsigned_abs (numbers T.PTYPE places.now)))) }
     ensures offset { IfOk result (λ b. b.offset ≡ 0) }
@@ -462,7 +464,8 @@ fn bits_of_lists<P: Places>(
     size: usize,
     capacity: usize,
 ) -> Result<BitBuffer, VortexError>
-    requires { All (λ k. k < length bits.now.bits) (flat_map (list_positions size) (P.positions lists)) }
+    requires within { All (λ k. k < length bits.now.bits) (flat_map (list_positions size) (P.positions lists)) }
+    requires countable { length (flat_map (list_positions size) (P.positions lists)) < 2 ^ 64 }
     ensures bits { Gives result (λ b. b.bits ≡ map (bool_at bits.now.bits) (flat_map (list_positions size) (P.positions lists))) }
     ensures offset { IfOk result (λ b. b.offset ≡ 0) }
 {
@@ -482,7 +485,8 @@ fn append_run(
     start: usize,
     end: usize,
 ) -> Result<(), VortexError>
-    requires { All (λ k. k < length bits.now.bits) (run_positions (start, end)) }
+    requires within { All (λ k. k < length bits.now.bits) (run_positions (start, end)) }
+    requires countable { length picked.old + length (run_positions (start, end)) < 2 ^ 64 }
     ensures { Gives result (λ _. picked.new ≡ picked.old ++ map (bool_at bits.now.bits) (run_positions (start, end))) }
 {
     if start < end {
