@@ -12,7 +12,7 @@ use Rattle.vx_base.specs.declared.ptypes.PType.{PType}
 use Rattle.vx_base.specs.declared.ptypes.PType.TheVariants.{U8, U16, U32, U64, I8, I16, I32, I64}
 
 -- the front of a list, and the next n
-take_next : {X : Type 0} (xs : List X) (start n : ℕ) → take start xs ++ take n (drop start xs) ≡ take (start + n) xs
+pub take_next : {X : Type 0} (xs : List X) (start n : ℕ) → take start xs ++ take n (drop start xs) ≡ take (start + n) xs
 take_next xs start n =
     let front : take start (take (start + n) xs) ≡ take start xs = take-take start (start + n) xs (omega arith) in
     rw (front, drop-take start n xs) at (take-append-drop start (take (start + n) xs))

@@ -28,6 +28,7 @@ pub mod StructKinds
 pub mod ValueFits
 pub mod Edges
 pub mod RunLoops
+mod RunBlocks
 pub mod Fields
 pub mod Defaults
 pub mod Unmixed

@@ -1,9 +1,9 @@
 -- What is known of a call that gives a value, or is refused memory.
 use Rattle.std.proofs.Common.{ℕ, ◌<◌, ◌≡◌, ◌^◌, ◌∙◌, sym, inl, inr, arith}
-use Rattle.std.specs.Prelude.{Option, None, Result, Ok, Err, IfOk}
+use Rattle.std.specs.Prelude.{None, Result, Ok, Err, IfOk}
 use Rattle.vx_base.proofs.Joined.{counted}
 use Rattle.vx_base.specs.Booleans.{count_fault}
-use Rattle.vx_base.specs.Refusals.{Gives, Refusal, refusal_of, IsMemoryOr}
+use Rattle.vx_base.specs.Refusals.{Gives, refusal_of, IsMemoryOr}
 use Rattle.vx_base.specs.declared.errors.VortexError.TheVariants.{Memory}
 use Rattle.vx_base.specs.declared.errors.VortexError.{VortexError}
 

@@ -1,6 +1,6 @@
 -- Rows that are picked by runs of them.
-use Rattle.std.specs.Prelude.{◌-◌, ◌+◌, ◌*◌, ℕ, List, slice_range, slice_index_or}
-use Rattle.std.specs.List.{range_with_len}
+use Rattle.std.specs.Prelude.{◌-◌, ◌+◌, ◌*◌, ◌++◌, ℕ, List, slice_range, slice_index_or}
+use Rattle.std.specs.List.{flat_map, range_with_len}
 
 -- the positions of a run, from its start up to its end
 abbrev pub run_positions : ℕ × ℕ → List ℕ
@@ -17,3 +17,7 @@ bytes_of_position width bytes k = slice_range bytes (k * width) (k * width + wid
 -- the positions of the elements of list k, where a list has size elements
 abbrev pub list_positions : ℕ → ℕ → List ℕ
 list_positions size k = range_with_len (k * size) size
+
+-- bytes, and after them those of numbers that are still held in a block
+abbrev pub held : List ℕ → List (List ℕ) → List ℕ
+held bytes block = bytes ++ flat_map (λ number. number) block

@@ -1,12 +1,12 @@
 // Numbers, booleans and items of the rows that are picked.
 
 ghost use Rattle.std.specs.Prelude.{◌≡◌, ◌<◌, ◌≤◌, ◌*◌, ◌/◌, ◌+◌, ◌^◌, ◌++◌, IfOk, IsTrue, pos};
-ghost use Rattle.std.specs.Prelude.{length, map, replicate, slice_index_or, slice_range, unsigned_abs};
+ghost use Rattle.std.specs.Prelude.{length, map, replicate, slice_index_or, slice_range, take, unsigned_abs};
 ghost use Rattle.vx_base.specs.Refusals.{Gives};
 ghost use Rattle.std.specs.List.{All, flat_map};
 ghost use Rattle.vx_base.specs.Bits.{unpacked, bool_at};
 ghost use Rattle.vx_base.specs.Integers.{byte_width, numbers, number_nth};
-ghost use Rattle.vx_base.specs.Selections.{run_positions, list_positions, item_of_position, bytes_of_position};
+ghost use Rattle.vx_base.specs.Selections.{run_positions, list_positions, item_of_position, bytes_of_position, held};
 
 use crate::bit_buffer::{BitBuffer, byte_of};
 use crate::bit_buffer_mut::{BitBufferMut, put_bit};
@@ -23,6 +23,9 @@ use std::alloc::Global;
 
 // How many numbers are read before they are written.
 const BLOCK: usize = 512;
+
+// How many numbers are copied at once where a run is short.
+const SHORT: usize = 8;
 
 // How many times a number that is repeated is written at once.
 const REPEATS: usize = 128;
@@ -198,39 +201,97 @@ fn extend_repeated<const WIDTH: usize>(
     Ok(())
 }
 
-// One run at a time.
+// One run at a time: short runs are written by way of a block of numbers.
 fn extend_runs<const WIDTH: usize>(
     picked: &mut Vec<u8>,
     bytes: &[u8],
     runs: &[(usize, usize)],
 ) -> Result<(), VortexError>
-    requires { All (λ k. k * WIDTH + WIDTH ≤ length bytes.now) (flat_map run_positions runs.now) }
+    requires some { 0 < WIDTH }
+    requires width { WIDTH ≤ 8 }
+    requires within { All (λ k. k * WIDTH + WIDTH ≤ length bytes.now) (flat_map run_positions runs.now) }
     ensures { Gives result (λ _. picked.new.items ≡ picked.old.items
         ++ flat_map (bytes_of_position WIDTH bytes.now) (flat_map run_positions runs.now)) }
 {
+    let (numbers, _) = bytes.as_chunks::<WIDTH>();
+    let mut block = [[0u8; WIDTH]; BLOCK + SHORT];
+    let mut filled = 0;
     for run in runs {
         let (start, end) = *run;
-        extend_run::<WIDTH>(picked, bytes, start, end)?;
+        filled = extend_run::<WIDTH>(picked, &mut block, filled, numbers, start, end)?;
     }
+    picked.extend_from_slice(block[..filled].as_flattened())?;
     Ok(())
 }
 
-// Appends the numbers from `start` up to `end`, none where there is none between.
+// Appends the numbers from `start` up to `end`, none where there is none between, after those of
+// which a block has the first `filled`, and gives how many the block has now.
 #[inline]
 fn extend_run<const WIDTH: usize>(
     picked: &mut Vec<u8>,
-    bytes: &[u8],
+    block: &mut [[u8; WIDTH]],
+    filled: usize,
+    numbers: &[[u8; WIDTH]],
     start: usize,
     end: usize,
-) -> Result<(), VortexError>
-    requires { All (λ k. k * WIDTH + WIDTH ≤ length bytes.now) (run_positions (start, end)) }
-    ensures { Gives result (λ _. picked.new.items ≡ picked.old.items
-        ++ flat_map (bytes_of_position WIDTH bytes.now) (run_positions (start, end))) }
+) -> Result<usize, VortexError>
+    requires width { WIDTH ≤ 8 }
+    requires room { length block.old ≡ 520 }
+    requires filled { filled ≤ 512 }
+    requires within { All (λ k. k < length numbers.now) (run_positions (start, end)) }
+    ensures room { length block.new ≡ length block.old }
+    ensures filled { IfOk result (λ n. n ≤ 512) }
+    ensures numbers { Gives result (λ n. held picked.new.items (take n block.new)
+        ≡ held (held picked.old.items (take filled block.old)) (slice_range numbers.now start end)) }
 {
-    if start < end {
-        picked.extend_from_slice(&bytes[start * WIDTH..end * WIDTH])?;
+    if start < end && end - start <= SHORT && numbers.len() - start >= SHORT {
+        put_short::<WIDTH>(block, filled, numbers, start, end - start);
+        return write_full::<WIDTH>(picked, block, filled + (end - start));
     }
-    Ok(())
+    picked.extend_from_slice(block[..filled].as_flattened())?;
+    if start < end {
+        picked.extend_from_slice(numbers[start..end].as_flattened())?;
+    }
+    Ok(0)
+}
+
+// Puts `count` numbers from place `start` on into a block, behind those that are in it. Eight are
+// copied, which is faster than fewer, and those past the count are written over by the next.
+#[inline]
+fn put_short<const WIDTH: usize>(
+    block: &mut [[u8; WIDTH]],
+    filled: usize,
+    numbers: &[[u8; WIDTH]],
+    start: usize,
+    count: usize,
+)
+    requires count { count ≤ 8 }
+    requires room { filled + 8 ≤ length block.old }
+    requires within { start + 8 ≤ length numbers.now }
+    ensures len { length block.new ≡ length block.old }
+    ensures put { take (filled + count) block.new ≡ take filled block.old ++ slice_range numbers.now start (start + count) }
+{
+    block[filled..filled + SHORT].copy_from_slice(&numbers[start..start + SHORT]);
+}
+
+// Writes the first `filled` numbers of a block where it is full, and gives how many it has then.
+#[inline]
+fn write_full<const WIDTH: usize>(
+    picked: &mut Vec<u8>,
+    block: &[[u8; WIDTH]],
+    filled: usize,
+) -> Result<usize, VortexError>
+    requires width { WIDTH ≤ 8 }
+    requires room { length block.now ≡ 520 }
+    requires filled { filled ≤ 520 }
+    ensures filled { IfOk result (λ n. n ≤ 512) }
+    ensures numbers { Gives result (λ n. held picked.new.items (take n block.now) ≡ held picked.old.items (take filled block.now)) }
+{
+    if filled <= BLOCK {
+        return Ok(filled);
+    }
+    picked.extend_from_slice(block[..filled].as_flattened())?;
+    Ok(0)
 }
 
 // The same of lists of `size` numbers each, where the lists are numbers in bytes.

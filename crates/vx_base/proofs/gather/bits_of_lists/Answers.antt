@@ -1,9 +1,9 @@
-use Rattle.std.proofs.Common.{◌+◌, ◌*◌, ◌<◌, ◌≤◌, ◌≡◌, length, get_or, take, subst, sym, ap, ◌∙◌, arith}
+use Rattle.std.proofs.Common.{◌+◌, ◌*◌, ◌<◌, ◌≤◌, length, get_or, take, subst, sym, ap, ◌∙◌, arith}
 use Rattle.std.specs.List.{All, flat_map}
 use Rattle.std.proofs.lemmas.List.{length-map}
 use Rattle.std.proofs.lemmas.List.Folds.{length-flat_map-take}
 use Rattle.vx_base.specs.Bits.{bool_at}
-use Rattle.vx_base.specs.Selections.{list_positions, run_positions}
+use Rattle.vx_base.specs.Selections.{list_positions}
 use Rattle.vx_base.proofs.Runs.{All-run}
 use Rattle.vx_base.proofs.SizedLists.{list_is_run, list_below}
 use Rattle.vx_base.proofs.gather.bits_of_lists.Goals as goal
