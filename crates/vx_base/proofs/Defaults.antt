@@ -2,7 +2,7 @@
 use Rattle.std.proofs.Common.{◌≡◌, ◌∙◌, ◌+◌, ◌<◌, ◌&&◌, ◌++◌, sym, ap, subst, refl, arith, List, [], ◌∷◌, ℕ, zero, suc, pos, Bool, true, false, length, take, map, replicate, slice_index_or, Option, Some, add-one}
 use Rattle.vx_base.proofs.StructKinds.{struct_kind}
 use Rattle.vx_base.specs.Kinds.{Kind, booleans, integers, texts, binaries, lists, fixed_lists, records, Kinds, no_kinds, kind, is_nullable_kind, Fits, AllFit, FieldsFit, row_count}
-use Rattle.vx_base.specs.Rows.{Row, null, items, record_of, Rows, no_rows, row, rows_from, Fields, no_fields, field}
+use Rattle.vx_base.specs.Rows.{Row, items, record_of, Rows, row, rows_from, field}
 use Rattle.vx_base.specs.Defaults.{default_row, default_fields, is_even, even_fields}
 use Rattle.vx_base.specs.ValueRows.{option_row, row_under, all_named, fields_named, unnamed}
 use Rattle.vx_base.specs.DTypes.{dtype_meaning, row_kinds, field_names, field_kinds, kinds_of}
@@ -121,41 +121,6 @@ mutual
 -- so each data type has a default that fits
 pub default_of_dtype : (d : DType) → Fits (dtype_meaning d) (default_row (dtype_meaning d))
 default_of_dtype d = default_fits (dtype_meaning d) (dtype_even d)
-
--- ---- where any row fits, the default does
-
-mutual
-  pub default_where_fits : (k : Kind) (r : Row) → Fits k r → Fits k (default_row k)
-  default_where_fits (booleans true) r fit = refl
-  default_where_fits (booleans false) r fit = tt
-  default_where_fits (integers t true) r fit = refl
-  default_where_fits (integers t false) r fit = zero_held t
-  default_where_fits (texts true) r fit = refl
-  default_where_fits (texts false) r fit = (IsUtf8-nil, omega arith)
-  default_where_fits (binaries true) r fit = refl
-  default_where_fits (binaries false) r fit = ((λ i. omega arith), omega arith)
-  default_where_fits (lists k true) r fit = refl
-  default_where_fits (lists k false) r fit = tt
-  default_where_fits (fixed_lists k size true) r fit = refl
-  default_where_fits (fixed_lists k size false) (items rs) fit = (repeated_count (default_row k) size, items_where_fit k rs size fit.0 fit.1)
-  default_where_fits (fixed_lists k size false) null fit = cc
-  default_where_fits (fixed_lists k size false) _ fit = absurd fit
-  default_where_fits (records names ks true) r fit = refl
-  default_where_fits (records names ks false) (record_of fs) fit = fields_where_fit names ks fs fit
-  default_where_fits (records names ks false) null fit = cc
-  default_where_fits (records names ks false) _ fit = absurd fit
-
-  items_where_fit : (k : Kind) (rs : Rows) (size : ℕ) → row_count rs ≡ size → AllFit k rs → AllFit k (rows_from (replicate size (default_row k)))
-  items_where_fit k rs zero many fit = tt
-  items_where_fit k no_rows (suc n) many fit = absurd (omega (arith, many))
-  items_where_fit k (row r rs) (suc n) many fit = repeated_fit k (default_row k) (suc n) (default_where_fits k r fit.0)
-
-  fields_where_fit : (ns : List (List ℕ)) (ks : Kinds) (fs : Fields) → FieldsFit ns ks fs → FieldsFit ns ks (default_fields ns ks)
-  fields_where_fit [] no_kinds fs fit = tt
-  fields_where_fit [] (kind k ks) fs fit = absurd fit
-  fields_where_fit (n ∷ ns) no_kinds fs fit = absurd fit
-  fields_where_fit (n ∷ ns) (kind k ks) no_fields fit = absurd fit
-  fields_where_fit (n ∷ ns) (kind k ks) (field m r fs) fit = (refl, default_where_fits k r fit.1, fields_where_fit ns ks fs fit.2)
 
 -- ---- read at a data type that is known
 
