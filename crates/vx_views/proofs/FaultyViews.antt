@@ -137,7 +137,7 @@ view_fault-placed buffers view row none =
     or_else-second (cond (is_inline view) None (place_fault buffers view row)) text text (spared_none (is_inline view) (place_fault buffers view row) (λ off. none)) refl
 
 -- a view has no fault just where it is sound
-view_fault-IsSoundView : (check_utf8 : Bool) (buffers : List (List ℕ)) (view : List ℕ) (row : ℕ) → (view_fault check_utf8 buffers view row ≡ None) ↔ IsSoundView buffers check_utf8 view
+pub view_fault-IsSoundView : (check_utf8 : Bool) (buffers : List (List ℕ)) (view : List ℕ) (row : ℕ) → (view_fault check_utf8 buffers view row ≡ None) ↔ IsSoundView buffers check_utf8 view
 view_fault-IsSoundView check_utf8 buffers view row = (to, from)
   where
     to : view_fault check_utf8 buffers view row ≡ None → IsSoundView buffers check_utf8 view

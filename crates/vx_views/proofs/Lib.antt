@@ -13,6 +13,7 @@ pub mod FaultyViews
 pub mod AloneViews
 pub mod Budgets
 pub mod CheckedRows
+pub mod AsciiChecks
 pub mod EmptiedViews
 pub mod CutPieces
 pub mod CutOpen

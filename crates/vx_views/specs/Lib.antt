@@ -4,6 +4,7 @@ pub mod Utf8
 pub mod Sound
 pub mod Faulty
 pub mod Alone
+pub mod Ascii
 pub mod Emptied
 pub mod Cut
 pub mod Places

@@ -2,6 +2,7 @@
 //! buffers, the check of views, and what is UTF-8.
 #![tactic(auto)]
 
+mod ascii_checks;
 mod build;
 pub mod cut_laws;
 mod length_checks;

@@ -11,6 +11,7 @@ ghost use Rattle.vx_views.specs.Utf8.{IsBoundary};
 ghost use Rattle.vx_views.specs.Views.{view_size, view_value, held_value};
 ghost use Rattle.vx_views.specs.declared.view.TheConstants.{MAX_INLINED_SIZE};
 
+use crate::ascii_checks::{are_ascii, are_ascii_views};
 use crate::view::BinaryView;
 use std::alloc::Global;
 use std::ops::Range;
@@ -73,6 +74,9 @@ pub fn check_views_counted(
 {
     if !check_utf8 {
         return check_rows::<false>(views, mask, buffers, &[]);
+    }
+    if are_ascii(buffers, budget) && are_ascii_views(views, buffers) {
+        return Ok(0);
     }
     let texts = read_ahead(alloc, buffers, budget)?;
     check_rows::<true>(views, mask, buffers, &texts)
@@ -207,7 +211,7 @@ fn check_inlined_text(view: &BinaryView, row: usize) -> Result<bool, VortexError
 
 // Whether the value that stands in a view has bytes below 128 alone: the high bits of all the bytes
 // that may hold it tell most values first.
-fn is_inlined_ascii(view: &BinaryView) -> bool
+pub(crate) fn is_inlined_ascii(view: &BinaryView) -> bool
     requires { view_size view.now ≤ MAX_INLINED_SIZE }
     ensures { IsTrue result ↔ IsAscii (held_value view.now) }
 {
@@ -250,7 +254,7 @@ fn is_boundary(bytes: &[u8], place: usize) -> bool
 }
 
 // The value that a view refers to, where the view says rightly where it stands and how it begins.
-fn value_at<'a>(
+pub(crate) fn value_at<'a>(
     view: &BinaryView,
     row: usize,
     buffers: &'a [ByteBuffer],

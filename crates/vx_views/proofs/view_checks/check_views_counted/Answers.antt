@@ -2,7 +2,8 @@ use Rattle.std.proofs.Common.{◌≡◌, true, false, subst, ◌∙◌}
 use Rattle.std.specs.Prelude.{IfOk}
 use Rattle.vx_views.specs.Alone.{alone_of}
 use Rattle.vx_views.proofs.AloneViews.{are_whole_texts}
-use Rattle.vx_views.proofs.FaultyViews.{sound-from_tests}
+use Rattle.vx_views.proofs.AsciiChecks.{ascii_faultless, ascii_none_left}
+use Rattle.vx_views.proofs.FaultyViews.{sound-from_tests, views_fault-AreSoundViews}
 use Rattle.vx_views.proofs.view_checks.check_views_counted.Goals as goal
 
 pub returns-then-not-check_utf8-clause-sound : goal.returns-then-not-check_utf8-clause-sound
@@ -18,3 +19,18 @@ returns-clause-sound c = rw c.if-not-check_utf8.false (sound-from_tests c.check_
 pub returns-clause-left : goal.returns-clause-left
 returns-clause-left c =
     rw c.if-not-check_utf8.false (subst (λ texts. IfOk c.check_rows-2.result (λ left. left ≡ alone_of true texts c.args.mask.now c.args.views.now)) (c.deref.ensures.value ∙ c.in_ok-texts.ensures) c.check_rows-2.ensures.alone)
+
+-- where all is ASCII
+pub returns-then-are_ascii_views-clause-refuses : goal.returns-then-are_ascii_views-clause-refuses
+returns-then-are_ascii_views-clause-refuses c =
+    rw c.if-not-check_utf8.false (ascii_faultless c.args.buffers.now (c.are_ascii.ensures.ascii c.if-are_ascii.true) c.args.mask.now c.args.views.now (c.are_ascii_views.ensures c.if-are_ascii_views.true))
+
+pub returns-then-are_ascii_views-clause-sound : goal.returns-then-are_ascii_views-clause-sound
+returns-then-are_ascii_views-clause-sound c =
+    rw c.if-not-check_utf8.false ((views_fault-AreSoundViews true c.args.mask.now c.args.buffers.now c.args.views.now).0
+    (ascii_faultless c.args.buffers.now (c.are_ascii.ensures.ascii c.if-are_ascii.true) c.args.mask.now c.args.views.now (c.are_ascii_views.ensures c.if-are_ascii_views.true)))
+
+pub returns-then-are_ascii_views-clause-left : goal.returns-then-are_ascii_views-clause-left
+returns-then-are_ascii_views-clause-left c =
+    rw c.if-not-check_utf8.false (ascii_none_left c.args.buffers.now (c.are_ascii.ensures.ascii c.if-are_ascii.true) c.args.mask.now c.args.views.now
+    (c.are_ascii_views.ensures c.if-are_ascii_views.true) c.args.budget (c.are_ascii.ensures.reached c.if-are_ascii.true))
