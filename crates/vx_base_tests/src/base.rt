@@ -7,6 +7,7 @@ ghost use Rattle.vx_base.specs.Fields.{kind_count};
 mod masks;
 mod scalars;
 mod selections;
+mod shared;
 
 use std::alloc::Global;
 use std::rc::Rc;

@@ -176,6 +176,97 @@ fn the_first_faulty_row_is_named(rt: HostRuntime) -> Result<(), Fail> {
 }
 
 #[test]
+fn the_first_valid_faulty_row_refuses(rt: HostRuntime) -> Result<(), Fail> {
+    let views = faulty_views();
+    let buffers = faulty_buffer(rt.alloc())?;
+    for (valid, text, answer) in [
+        (
+            [true, true, true, true],
+            true,
+            Err(VortexError::NotUtf8 { row: 1 }),
+        ),
+        (
+            [true, false, true, true],
+            true,
+            Err(VortexError::BadEnd { row: 2 }),
+        ),
+        (
+            [false, true, false, true],
+            true,
+            Err(VortexError::NotUtf8 { row: 1 }),
+        ),
+        ([true, false, false, true], true, Ok(())),
+        (
+            [true, true, true, true],
+            false,
+            Err(VortexError::BadEnd { row: 2 }),
+        ),
+        ([false, true, false, false], false, Ok(())),
+    ] {
+        let mask = mask_of(rt.alloc(), &valid)?;
+        for budget in [0, 14, usize::MAX] {
+            let told = check_views(rt.alloc(), &views, &mask, &buffers, text, budget);
+            assert_eq!(rt; told, answer);
+        }
+    }
+    Ok(())
+}
+
+#[test]
+fn ascii_is_checked_whole(rt: HostRuntime) -> Result<(), Fail> {
+    let buffers = [
+        ByteBuffer::copy_from(rt.alloc(), b"abcdefghijklmnopqrstuvwxyz")?,
+        ByteBuffer::empty(rt.alloc())?,
+    ];
+    let faulty = BinaryView::new_ref(13, *b"abcd", 0, 2);
+    for (third, answer) in [
+        (BinaryView::new_ref(24, *b"cdef", 0, 2), Ok(0)),
+        (BinaryView::new_inlined("\u{e9}".as_bytes()), Ok(1)),
+        (
+            BinaryView::new_inlined(b"\x80"),
+            Err(VortexError::NotUtf8 { row: 2 }),
+        ),
+        (
+            BinaryView::new_ref(25, *b"cdef", 0, 2),
+            Err(VortexError::BadEnd { row: 2 }),
+        ),
+        (
+            BinaryView::new_ref(13, *b"abcd", 1, 0),
+            Err(VortexError::BadStart { row: 2 }),
+        ),
+        (
+            BinaryView::new_ref(13, *b"abcd", 2, 0),
+            Err(VortexError::BadBuffer { row: 2 }),
+        ),
+        (faulty, Err(VortexError::BadPrefix { row: 2 })),
+    ] {
+        let views = [BinaryView::new_inlined(b"abc"), faulty, third];
+        let mask = mask_of(rt.alloc(), &[true, false, true])?;
+        let told = check_views_counted(rt.alloc(), &views, &mask, &buffers, true, 26);
+        assert_eq!(rt; told, answer);
+        let views = [views[0], views[0], third];
+        let told = check_views_counted(rt.alloc(), &views, &mask, &buffers, true, 26);
+        assert_eq!(rt; told, answer);
+    }
+    Ok(())
+}
+
+#[test]
+fn the_value_of_a_checked_view(rt: HostRuntime) -> Result<(), Fail> {
+    let buffers = [
+        ByteBuffer::copy_from(rt.alloc(), b"another buffer")?,
+        ByteBuffer::copy_from(rt.alloc(), b"abcdefghijklmnopqrstuvwxyz")?,
+    ];
+    let views = [BinaryView::new_ref(13, *b"cdef", 1, 2)];
+    let mask = Mask::new_true(1);
+    check_views(rt.alloc(), &views, &mask, &buffers, true, 0)?;
+    if mask.value(0) {
+        assert_eq!(rt; views[0].value_in(&buffers), b"cdefghijklmno".as_slice());
+    }
+    Ok(())
+}
+
+#[test]
 fn null_rows_are_emptied(rt: HostRuntime) -> Result<(), Fail> {
     let mut views = faulty_views();
     let buffers = faulty_buffer(rt.alloc())?;
