@@ -97,10 +97,10 @@ pub fn build_views<P: NativePType>(
     ensures refuses { (pieces : ℕ) × (IsPieceCount limit (lengths_of (map P.value lens.now)) pieces
         × Refuses result (build_fault start limit (length bytes) (map P.value lens.now) pieces)) }
 {
+    let lengths = RowLengths(lens);
     if MAX_BUFFER_LEN < limit {
         return Err(VortexError::LimitTooLarge);
     }
-    let lengths = RowLengths(lens);
     match cut_heap(alloc, start, limit, &bytes, &lengths)? {
         Some((buffers, views)) => Ok((buffers, Buffer::from_vec(alloc, views)?)),
         None => {
@@ -175,13 +175,14 @@ pub fn build_views_from_offsets<P: NativePType>(
         × Refuses result
         (build_from_offsets_fault start limit (length bytes) (map P.value offsets.now) pieces)) }
 {
+    let heap_len = bytes.len();
     if MAX_BUFFER_LEN < limit {
         return Err(VortexError::LimitTooLarge);
     }
     match cut_at_offsets(alloc, start, limit, &bytes, offsets)? {
         Some((buffers, views)) => Ok((buffers, Buffer::from_vec(alloc, views)?)),
         None => {
-            check_offsets(limit, bytes.len(), offsets)?;
+            check_offsets(limit, heap_len, offsets)?;
             Err(VortexError::Overflow)
         }
     }

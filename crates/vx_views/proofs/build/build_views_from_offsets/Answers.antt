@@ -54,7 +54,7 @@ returns-in_err-check_offsets-in-None-clause-refuses g c =
     let fault = offsets_fault c.args.limit (length c.args.bytes) (map g.P.Number.value c.args.offsets.now) in
     let lens = lengths_of (differences (map g.P.Number.value c.args.offsets.now)) in
     answer-fault c.args.start c.args.limit fault lens c.from_residual-in_err-check_offsets-in-None.result (omega arith) c.from_residual-in_err-check_offsets-in-None.ensures.1
-    (λ e same. subst (λ n. Names (offsets_fault c.args.limit n (map g.P.Number.value c.args.offsets.now)) e) c.len.ensures.value (subst (Names (offsets_fault c.args.limit c.len.result (map g.P.Number.value c.args.offsets.now))) (sym same) c.in_err-check_offsets-in-None.ensures))
+    (λ e same. subst (λ n. Names (offsets_fault c.args.limit n (map g.P.Number.value c.args.offsets.now)) e) c.len-heap_len.ensures.value (subst (Names (offsets_fault c.args.limit c.len-heap_len.result (map g.P.Number.value c.args.offsets.now))) (sym same) c.in_err-check_offsets-in-None.ensures))
 
 pub returns-clause-refuses : goal.returns-clause-refuses
 returns-clause-refuses g c =
