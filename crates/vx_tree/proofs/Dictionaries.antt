@@ -1,18 +1,19 @@
 -- Dictionaries: what becomes of them by what becomes of their codes.
-use Rattle.std.proofs.Common.{ℕ, zero, suc, ◌+◌, ◌<◌, ◌≤◌, ◌≡◌, Bool, true, false, List, length, Option, Some, None, refl, sym, ◌∙◌, ap, subst, inl, inr, arith}
-use Rattle.std.specs.Prelude.{pos, negsuc, ◌||◌, ◌&&◌, ◌==◌, IfSome, is_some, slice_index, if◌then◌else◌}
+use Rattle.std.proofs.Common.{ℕ, zero, suc, ◌+◌, ◌<◌, ◌≤◌, ◌≡◌, Bool, true, false, List, length, Option, Some, None, Result, Ok, Err, refl, sym, ◌∙◌, ap, subst, inl, inr, arith}
+use Rattle.std.specs.Prelude.{pos, negsuc, ◌||◌, ◌&&◌, ◌==◌, IfOk, IfSome, IsSome, is_some, slice_index, if◌then◌else◌}
 use Rattle.std.proofs.lemmas.Int.{ints}
 use Rattle.std.proofs.lemmas.Bool.{lt-ltb}
-use Rattle.vx_base.specs.Rows.{Row, null, boolean, whole, bytes, text, items, record_of, is_present, position_in}
+use Rattle.vx_base.specs.Rows.{Row, null, boolean, whole, bytes, text, items, record_of, is_present, position_in, truth_of}
 use Rattle.vx_base.specs.Kinds.{Kind, booleans, integers, texts, binaries, lists, fixed_lists, records, is_nullable_kind, or_nullable, is_integers, is_integers-or_nullable}
-use Rattle.vx_base.specs.Refusals.{Refusal, refusal_of, IsMemoryOr}
+use Rattle.vx_base.specs.Refusals.{Refusal, refusal_of, IsMemoryOr, Gives, Tests}
 use Rattle.vx_base.specs.declared.errors.VortexError.{VortexError}
 use Rattle.vx_base.specs.declared.errors.VortexError.TheVariants.{Memory}
 use Rattle.vx_base.proofs.FirstFaults.{first_fault-of_none}
 use Rattle.vx_tree.specs.Tree.{Tree, bools, primitive, constant, dictionary, fixed_list, list_view, structure, view_array, Valid, non_nullable, all_valid, all_invalid, by_array}
 use Rattle.vx_tree.specs.Meaning.{row_at, tree_len, kind_of, is_valid_at, nullable, picked}
 use Rattle.vx_tree.specs.Shapes.{State, never_null, none_null, every_null, told, Shape, bool_shape, primitive_shape, constant_shape, dictionary_shape, fixed_list_shape, list_view_shape, struct_shape, view_shape, state_of, taken_state, row_state, tree_state, shape_of, sliced_shape, selected_shape, nulled_constant, nulled_shape}
-use Rattle.vx_tree.specs.Formed.{IsCode, IsDictionary}
+use Rattle.vx_tree.specs.Formed.{IsCode, IsDictionary, ValidFits}
+use Rattle.vx_tree.specs.Named.{IsRepeated, IsValidNamed}
 use Rattle.vx_tree.specs.Faults.{index_fault, indices_fault, take_overflow}
 use Rattle.vx_tree.specs.Operations.{IsSlice, IsSelected, IsNulled, IsNulls, IsZeroCodes, IsValidityOf, IsValidSelected, IsValidNulled, ArePositions, AreBelow, or_zero}
 use Rattle.vx_tree.proofs.Nulled.{nullable_nulled}
@@ -306,38 +307,70 @@ pub memory_only : (fault : Option Refusal) (e : VortexError) → fault ≡ None 
 memory_only fault e none (inl memory) = memory
 memory_only fault e none (inr same) = only_memory e (sym none ∙ same)
 
+-- a test that finds no fault gives what it says
+pub test_passed : {A : Type 0} (r : Result A VortexError) (P : A → Type 0) (fault : Option Refusal) → fault ≡ None → IfOk r P → Tests r fault → Gives r P
+test_passed (Ok x) P fault none ok tests = ok
+test_passed (Err e) P fault none ok tests = let some = subst IsSome (sym tests.1 ∙ none) tests.0 in cc
+
 pub not_empty : (b : Bool) (n : ℕ) → b ≡ (n == 0) → b ≡ false → 0 < n
 not_empty b zero e f = absurd (cc)
 not_empty b (suc n) e f = omega arith
 
 -- ---- validities
 
-present_value : (f : ℕ → Row) (p : Option ℕ) (b a : Bool) (k : ℕ) → is_some p ≡ b → k ≡ or_zero p → (is_some p ≡ true → a ≡ is_present (f k)) → (a && b) ≡ is_present (picked f p)
-present_value f None b true k e same here = sym e
-present_value f None b false k e same here = refl
-present_value f (Some j) b a k e same here = rw (sym e, here refl, same) (after (is_present (f j)))
-  where
-    after : (x : Bool) → (x && true) ≡ x
-    after true = refl
-    after false = refl
+after_true : (x : Bool) → (x && true) ≡ x
+after_true true = refl
+after_true false = refl
 
-some_within : (p : Option ℕ) (n k : ℕ) → IfSome p (λ j. j < n) → k ≡ or_zero p → is_some p ≡ true → k < n
-some_within None n k h e s = absurd (cc)
-some_within (Some j) n k h e s = rw e h
+after_false : (x : Bool) → (x && false) ≡ false
+after_false true = refl
+after_false false = refl
+
+-- a value is present where it is one of n, and its code is not null
+present_named : (f : ℕ → Row) (r : Row) (a : Bool) (n : ℕ) → IsCode n r → ((k : ℕ) → position_in r ≡ Some k → k < n → a ≡ is_present (f k)) → (a && is_present r) ≡ is_present (picked f (position_in r))
+present_named f null a n h same = after_false a
+present_named f (whole (pos k)) a n h same = after_true a ∙ same k refl h
+present_named f (whole (negsuc k)) a n h same = absurd h
+present_named f (boolean b) a n h same = absurd h
+present_named f (bytes b) a n h same = absurd h
+present_named f (text b) a n h same = absurd h
+present_named f (items b) a n h same = absurd h
+present_named f (record_of b) a n h same = absurd h
+
+-- a state is that of the values that codes name
+pub state_named : (v : Valid) (c : Tree) (w : Valid) → w ≡ v → ((n : ℕ) → ValidFits v n) → ((i j : ℕ) → is_valid_at v i ≡ is_valid_at v j) → IsValidNamed v c w
+state_named v c w e fits alike = rw e (record { fits = fits (tree_len c); kind = refl; state = refl; bits = λ i k l named. alike i k })
+
+-- and so is an array that is taken at their positions
+pub taken_named : (v : Valid) (c : Tree) (len : ℕ) (ps : List ℕ) (w : Valid) → ArePositions c len ps → IsValidSelected v ps w → IsValidNamed v c w
+taken_named v c len ps w h s =
+    record {
+      fits = rw (sym h.len) s.fits;
+      kind = s.kind;
+      state = s.state;
+      bits = λ i k l named. s.bits i (rw h.len l) ∙ ap (is_valid_at v) ((h.each i l).told ∙ ap or_zero named);
+    }
+
+-- and one truth value of rows that are all one
+pub one_named : (m : Tree) (c : Tree) (b : Bool) (w : Valid) → IsRepeated c → w ≡ by_array (constant (booleans false) (boolean b) (tree_len c)) → ((k : ℕ) → position_in (row_at c 0) ≡ Some k → b ≡ truth_of (row_at m k)) → IsValidNamed (by_array m) c w
+one_named m c b w h e same =
+    rw e (record {
+      fits = record { len = refl; kind = refl };
+      kind = refl;
+      state = refl;
+      bits = λ i k l named. same k (ap position_in (sym (h.alike i)) ∙ named);
+    })
 
 -- the validity of the values, taken by the codes
-pub validity_taken : (t c v : Tree) (f : Bool) (x y z w : Valid) (ps : List ℕ) → t ≡ dictionary c v f → IsValidityOf c x → IsValidityOf v y → ArePositions c (tree_len v) ps → IsValidSelected y ps z → IsValidNulled z x (tree_len c) w → IsValidityOf t w
-validity_taken t c v f x y z w ps a codes values h s n =
+pub validity_taken : (t c v : Tree) (f : Bool) (x y z w : Valid) → t ≡ dictionary c v f → IsDictionary c v f → IsValidityOf c x → IsValidityOf v y → IsValidNamed y c z → IsValidNulled z x (tree_len c) w → IsValidityOf t w
+validity_taken t c v f x y z w a formed codes values s n =
     rw a (record {
       fits = n.fits;
       state = n.state ∙ ap (λ q. taken_state q (state_of x)) (s.state ∙ values.state) ∙ ap (taken_state (tree_state v)) codes.state;
       kind = nullable_nulled z x w n.state ∙ ap (λ b. b || nullable z) codes.kind ∙ ap (λ b. is_nullable_kind (kind_of c) || b) (s.kind ∙ values.kind) ∙ sym (nullable_either (is_nullable_kind (kind_of c)) (kind_of v));
       bits = λ i l.
-          let inside : i < length ps = rw h.len l in
-          let p = h.each i l in
           n.bits i l ∙ ap (λ b. is_valid_at z i && b) (codes.bits i l)
-          ∙ present_value (row_at v) (position_in (row_at c i)) (is_present (row_at c i)) (is_valid_at z i) (slice_index ps i) p.present p.told
-          (λ some. s.bits i inside ∙ values.bits (slice_index ps i) (some_within (position_in (row_at c i)) (tree_len v) (slice_index ps i) p.within p.told some));
+          ∙ present_named (row_at v) (row_at c i) (is_valid_at z i) (tree_len v) (formed.within i l) (λ k named within. s.bits i k l named ∙ values.bits k within);
     })
 
 -- of no values each code is null
@@ -360,3 +393,5 @@ pub ruleset nulled = (codes_nulled, dictionary_nulled)
 pub ruleset null_rows = (codes_null, dictionary_nulls)
 
 pub ruleset constants = (zero_codes, constant_with_nulls, constant_without_nulls)
+
+pub ruleset named = (state_named, taken_named, one_named)

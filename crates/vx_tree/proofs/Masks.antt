@@ -1,5 +1,5 @@
 -- The masks of validities, and the bits of plain booleans.
-use Rattle.std.proofs.Common.{ℕ, ◌<◌, ◌≡◌, Bool, true, false, List, length, map, replicate, get_or, refl, sym, ◌∙◌, arith}
+use Rattle.std.proofs.Common.{ℕ, ◌<◌, ◌≡◌, Bool, true, false, List, length, map, replicate, get_or, refl, sym, ◌∙◌, ap, arith}
 use Rattle.std.specs.List.{range_with_len}
 use Rattle.std.proofs.lemmas.List.FromFn.{fill_by_all}
 use Rattle.std.proofs.lemmas.List.{get_or-replicate, length-replicate}
@@ -7,6 +7,7 @@ use Rattle.vx_base.specs.Rows.{Row, truth_of}
 use Rattle.vx_base.specs.Kinds.{Kind, booleans, integers, texts, binaries, lists, fixed_lists, records, is_plain_booleans}
 use Rattle.vx_tree.specs.Tree.{Tree, bools, constant, Valid, non_nullable, all_valid, all_invalid, by_array}
 use Rattle.vx_tree.specs.Meaning.{row_at, tree_len, kind_of, is_valid_at, valid_mask}
+use Rattle.vx_tree.specs.Named.{IsRepeated}
 
 -- a constant state gives the same boolean for each row
 pub mask_of_constant : (v : Valid) (n : ℕ) (b : Bool) → ((i : ℕ) → is_valid_at v i ≡ b) → replicate n b ≡ valid_mask v n
@@ -34,6 +35,12 @@ bits_are_truths t bits (by_array m) e k = let h = rw e at k in cc
 pub truths_of_constant : (t : Tree) (k : Kind) (r : Row) (n : ℕ) → t ≡ constant k r n → replicate n (truth_of r) ≡ map (λ i. truth_of (row_at t i)) (range_with_len 0 (tree_len t))
 truths_of_constant t k r n e =
     rw e (fill_by_all (λ i. truth_of r) (replicate n (truth_of r)) n false (length-replicate n (truth_of r)) (λ i l. get_or-replicate n i (truth_of r) false l))
+
+-- that of rows that are all one
+pub truths_of_repeated : (t : Tree) (b : Bool) (n : ℕ) → IsRepeated t → n ≡ tree_len t → b ≡ truth_of (row_at t 0) → replicate n b ≡ map (λ i. truth_of (row_at t i)) (range_with_len 0 (tree_len t))
+truths_of_repeated t b n h same e =
+    fill_by_all (λ i. truth_of (row_at t i)) (replicate n b) (tree_len t) false (length-replicate n b ∙ same) (λ i l.
+    get_or-replicate n i b false (rw same l) ∙ e ∙ ap truth_of (sym (h.alike i)))
 
 -- ---- read row by row
 

@@ -7,13 +7,14 @@ use Rattle.std.specs.Prelude.{ℤ, pos, ◌||◌, ◌&&◌, if◌then◌else◌}
 use Rattle.vx_base.specs.declared.ptypes.PType.{PType}
 use Rattle.vx_base.specs.declared.ptypes.PType.TheVariants.{U8}
 use Rattle.vx_base.specs.Integers.{numbers, number_nth}
-use Rattle.vx_base.specs.Rows.{Row, null, whole, truth_of}
+use Rattle.vx_base.specs.Rows.{Row, null, boolean, whole, truth_of}
 use Rattle.vx_base.specs.Bits.{bool_at, both}
-use Rattle.vx_base.specs.Kinds.{lists}
-use Rattle.vx_tree.specs.Tree.{Tree, bools, primitive, list_view, Valid, non_nullable, by_array}
+use Rattle.vx_base.specs.Kinds.{booleans, integers, lists}
+use Rattle.vx_tree.specs.Tree.{Tree, bools, primitive, constant, dictionary, list_view, Valid, non_nullable, all_valid, all_invalid, by_array}
 use Rattle.vx_tree.specs.Meaning.{row_at, tree_len, kind_of, is_valid_at, nullable}
-use Rattle.vx_tree.specs.Shapes.{State, list_view_shape, never_null, none_null, every_null, told, state_of, is_nullable_state, taken_state}
+use Rattle.vx_tree.specs.Shapes.{State, list_view_shape, never_null, none_null, every_null, told, state_of, is_nullable_state, taken_state, row_state}
 use Rattle.vx_tree.specs.Formed.{ValidFits, IsMask}
+use Rattle.vx_tree.specs.Named.{IsRepeated}
 use Rattle.vx_tree.specs.Operations.{IsNulled, IsValidNulled, IsZeroes, IsZeroCodes}
 use Rattle.vx_tree.proofs.Selected.{nullable-state}
 
@@ -123,3 +124,35 @@ pub zero_codes_made : (t : Tree) (bs : List ℕ) (u : Valid) (n : ℕ) → t ≡
 zero_codes_made t bs u n a e =
     let z = zeroes_made (primitive U8 bs non_nullable) U8 bs n refl e in
     rw a (record { len = z.len; kind = refl; state = refl; rows = λ i l. ap (λ r. if is_valid_at u i then r else null) (z.rows i l) })
+
+-- codes that are all 0, under a state
+pub constant_codes : (t : Tree) (u : Valid) (n : ℕ) (r : Row) → t ≡ constant (integers U8 (nullable u)) r n → row_state (integers U8 (nullable u)) r ≡ state_of u → ((i : ℕ) → r ≡ (if is_valid_at u i then whole (pos 0) else null)) → IsZeroCodes n u t
+constant_codes t u n r a e same = rw a (record { len = refl; kind = refl; state = e; rows = λ i l. same i })
+
+pub codes_of_no_null : (t : Tree) (u : Valid) (n : ℕ) → u ≡ non_nullable → t ≡ constant (integers U8 false) (whole (pos 0)) n → IsZeroCodes n u t
+codes_of_no_null t u n e a = rw e (constant_codes t non_nullable n (whole (pos 0)) a refl (λ i. refl))
+
+pub codes_of_all_valid : (t : Tree) (u : Valid) (n : ℕ) → u ≡ all_valid → t ≡ constant (integers U8 true) (whole (pos 0)) n → IsZeroCodes n u t
+codes_of_all_valid t u n e a = rw e (constant_codes t all_valid n (whole (pos 0)) a refl (λ i. refl))
+
+pub codes_of_all_invalid : (t : Tree) (u : Valid) (n : ℕ) → u ≡ all_invalid → t ≡ constant (integers U8 true) null n → IsZeroCodes n u t
+codes_of_all_invalid t u n e a = rw e (constant_codes t all_invalid n null a refl (λ i. refl))
+
+-- one code, null where a truth value is false, that codes name
+pub one_code : (t v : Tree) (bs : List ℕ) (b : Bool) (n : ℕ) → t ≡ dictionary (constant (integers U8 false) (whole (pos 0)) n) v false → v ≡ primitive U8 bs (by_array (constant (booleans false) (boolean b) 1)) → numbers U8 bs ≡ map pos (replicate 1 0) → IsZeroCodes n (by_array (constant (booleans false) (boolean b) n)) t
+one_code t v bs b n a e z =
+    rw (a, e) (record {
+      len = refl;
+      kind = refl;
+      state = refl;
+      rows = λ i l. ap (λ (zs : List ℤ). if b then whole (number_nth zs 0) else null) z;
+    })
+
+-- codes of an array are those of another with the same truth values
+pub codes_alike : (t m o : Tree) (n : ℕ) → ((i : ℕ) → truth_of (row_at o i) ≡ truth_of (row_at m i)) → IsZeroCodes n (by_array o) t → IsZeroCodes n (by_array m) t
+codes_alike t m o n same h =
+    record { len = h.len; kind = h.kind; state = h.state; rows = λ i l. h.rows i l ∙ ap (λ b. if b then whole (pos 0) else null) (same i) }
+
+pub codes_of_repeated : (t m : Tree) (u : Valid) (b : Bool) (n : ℕ) → u ≡ by_array m → IsRepeated m → b ≡ truth_of (row_at m 0) → IsZeroCodes n (by_array (constant (booleans false) (boolean b) n)) t → IsZeroCodes n u t
+codes_of_repeated t m u b n a h e z =
+    rw a (codes_alike t m (constant (booleans false) (boolean b) n) n (λ i. e ∙ ap truth_of (sym (h.alike i))) z)

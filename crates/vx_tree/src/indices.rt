@@ -9,7 +9,7 @@ ghost use Rattle.vx_tree.specs.Tree.{primitive, non_nullable};
 ghost use Rattle.vx_tree.specs.Meaning.{tree_len, kind_of, row_at};
 ghost use Rattle.vx_tree.specs.Formed.{IsCode};
 ghost use Rattle.vx_tree.specs.Faults.{indices_fault, index_fault};
-ghost use Rattle.vx_tree.specs.Named.{HasNumbers};
+ghost use Rattle.vx_tree.specs.Named.{HasNumbers, IsRepeated};
 ghost use Rattle.vx_tree.specs.Operations.{IsPosition, ArePositions, masked_numbers};
 
 mod checks;
@@ -35,12 +35,16 @@ impl ArrayRef {
         Ok(positions)
     }
 
-    // The same positions, with no list of them where the rows are plain numbers and none is null.
+    // The same positions, with no list of them where the rows are plain numbers and none is null,
+    // or all one.
     pub(crate) fn indices(&self, alloc: Global, len: usize) -> Result<Indices<'_>, VortexError>
         requires { is_integers (kind_of self.now) ≡ true }
         ensures ok { IfOk result (λ ps. ArePositions self.now len ps) }
         ensures refuses { Refuses result (indices_fault len self.now) }
     {
+        if self.is_repeated() {
+            return Ok(self.one_position(len)?);
+        }
         let Some((ptype, bytes)) = self.plain_numbers() else {
             return Ok(Indices::of_positions(self.positions(alloc, len)?));
         };
@@ -59,10 +63,24 @@ impl ArrayRef {
         requires codes { (i : ℕ) → i < tree_len self.now → IsCode len (row_at self.now i) }
         ensures { Gives result (λ ps. ArePositions self.now len ps) }
     {
+        if self.is_repeated() {
+            return self.one_position(len);
+        }
         match self.plain_numbers() {
             Some((ptype, bytes)) => Ok(Indices::of_numbers(ptype, bytes)),
             None => Ok(Indices::of_positions(self.positions(alloc, len)?)),
         }
+    }
+
+    // The position that each row names, of rows that are all one: the first alone is read.
+    fn one_position(&self, len: usize) -> Result<Indices<'_>, VortexError>
+        requires ints { is_integers (kind_of self.now) ≡ true }
+        requires repeated { IsRepeated self.now }
+        ensures ok { IfOk result (λ ps. ArePositions self.now len ps) }
+        ensures tests { Tests result (indices_fault len self.now) }
+    {
+        let position = self.position(0, len)?;
+        Ok(Indices::repeated(position, self.len()))
     }
 
     // The numbers that the rows are, where they lie one after another and none is null.

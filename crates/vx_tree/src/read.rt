@@ -1,7 +1,7 @@
 // Rows that are read one at a time, or as bits.
 
 ghost use Rattle.std.specs.Prelude.{◌≡◌, ◌<◌, ◌≤ℤ◌, ◌^◌, ◌-◌, pos, true, false, map, replicate, None, length, count_by, IfOk};
-ghost use Rattle.std.specs.Prelude.{IfSome, IsSome, is_some};
+ghost use Rattle.std.specs.Prelude.{IfSome, IsSome, IsTrue, is_some, ℕ};
 ghost use Rattle.std.specs.List.{range_with_len};
 ghost use Rattle.vx_base.specs.Refusals.{Gives, Refuses};
 ghost use Rattle.vx_base.specs.Integers.{Holds};
@@ -10,6 +10,7 @@ ghost use Rattle.vx_base.specs.Kinds.{booleans, is_integers, is_plain_integers, 
 ghost use Rattle.vx_tree.specs.Meaning.{tree_len, kind_of, row_at};
 ghost use Rattle.vx_tree.specs.Parts.{valid_of};
 ghost use Rattle.vx_tree.specs.Faults.{position_fault};
+ghost use Rattle.vx_tree.specs.Named.{IsRepeated};
 ghost use Rattle.vx_tree.specs.Operations.{IsValidityOf};
 
 use crate::array::{ArrayRef, Layout, Validity};
@@ -115,26 +116,28 @@ impl ArrayRef {
         }
     }
 
-    // The rows of an array of plain booleans, as a mask. A constant's takes no memory.
+    // The rows of an array of plain booleans, as a mask. That of rows that are all one takes no
+    // memory.
     pub(crate) fn plain_mask(&self, alloc: Global) -> Result<Mask, VortexError>
         requires { kind_of self.now ≡ booleans false }
         ensures { Gives result (λ m. m ≡ map (λ i. truth_of (row_at self.now i)) (range_with_len 0 (tree_len self.now))) }
     {
-        match self.layout() {
-            Layout::Constant { scalar, len } => Ok(mask_of_one(scalar.as_bool(), *len)),
-            _ => Mask::from_buffer(alloc, self.plain_bits(alloc)?),
+        if self.is_repeated() {
+            return Ok(mask_of_one(self.truth_at(0), self.len()));
         }
+        Mask::from_buffer(alloc, self.plain_bits(alloc)?)
     }
 
-    // How many of the rows of an array of plain booleans are true. A constant's takes no memory.
+    // How many of the rows of an array of plain booleans are true. Of rows that are all one it takes
+    // no memory.
     pub(crate) fn plain_true_count(&self, alloc: Global) -> Result<usize, VortexError>
         requires { kind_of self.now ≡ booleans false }
         ensures { Gives result (λ n. n ≡ count_by (λ b. b) (map (λ i. truth_of (row_at self.now i)) (range_with_len 0 (tree_len self.now)))) }
     {
-        match self.layout() {
-            Layout::Constant { .. } => Ok(self.plain_mask(alloc)?.true_count()),
-            _ => Ok(self.plain_bits(alloc)?.true_count()),
+        if self.is_repeated() {
+            return Ok(self.plain_mask(alloc)?.true_count());
         }
+        Ok(self.plain_bits(alloc)?.true_count())
     }
 
     // The same in any layout, row by row.
@@ -155,6 +158,24 @@ impl ArrayRef {
     {
         for row in 0..out.len() {
             out[row] = self.truth_at(row);
+        }
+    }
+
+    // Whether there are rows, and the layout alone says that they are all one.
+    pub(crate) fn is_repeated(&self) -> bool
+        ensures { IsTrue result → IsRepeated self.now }
+    {
+        !self.is_empty() && self.has_one_row()
+    }
+
+    // Whether the layout says that all rows are one: a constant's, and those that such codes name.
+    fn has_one_row(&self) -> bool
+        ensures { IsTrue result → (i : ℕ) → row_at self.now i ≡ row_at self.now 0 }
+    {
+        match self.layout() {
+            Layout::Constant { .. } => true,
+            Layout::Dict { codes, .. } => codes.has_one_row(),
+            _ => false,
         }
     }
 

@@ -1,23 +1,24 @@
 // The rows that indices name.
 
-ghost use Rattle.std.specs.Prelude.{◌≡◌, map, unsigned_abs};
+ghost use Rattle.std.specs.Prelude.{◌≡◌, map, replicate, unsigned_abs};
 ghost use Rattle.vx_base.specs.Integers.{numbers};
 
 use std::marker::Model;
 use vx_base::{PType, Selection};
 
-// The positions that indices name, where they lie: numbers, where none of them is null, else a
-// list.
+// The positions that indices name, where they lie: numbers, where none of them is null, one
+// position, where the rows are all one, else a list.
 #[derive(Drop)]
 pub(crate) struct Indices<'a> {
     form: Form<'a>,
 }
 
-// The two forms.
+// The forms.
 #[derive(Drop)]
 enum Form<'a> {
     Numbers(PType, &'a [u8]),
     Positions(Vec<usize>),
+    Repeated(usize, usize),
 }
 
 impl<'a> Model for Indices<'a> {
@@ -48,12 +49,22 @@ impl<'a> Indices<'a> {
         }
     }
 
+    // One position, `len` times.
+    pub(crate) fn repeated(position: usize, len: usize) -> Indices<'a>
+        ensures { result ≡ replicate len position }
+    {
+        Indices {
+            form: Form::Repeated(position, len),
+        }
+    }
+
     // The rows at the positions.
     pub(crate) fn selection(&self) -> Selection<'_>
         ensures { result ≡ self.now }
     {
         let positions = match &self.form {
             Form::Numbers(ptype, bytes) => return Selection::at_numbers(*ptype, bytes),
+            Form::Repeated(position, len) => return Selection::repeated(*position, *len),
             Form::Positions(positions) => positions,
         };
         Selection::at_positions(positions)

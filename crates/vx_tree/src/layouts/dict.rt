@@ -3,12 +3,13 @@
 ghost use Rattle.std.specs.Prelude.{◌≡◌, ◌<◌, ◌≤◌, ◌-◌, ℕ, true, false, IfOk, IfSome, IsSome, is_some};
 ghost use Rattle.vx_base.specs.Refusals.{Gives, Refuses};
 ghost use Rattle.vx_base.specs.ValueRows.{row_under};
-ghost use Rattle.vx_base.specs.Kinds.{is_integers, is_plain_integers};
+ghost use Rattle.vx_base.specs.Kinds.{booleans, is_integers, is_plain_integers};
 ghost use Rattle.vx_base.specs.Rows.{is_present, position_in};
-ghost use Rattle.vx_tree.specs.Tree.{dictionary};
+ghost use Rattle.vx_tree.specs.Tree.{by_array, dictionary};
 ghost use Rattle.vx_tree.specs.Layouts.{is_dictionary};
 ghost use Rattle.vx_tree.specs.Meaning.{tree_len, kind_of, row_at, is_valid_at};
 ghost use Rattle.vx_tree.specs.Formed.{ValidFits, IsCode, IsDictionary};
+ghost use Rattle.vx_tree.specs.Named.{IsRepeated, IsValidNamed};
 ghost use Rattle.vx_tree.specs.Parts.{valid_of};
 ghost use Rattle.vx_tree.specs.Plain.{IsPlain};
 ghost use Rattle.vx_tree.specs.Canonical.{IsCanonical, canonical_fault, plain_overflow};
@@ -16,6 +17,7 @@ ghost use Rattle.vx_tree.specs.Operations.{IsSlice, IsSelected, IsNulled, IsNull
 
 use crate::array::{ArrayRef, Layout, Validity};
 use crate::indices::to_position;
+use crate::validity::constant_truth;
 use std::alloc::Global;
 use vx_base::{ScalarValue, Selection, VortexError};
 
@@ -210,8 +212,50 @@ impl ArrayRef {
         if values.is_empty() {
             return validity.nulls(alloc, codes.len(), &nulls);
         }
-        let positions = codes.code_positions(alloc, values.len())?;
-        let validity = validity.select_within(alloc, &positions.selection())?;
+        let validity = validity.named_by(alloc, codes, values.len())?;
         validity.nulled(alloc, &nulls, codes.len())
+    }
+}
+
+impl Validity {
+    // For each row the validity of the value that its code names, of so many values. A code is
+    // looked at only where an array tells which values are valid.
+    #[tactic(auto, using(crate::proofs::Dictionaries::named))]
+    fn named_by(&self, alloc: Global, codes: &ArrayRef, len: usize) -> Result<Validity, VortexError>
+        requires fits { ValidFits (valid_of self.now) len }
+        requires some { 0 < len }
+        requires ints { is_integers (kind_of codes.now) ≡ true }
+        requires codes { (i : ℕ) → i < tree_len codes.now → IsCode len (row_at codes.now i) }
+        ensures { Gives result (λ w. IsValidNamed (valid_of self.now) codes.now (valid_of w)) }
+    {
+        match self {
+            Validity::NonNullable => Ok(Validity::NonNullable),
+            Validity::AllValid => Ok(Validity::AllValid),
+            Validity::AllInvalid => Ok(Validity::AllInvalid),
+            Validity::Array(array) => {
+                if codes.is_repeated() {
+                    return array.one_truth(alloc, codes);
+                }
+                let positions = codes.code_positions(alloc, len)?;
+                self.select_within(alloc, &positions.selection())
+            }
+        }
+    }
+}
+
+impl ArrayRef {
+    // The truth value that each code names, of codes that are all one: the first alone is read.
+    fn one_truth(&self, alloc: Global, codes: &ArrayRef) -> Result<Validity, VortexError>
+        requires kind { kind_of self.now ≡ booleans false }
+        requires ints { is_integers (kind_of codes.now) ≡ true }
+        requires repeated { IsRepeated codes.now }
+        requires codes { (i : ℕ) → i < tree_len codes.now → IsCode (tree_len self.now) (row_at codes.now i) }
+        ensures { Gives result (λ w. IsValidNamed (by_array self.now) codes.now (valid_of w)) }
+    {
+        let truth = match codes.code_at(0, self.len()) {
+            Some(code) => self.truth_at(code),
+            None => false,
+        };
+        Ok(Validity::Array(constant_truth(alloc, truth, codes.len())?))
     }
 }

@@ -3,10 +3,11 @@
 ghost use Rattle.std.specs.Prelude.{◌≡◌, ◌<◌, ◌≤◌, ◌-◌, ◌*◌, ℕ, pos, true, false, length, map, replicate, IfOk};
 ghost use Rattle.vx_base.specs.Integers.{byte_width, numbers};
 ghost use Rattle.std.specs.List.{All, flat_map};
-ghost use Rattle.vx_base.specs.Kinds.{integers};
+ghost use Rattle.vx_base.specs.Kinds.{booleans, integers};
+ghost use Rattle.vx_base.specs.Rows.{boolean};
 ghost use Rattle.vx_base.specs.Refusals.{Gives};
 ghost use Rattle.vx_base.specs.ValueRows.{row_under};
-ghost use Rattle.vx_tree.specs.Tree.{primitive};
+ghost use Rattle.vx_tree.specs.Tree.{by_array, constant, primitive};
 ghost use Rattle.vx_tree.specs.Layouts.{is_primitive};
 ghost use Rattle.vx_tree.specs.Meaning.{tree_len, kind_of, row_at, is_valid_at, nullable};
 ghost use Rattle.vx_tree.specs.Joined.{IsJoined, IsValidJoined, AreNumbers, bytes_in};
@@ -16,10 +17,11 @@ ghost use Rattle.vx_tree.specs.Canonical.{IsCanonical};
 ghost use Rattle.vx_tree.specs.Operations.{IsSlice, IsSelected, IsNulled, IsNulls, IsZeroes, IsZeroCodes, AreBelow};
 
 use crate::array::{ArrayRef, Layout, Validity};
+use crate::validity::constant_truth;
 use std::alloc::Global;
 use vx_base::{
-    ByteBuffer, PType, ScalarValue, Selection, VortexError, gather_numbers, int_at, slice_numbers,
-    zero_numbers,
+    ByteBuffer, DType, Nullability, PType, Scalar, ScalarValue, Selection, VortexError,
+    gather_numbers, int_at, slice_numbers, zero_numbers,
 };
 
 impl ArrayRef {
@@ -193,7 +195,8 @@ impl ArrayRef {
         ArrayRef::primitive(alloc, ptype, bytes, Validity::NonNullable)
     }
 
-    // Codes that are all 0, null where this validity is not true.
+    // Codes that are all 0, null where this validity is not true. They take no memory a row where
+    // the validity is no array, or its rows are all one.
     pub(crate) fn zero_codes(
         alloc: Global,
         len: usize,
@@ -202,8 +205,39 @@ impl ArrayRef {
         requires { ValidFits (valid_of nulls.now) len }
         ensures { Gives result (IsZeroCodes len (valid_of nulls.now)) }
     {
-        let bytes = zero_numbers(alloc, PType::U8, len)?;
-        ArrayRef::primitive(alloc, PType::U8, bytes, nulls.try_clone(alloc)?)
+        match nulls {
+            Validity::NonNullable => {
+                let zero = Scalar::int(0, PType::U8, Nullability::NonNullable);
+                ArrayRef::constant(alloc, zero, len)
+            }
+            Validity::AllValid => {
+                let zero = Scalar::int(0, PType::U8, Nullability::Nullable);
+                ArrayRef::constant(alloc, zero, len)
+            }
+            Validity::AllInvalid => {
+                let null = Scalar::null(DType::Primitive(PType::U8, Nullability::Nullable));
+                ArrayRef::constant(alloc, null, len)
+            }
+            Validity::Array(array) => {
+                if array.is_repeated() {
+                    return ArrayRef::repeated_code(alloc, array.truth_at(0), len);
+                }
+                let bytes = zero_numbers(alloc, PType::U8, len)?;
+                ArrayRef::primitive(alloc, PType::U8, bytes, nulls.try_clone(alloc)?)
+            }
+        }
+    }
+
+    // The same of one truth value for each code: one code, null where it is false, that codes name.
+    fn repeated_code(alloc: Global, valid: bool, len: usize) -> Result<ArrayRef, VortexError>
+        ensures { Gives result (IsZeroCodes len (by_array (constant (booleans false) (boolean valid) len))) }
+    {
+        let validity = Validity::Array(constant_truth(alloc, valid, 1)?);
+        let bytes = zero_numbers(alloc, PType::U8, 1)?;
+        let code = ArrayRef::primitive(alloc, PType::U8, bytes, validity)?;
+        let zero = Scalar::int(0, PType::U8, Nullability::NonNullable);
+        let codes = ArrayRef::constant(alloc, zero, len)?;
+        ArrayRef::dictionary(alloc, codes, code, false)
     }
 
     // The numbers of arrays of one type, one array after another, under the validity of them.

@@ -1,9 +1,7 @@
-use Rattle.std.proofs.Common.{ap, sym, ◌∙◌}
-use Rattle.vx_tree.specs.Parts.{tree_of}
-use Rattle.vx_tree.proofs.Masks.{truths_of_constant}
+use Rattle.std.proofs.Common.{refl}
+use Rattle.vx_tree.proofs.Masks.{truths_of_repeated}
 use Rattle.vx_tree.proofs.array.ArrayRef.plain_mask.Goals as goal
 
-pub returns-in-Constant : goal.returns-in-Constant
-returns-in-Constant c =
-    rw c.as_bool.ensures at c.mask_of_one.ensures
-    ∙ truths_of_constant c.args.self.now c.in-Constant.scalar.kind c.in-Constant.scalar.row c.in-Constant.len (sym c.layout.ensures.parts ∙ ap tree_of c.in-Constant.is)
+pub returns-then-is_repeated : goal.returns-then-is_repeated
+returns-then-is_repeated c =
+    rw c.mask_of_one.ensures (truths_of_repeated c.args.self.now c.truth_at.result c.len.result (c.if-is_repeated.ensures refl) c.len.ensures c.truth_at.ensures)
