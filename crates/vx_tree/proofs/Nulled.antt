@@ -16,6 +16,7 @@ use Rattle.vx_tree.specs.Shapes.{State, list_view_shape, never_null, none_null, 
 use Rattle.vx_tree.specs.Formed.{ValidFits, IsMask}
 use Rattle.vx_tree.specs.Named.{IsRepeated}
 use Rattle.vx_tree.specs.Operations.{IsNulled, IsValidNulled, IsZeroes, IsZeroCodes}
+use Rattle.vx_tree.specs.Validities.{IsAndOf}
 use Rattle.vx_tree.proofs.Selected.{nullable-state}
 
 pub nullable-taken_state : (s index : State) → is_nullable_state (taken_state s index) ≡ (is_nullable_state index || is_nullable_state s)
@@ -156,3 +157,38 @@ codes_alike t m o n same h =
 pub codes_of_repeated : (t m : Tree) (u : Valid) (b : Bool) (n : ℕ) → u ≡ by_array m → IsRepeated m → b ≡ truth_of (row_at m 0) → IsZeroCodes n (by_array (constant (booleans false) (boolean b) n)) t → IsZeroCodes n u t
 codes_of_repeated t m u b n a h e z =
     rw a (codes_alike t m (constant (booleans false) (boolean b) n) n (λ i. e ∙ ap truth_of (sym (h.alike i))) z)
+
+-- ---- one value for all rows
+
+pub and_of_true : (b : Bool) (o : Tree) (w : Valid) → b ≡ true → w ≡ by_array o → kind_of o ≡ booleans false → IsAndOf b o w
+and_of_true b o w e a k = rw (e, a) (record { fits = record { len = refl; kind = k }; state = refl; bits = λ i. refl })
+
+pub and_of_false : (b : Bool) (o : Tree) (w : Valid) → b ≡ false → w ≡ by_array (constant (booleans false) (boolean false) (tree_len o)) → IsAndOf b o w
+and_of_false b o w e a = rw (e, a) (record { fits = record { len = refl; kind = refl }; state = refl; bits = λ i. refl })
+
+swapped : (a b : Bool) → (a && b) ≡ (b && a)
+swapped true true = refl
+swapped true false = refl
+swapped false true = refl
+swapped false false = refl
+
+-- rows that are all one are that value
+pub repeated_first : (m o : Tree) (b : Bool) (w : Valid) → IsRepeated m → b ≡ truth_of (row_at m 0) → tree_len o ≡ tree_len m → IsAndOf b o w → IsValidNulled (by_array m) (by_array o) (tree_len m) w
+repeated_first m o b w h e same a =
+    record {
+      fits = rw (sym same) a.fits;
+      state = a.state;
+      plain = λ p q. absurd (h.worked p);
+      bits = λ i l. a.bits i ∙ ap (λ x. x && truth_of (row_at o i)) (e ∙ ap truth_of (sym (h.alike i)));
+    }
+
+pub repeated_second : (m o : Tree) (b : Bool) (w : Valid) → IsRepeated m → b ≡ truth_of (row_at m 0) → IsAndOf b o w → IsValidNulled (by_array o) (by_array m) (tree_len o) w
+repeated_second m o b w h e a =
+    record {
+      fits = a.fits;
+      state = a.state;
+      plain = λ p q. absurd (h.worked q);
+      bits = λ i l. a.bits i ∙ ap (λ x. x && truth_of (row_at o i)) (e ∙ ap truth_of (sym (h.alike i))) ∙ swapped (truth_of (row_at m i)) (truth_of (row_at o i));
+    }
+
+pub ruleset repeated_and = (and_of_true, and_of_false)

@@ -1,20 +1,22 @@
 -- What the calls of a validity give.
 use Rattle.std.proofs.Common.{ℕ, ◌+◌, ◌<◌, ◌≡◌, ◌↔◌, Bool, true, false, eqb, List, [], ◌∷◌, length, map, replicate, get_or, Some, refl, sym, ◌∙◌, ap, subst, zero-add, inl, inr, arith}
-use Rattle.std.specs.Prelude.{◌&&◌, ◌||◌, IsTrue, count_by, pos, negsuc}
+use Rattle.std.specs.Prelude.{◌&&◌, ◌||◌, IfSome, IsTrue, count_by, pos, negsuc}
 use Rattle.std.specs.List.{range_with_len}
 use Rattle.std.proofs.lemmas.Bool.{eq-eqb}
 use Rattle.std.proofs.lemmas.Bool.Decides.{eqb_tells}
 use Rattle.std.proofs.lemmas.List.FromFn.{fill_by_all, length-map-range_with_len, get_or-map-range_with_len}
 use Rattle.vx_base.specs.Bits.{bool_at, both}
 use Rattle.vx_base.specs.Rows.{Row, null, boolean, whole, bytes, text, items, record_of, truth_of, count_in, is_present, position_in}
+use Rattle.vx_base.specs.Kinds.{booleans}
 use Rattle.vx_base.proofs.ListParts.{map_range_same}
 use Rattle.vx_base.proofs.MaskCounts.{count-all_true, count-all_false, all_true_from_count, all_false_from_count}
-use Rattle.vx_tree.specs.Tree.{Tree, bools, Valid, non_nullable, all_valid, all_invalid, by_array}
+use Rattle.vx_tree.specs.Tree.{Tree, bools, constant, Valid, non_nullable, all_valid, all_invalid, by_array}
 use Rattle.vx_tree.specs.Meaning.{tree_len, row_at, is_valid_at, nullable, valid_mask}
 use Rattle.vx_tree.specs.Shapes.{State, never_null, none_null, every_null, told, state_of, taken_state, tree_state}
 use Rattle.vx_tree.specs.Formed.{ValidFits}
+use Rattle.vx_tree.specs.Named.{IsRepeated}
 use Rattle.vx_tree.specs.Operations.{IsSelected, IsValidityOf, IsValidNulled, ArePositions, or_zero}
-use Rattle.vx_tree.specs.Validities.{pair_of, both_pairs, opposite, has_no_nulls, made_nullable, full_valid, valid_from, IsOpposite, IsValidTaken, nullable_state, IsTrivialCast, BothCommutes, BothAssociates, BothRepeats, BothHasUnit, TrivialCasts}
+use Rattle.vx_tree.specs.Validities.{pair_of, both_pairs, opposite, has_no_nulls, kept_array, made_nullable, full_valid, valid_from, IsOpposite, IsValidTaken, nullable_state, IsTrivialCast, BothCommutes, BothAssociates, BothRepeats, BothHasUnit, TrivialCasts}
 use Rattle.vx_tree.proofs.Masks.{all_true_mask, all_valid_mask, all_invalid_mask}
 use Rattle.vx_tree.proofs.Positions.{mask_long}
 use Rattle.vx_tree.proofs.Nulled.{nullable_nulled}
@@ -266,3 +268,25 @@ trivial_casts v false n = elim (eqb_tells n 0) [
   | inl alike ↦ subst (IsTrivialCast v false) (sym alike.1) (cast_of_none v)
   | inr apart ↦ cast_of_some v n apart.0
 ]
+
+-- rows that are all one truth value are turned at once
+pub repeated_turned : (t : Tree) (w : Valid) (b : Bool) (n : ℕ) → w ≡ by_array (constant (booleans false) (boolean b) (tree_len t)) → b ≡ opposite (truth_of (row_at t 0)) → IsRepeated t → ValidFits (by_array t) n → IsOpposite (by_array t) n w
+repeated_turned t w b n a e r h =
+    rw a (record {
+      fits = record { len = h.len; kind = refl };
+      state = refl;
+      bits = λ i l. e ∙ ap (λ x. opposite (truth_of x)) (sym (r.alike i));
+    })
+
+-- of an array and a state that says that no row is null, the array stays
+pub kept_of_no_null : (v : Valid) → IfSome (kept_array non_nullable v) (λ t. v ≡ by_array t)
+kept_of_no_null non_nullable = tt
+kept_of_no_null all_valid = tt
+kept_of_no_null all_invalid = tt
+kept_of_no_null (by_array t) = refl
+
+pub kept_of_all_valid : (v : Valid) → IfSome (kept_array all_valid v) (λ t. made_nullable v ≡ by_array t)
+kept_of_all_valid non_nullable = tt
+kept_of_all_valid all_valid = tt
+kept_of_all_valid all_invalid = tt
+kept_of_all_valid (by_array t) = refl

@@ -9,6 +9,7 @@ use Rattle.vx_tree.specs.Tree.{Tree, Valid}
 use Rattle.vx_tree.specs.Meaning.{tree_len, row_at, is_valid_at, nullable}
 use Rattle.vx_tree.specs.Shapes.{state_of}
 use Rattle.vx_tree.specs.Formed.{ValidFits}
+use Rattle.vx_tree.specs.Plain.{IsPlain}
 
 -- the positions, in each form
 abbrev pub named_by : Form → List ℕ
@@ -21,9 +22,10 @@ pub record HasNumbers (t : Tree) (p : PType) (bytes : List ℕ) : Type 0 where
   pub len : tree_len t ≡ length (numbers p bytes)
   pub rows : (i : ℕ) → i < tree_len t → row_at t i ≡ whole (number_nth (numbers p bytes) i)
 
--- there are rows, and they are all one
+-- there are rows, they are all one, and the array is not plain
 pub record IsRepeated (t : Tree) : Type 0 where
   pub some : 0 < tree_len t
+  pub worked : IsPlain t → ⊥
   pub alike : (i : ℕ) → row_at t i ≡ row_at t 0
 
 -- for each row the validity of the value that its code names, in the state of the values

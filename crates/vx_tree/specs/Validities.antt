@@ -4,7 +4,7 @@ use Rattle.std.specs.Prelude.{Some, None, if◌then◌else◌}
 use Rattle.vx_base.specs.Bits.{both}
 use Rattle.vx_base.specs.Kinds.{booleans, is_plain_booleans}
 use Rattle.vx_base.specs.Refusals.{Refusal, mismatched_types, has_nulls, or_else}
-use Rattle.vx_base.specs.Rows.{count_in, is_present, boolean}
+use Rattle.vx_base.specs.Rows.{count_in, is_present, truth_of, boolean}
 use Rattle.vx_tree.specs.Tree.{Tree, bools, constant, Valid, non_nullable, all_valid, all_invalid, by_array}
 use Rattle.vx_tree.specs.Meaning.{tree_len, kind_of, row_at, is_valid_at, nullable, valid_mask}
 use Rattle.vx_tree.specs.Shapes.{State, never_null, none_null, every_null, told, state_of, taken_state, tree_state}
@@ -19,6 +19,20 @@ pair_of v n = (nullable v, valid_mask v n)
 -- of two pairs: null may stand where it may in either, a row is valid where it is in both
 abbrev pub both_pairs : Bool × List Bool → Bool × List Bool → Bool × List Bool
 both_pairs p q = (p.0 || q.0, both p.1 q.1)
+
+-- of an array and a state that says that no row is null: the array
+abbrev pub kept_array : Valid → Valid → Option Tree
+kept_array (by_array t) non_nullable = Some t
+kept_array (by_array t) all_valid = Some t
+kept_array non_nullable (by_array t) = Some t
+kept_array all_valid (by_array t) = Some t
+kept_array _ _ = None
+
+-- an array of truth values that is true where one value is and another array is
+pub record IsAndOf (b : Bool) (o : Tree) (w : Valid) : Type 0 where
+  pub fits : ValidFits w (tree_len o)
+  pub state : state_of w ≡ told
+  pub bits : (i : ℕ) → is_valid_at w i ≡ (b && truth_of (row_at o i))
 
 -- the other truth value
 abbrev pub opposite : Bool → Bool

@@ -11,6 +11,7 @@ ghost use Rattle.vx_tree.specs.Meaning.{tree_len, kind_of, row_at};
 ghost use Rattle.vx_tree.specs.Parts.{valid_of};
 ghost use Rattle.vx_tree.specs.Faults.{position_fault};
 ghost use Rattle.vx_tree.specs.Named.{IsRepeated};
+ghost use Rattle.vx_tree.specs.Plain.{IsPlain};
 ghost use Rattle.vx_tree.specs.Operations.{IsValidityOf};
 
 use crate::array::{ArrayRef, Layout, Validity};
@@ -170,7 +171,8 @@ impl ArrayRef {
 
     // Whether the layout says that all rows are one: a constant's, and those that such codes name.
     fn has_one_row(&self) -> bool
-        ensures { IsTrue result → (i : ℕ) → row_at self.now i ≡ row_at self.now 0 }
+        ensures alike { IsTrue result → (i : ℕ) → row_at self.now i ≡ row_at self.now 0 }
+        ensures worked { IsTrue result → IsPlain self.now → ⊥ }
     {
         match self.layout() {
             Layout::Constant { .. } => true,

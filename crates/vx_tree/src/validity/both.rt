@@ -1,6 +1,6 @@
 // Rows that are valid in both of two validities.
 
-ghost use Rattle.std.specs.Prelude.{◌≡◌, ℕ, false, IfOk};
+ghost use Rattle.std.specs.Prelude.{◌≡◌, ℕ, false, IfOk, IfSome};
 ghost use Rattle.vx_base.specs.Kinds.{booleans};
 ghost use Rattle.vx_base.specs.Refusals.{Gives, Refuses};
 ghost use Rattle.vx_tree.specs.Tree.{by_array};
@@ -9,11 +9,11 @@ ghost use Rattle.vx_tree.specs.Meaning.{tree_len, kind_of};
 ghost use Rattle.vx_tree.specs.Formed.{IsLenOf};
 ghost use Rattle.vx_tree.specs.Parts.{valid_of};
 ghost use Rattle.vx_tree.specs.Operations.{IsValidNulled};
-ghost use Rattle.vx_tree.specs.Validities.{pair_of, both_pairs, both_states, and_fault};
+ghost use Rattle.vx_tree.specs.Validities.{pair_of, both_pairs, both_states, and_fault, kept_array, IsAndOf};
 
 use crate::array::{ArrayRef, Validity};
 use crate::validity::join::bits_of_mask;
-use crate::validity::told_by;
+use crate::validity::{constant_truth, told_by};
 use std::alloc::Global;
 use vx_base::VortexError;
 
@@ -26,6 +26,7 @@ impl Validity {
         ensures pair { IfOk result (λ w. (n : ℕ) → IsLenOf (valid_of self) n → IsLenOf (valid_of rhs) n
             → pair_of (valid_of w) n ≡ both_pairs (pair_of (valid_of self) n) (pair_of (valid_of rhs) n)) }
         ensures state { IfOk result (λ w. state_of (valid_of w) ≡ both_states (state_of (valid_of self)) (state_of (valid_of rhs))) }
+        ensures array { IfOk result (λ w. IfSome (kept_array (valid_of self) (valid_of rhs)) (λ t. valid_of w ≡ by_array t)) }
         ensures refuses { Refuses result (and_fault (valid_of self) (valid_of rhs)) }
     {
         match self {
@@ -42,6 +43,7 @@ fn array_and(alloc: Global, array: ArrayRef, rhs: Validity) -> Result<Validity, 
     ensures pair { IfOk result (λ w. (n : ℕ) → IsLenOf (by_array array) n → IsLenOf (valid_of rhs) n
         → pair_of (valid_of w) n ≡ both_pairs (pair_of (by_array array) n) (pair_of (valid_of rhs) n)) }
     ensures state { IfOk result (λ w. state_of (valid_of w) ≡ both_states (state_of (by_array array)) (state_of (valid_of rhs))) }
+    ensures array { IfOk result (λ w. IfSome (kept_array (by_array array) (valid_of rhs)) (λ t. valid_of w ≡ by_array t)) }
     ensures refuses { Refuses result (and_fault (by_array array) (valid_of rhs)) }
 {
     match rhs {
@@ -83,6 +85,12 @@ fn masks_and(alloc: Global, array: &ArrayRef, other: &ArrayRef) -> Result<Validi
     requires same_len { tree_len other.now ≡ tree_len array.now }
     ensures { Gives result (λ w. IsValidNulled (by_array array.now) (by_array other.now) (tree_len array.now) (valid_of w)) }
 {
+    if array.is_repeated() {
+        return repeated_and(alloc, array.truth_at(0), other);
+    }
+    if other.is_repeated() {
+        return repeated_and(alloc, other.truth_at(0), array);
+    }
     let mine = array.plain_mask(alloc)?;
     let theirs = other.plain_mask(alloc)?;
     let valid = mine.and(alloc, &theirs)?;
@@ -100,7 +108,25 @@ pub(crate) fn plain_and(
     requires same_len { tree_len other.now ≡ tree_len array.now }
     ensures { Gives result (λ w. IsValidNulled (by_array array.now) (by_array other.now) (tree_len array.now) (valid_of w)) }
 {
+    if array.is_repeated() {
+        return repeated_and(alloc, array.truth_at(0), other);
+    }
+    if other.is_repeated() {
+        return repeated_and(alloc, other.truth_at(0), array);
+    }
     let mine = array.plain_bits(alloc)?;
     let theirs = other.plain_bits(alloc)?;
     told_by(alloc, mine.and(alloc, &theirs)?)
+}
+
+// The same of one value for all rows: the other array, or a constant false.
+#[tactic(auto, using(crate::proofs::Nulled::repeated_and))]
+fn repeated_and(alloc: Global, value: bool, other: &ArrayRef) -> Result<Validity, VortexError>
+    requires { kind_of other.now ≡ booleans false }
+    ensures { Gives result (λ w. IsAndOf value other.now (valid_of w)) }
+{
+    if value {
+        return Ok(Validity::Array(other.try_clone(alloc)?));
+    }
+    Ok(Validity::Array(constant_truth(alloc, false, other.len())?))
 }

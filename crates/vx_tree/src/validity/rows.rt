@@ -16,7 +16,7 @@ ghost use Rattle.vx_tree.specs.Validities.{opposite, IsOpposite, IsValidTaken, v
 ghost use Rattle.vx_tree.specs.Validities.{valid_filter_fault, valid_take_fault};
 
 use crate::array::{ArrayRef, Validity};
-use crate::validity::{nowhere_true, told_by};
+use crate::validity::{constant_truth, nowhere_true, told_by};
 use std::alloc::Global;
 use std::ops::Range;
 use vx_base::{BitBuffer, Mask, VortexError};
@@ -115,7 +115,7 @@ impl Validity {
     }
 
     /// Valid where the row was null: `AllValid` and `AllInvalid` change places, an array is turned
-    /// row by row, and `NonNullable` stays. Refuses `MismatchedTypes` where the array is not one of
+    /// row by row, a constant into a constant, and `NonNullable` stays. Refuses `MismatchedTypes` where the array is not one of
     /// plain booleans.
     pub fn not(&self, alloc: Global) -> Result<Validity, VortexError>
         ensures opposite { IfOk result (λ w. (n : ℕ) → ValidFits (valid_of self.now) n → IsOpposite (valid_of self.now) n (valid_of w)) }
@@ -129,8 +129,7 @@ impl Validity {
                 if !array.dtype().is_plain_bool() {
                     return Err(VortexError::MismatchedTypes);
                 }
-                let bits = turned(alloc, &array.plain_bits(alloc)?)?;
-                let validity = told_by(alloc, bits)?;
+                let validity = opposite_of(alloc, array)?;
                 Ok(validity)
             }
         }
@@ -184,6 +183,20 @@ fn take_truths(alloc: Global, array: &ArrayRef, indices: &ArrayRef) -> Result<Va
     let selected = array.select_within(alloc, &positions.selection())?;
     let validity = Validity::Array(selected).nulled(alloc, &nulls, len)?;
     Ok(validity)
+}
+
+// True where the array is false: of rows that are all one a constant.
+#[tactic(auto, using(crate::proofs::Validities::repeated_turned))]
+fn opposite_of(alloc: Global, array: &ArrayRef) -> Result<Validity, VortexError>
+    requires { kind_of array.now ≡ booleans false }
+    ensures { Gives result (λ w. (n : ℕ) → ValidFits (by_array array.now) n → IsOpposite (by_array array.now) n (valid_of w)) }
+{
+    if array.is_repeated() {
+        let opposite = constant_truth(alloc, !array.truth_at(0), array.len())?;
+        return Ok(Validity::Array(opposite));
+    }
+    let bits = turned(alloc, &array.plain_bits(alloc)?)?;
+    told_by(alloc, bits)
 }
 
 // Each boolean the other way.

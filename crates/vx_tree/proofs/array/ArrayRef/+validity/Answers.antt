@@ -1,9 +1,8 @@
 use Rattle.std.proofs.Common.{ap, sym, ◌∙◌}
 use Rattle.vx_tree.specs.Parts.{tree_of, valid_of}
-use Rattle.vx_tree.specs.Meaning.{tree_len}
 use Rattle.vx_tree.specs.Formed.{IsDictionary}
 use Rattle.vx_base.proofs.Refused.{Gives-weaker}
-use Rattle.vx_tree.proofs.Dictionaries.{not_empty, validity_taken}
+use Rattle.vx_tree.proofs.Dictionaries.{validity_taken}
 use Rattle.vx_tree.proofs.array.ArrayRef.+validity.Goals as goal
 
 pub dictionary_validity-named_by-requires-clause-codes : goal.dictionary_validity-named_by-requires-clause-codes

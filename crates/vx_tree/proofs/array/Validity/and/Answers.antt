@@ -1,7 +1,7 @@
 use Rattle.std.proofs.Common.{refl}
 use Rattle.vx_tree.specs.Tree.{non_nullable, all_invalid}
 use Rattle.vx_tree.specs.Parts.{valid_of}
-use Rattle.vx_tree.proofs.Validities.{pair_joined, pair_all_valid, state_made}
+use Rattle.vx_tree.proofs.Validities.{pair_joined, pair_all_valid, state_made, kept_of_no_null, kept_of_all_valid}
 use Rattle.vx_tree.proofs.array.Validity.and.Goals as goal
 
 pub returns-in-NonNullable-clause-pair : goal.returns-in-NonNullable-clause-pair
@@ -30,3 +30,9 @@ returns-in-AllValid-clause-refuses c = rw c.in-AllValid.is refl
 
 pub returns-in-AllInvalid-clause-refuses : goal.returns-in-AllInvalid-clause-refuses
 returns-in-AllInvalid-clause-refuses c = rw c.in-AllInvalid.is refl
+
+pub returns-in-NonNullable-clause-array : goal.returns-in-NonNullable-clause-array
+returns-in-NonNullable-clause-array c = rw c.in-NonNullable.is (kept_of_no_null (valid_of c.args.rhs))
+
+pub returns-in-AllValid-clause-array : goal.returns-in-AllValid-clause-array
+returns-in-AllValid-clause-array c = rw (c.in-AllValid.is, c.into_nullable.ensures) (kept_of_all_valid (valid_of c.args.rhs))
