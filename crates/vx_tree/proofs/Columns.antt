@@ -21,10 +21,10 @@ use Rattle.vx_tree.specs.Shapes.{struct_shape}
 use Rattle.vx_tree.specs.Formed.{AllLen, column_count}
 use Rattle.vx_tree.specs.Fitting.{AllFormed, ColumnsFormed}
 use Rattle.vx_tree.specs.Faults.{take_overflow, columns_overflow}
-use Rattle.vx_tree.specs.Operations.{IsSlice, IsSelected, IsValidSelected, AreBelow}
+use Rattle.vx_tree.specs.Operations.{IsSlice, IsSelected, IsValidSelected, AreBelow, IsValidSlice}
 use Rattle.vx_tree.specs.Plain.{ArePlain}
 use Rattle.vx_tree.specs.Extents.{struct_extent, extent, extents_of}
-use Rattle.vx_tree.specs.Columns.{AllReach, AllHave, AreAlike, AreRowsAt, AreSelected, AreFields}
+use Rattle.vx_tree.specs.Columns.{AllReach, AllHave, AreAlike, AreRowsAt, AreSelected, AreSlices, AreFields}
 
 -- ---- one of the columns
 
@@ -174,8 +174,33 @@ AreSelected-from_each ps ts us i h l =
       extents = selected_extents ps ts us each;
     }
 
-pub IsRowsAt-slice : (t : Tree) (start n : ℕ) (u : Tree) → IsSlice t start n u → IsRowsAt t (λ i. start + i) n u
-IsRowsAt-slice t start n u h = record { len = h.len; kind = h.kind; rows = h.rows }
+sliced_plain : (start n : ℕ) (ts us : List Tree) → AllZip (λ t u. IsSlice t start n u) ts us → ArePlain (trees_from ts) → ArePlain (trees_from us)
+sliced_plain start n [] [] h p = tt
+sliced_plain start n [] (u ∷ us) h p = absurd h
+sliced_plain start n (t ∷ ts) [] h p = absurd h
+sliced_plain start n (t ∷ ts) (u ∷ us) h p = (h.0.plain p.0, sliced_plain start n ts us h.1 p.1)
+
+sliced_extents : (start n : ℕ) (ts us : List Tree) → AllZip (λ t u. IsSlice t start n u) ts us → ArePlain (trees_from ts) → extents_of (trees_from us) ≡ extents_of (trees_from ts)
+sliced_extents start n [] [] h p = refl
+sliced_extents start n [] (u ∷ us) h p = absurd h
+sliced_extents start n (t ∷ ts) [] h p = absurd h
+sliced_extents start n (t ∷ ts) (u ∷ us) h p = λ i. extent (h.0.extent p.0 i) (sliced_extents start n ts us h.1 p.1 i)
+
+sliced_rows : (start n : ℕ) (ts us : List Tree) → AllZip (λ t u. IsSlice t start n u) ts us → AllZip (λ t u. IsRowsAt t (λ i. start + i) n u) ts us
+sliced_rows start n [] [] h = tt
+sliced_rows start n [] (u ∷ us) h = absurd h
+sliced_rows start n (t ∷ ts) [] h = absurd h
+sliced_rows start n (t ∷ ts) (u ∷ us) h = (record { len = h.0.len; kind = h.0.kind; rows = h.0.rows }, sliced_rows start n ts us h.1)
+
+pub AreSlices-from_each : (start n : ℕ) (ts us : List Tree) (i : ℕ) → AllZip (λ t u. IsSlice t start n u) (take i ts) us → length ts ≤ i → AreSlices (trees_from ts) start n (trees_from us)
+AreSlices-from_each start n ts us i h l =
+    let each = AllZip-all (λ t u. IsSlice t start n u) ts us i h l in
+    let rows = sliced_rows start n ts us each in
+    record {
+      rows_at = record { alike = alike_each n ts us (alike_of_rows (λ i. start + i) n ts us rows); rows = fields_each (λ i. start + i) n ts us rows };
+      plain = sliced_plain start n ts us each;
+      extents = sliced_extents start n ts us each;
+    }
 
 -- ---- what is known of columns, one after another
 
@@ -257,4 +282,16 @@ struct_selected t u ns ts us v w m ps a b h s =
       plain = λ p. (h.plain p.0, s.plain p.1);
       extent = λ p. ap struct_extent (h.extents p.0);
       rows = λ i l. record_row ns ts us v w m (length ps) i (slice_index ps i) (s.bits i l) (h.rows_at.rows ns i l);
+    })
+
+pub struct_sliced : (t u : Tree) (ns : List (List ℕ)) (ts us : Trees) (v w : Valid) (m start n : ℕ) → t ≡ structure ns ts v m → u ≡ structure ns us w n
+    → AreSlices ts start n us → IsValidSlice v start n w → IsSlice t start n u
+struct_sliced t u ns ts us v w m start n a b h s =
+    rw (a, b) (record {
+      len = refl;
+      kind = λ i. records ns (h.rows_at.alike.kinds i) (s.kind i);
+      shape = ap struct_shape s.state;
+      plain = λ p. (h.plain p.0, s.plain p.1);
+      extent = λ p. ap struct_extent (h.extents p.0);
+      rows = λ i l. record_row ns ts us v w m n i (start + i) (s.bits i l) (h.rows_at.rows ns i l);
     })

@@ -32,6 +32,8 @@ slices_compose t r s start n from m h k l =
       len = k.len;
       kind = k.kind ∙ h.kind;
       shape = k.shape ∙ ap sliced_shape h.shape ∙ sliced_twice (shape_of t);
+      plain = λ p. k.plain (h.plain p);
+      extent = λ p. k.extent (h.plain p) ∙ h.extent p;
       rows = λ i small.
           let place : start + (from + i) ≡ start + from + i = omega arith in
           k.rows i small ∙ h.rows (from + i) (omega arith) ∙ ap (row_at t) place;

@@ -178,6 +178,8 @@ dictionary_sliced t r c v d f start n a b h =
       len = h.len;
       kind = ap (λ k. or_nullable (is_nullable_kind k) (kind_of v)) h.kind;
       shape = ap (λ s. dictionary_shape (taken_state (tree_state v) s) false) (state_by_shape c d (sliced_shape (shape_of c)) (tree_state c) h.shape (sliced_state (shape_of c) ∙ sym (state_told c)));
+      plain = λ p. absurd p;
+      extent = λ p. absurd p;
       rows = λ i l. ap (λ x. picked (row_at v) (position_in x)) (h.rows i l);
     })
 

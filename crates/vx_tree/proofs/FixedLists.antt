@@ -61,6 +61,8 @@ fixed_lists_sliced t u e r k m start end v w l a b s h =
       len = refl;
       kind = λ i. fixed_lists (s.kind i) k (h.kind i);
       shape = ap fixed_list_shape h.state;
+      plain = λ p. (s.plain p.0, h.plain p.1);
+      extent = λ p. ap fixed_list_extent (s.extent p.0);
       rows = λ i p. list_row e r v w k m (end - start) i (start + i) (h.bits i p) (rows_range-same (row_at r) (row_at e) (i * k) ((start + i) * k) k (λ j q. one i j p q));
     })
   where

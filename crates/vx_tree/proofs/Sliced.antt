@@ -27,5 +27,7 @@ lists_sliced t u e o s o2 s2 v w f start n a b x y h =
       len = x.len;
       kind = ap (lists (kind_of e)) h.kind;
       shape = ap (λ st. list_view_shape e st f) h.state;
+      plain = λ p. (p.0, x.plain p.1, y.plain p.2, h.plain p.3);
+      extent = λ p. refl;
       rows = λ i l. rw (h.bits i l, x.rows i l, y.rows i l) refl;
     })

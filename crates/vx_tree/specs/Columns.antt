@@ -30,9 +30,11 @@ pub record AreRowsAt (ts : Trees) (f : ℕ → ℕ) (n : ℕ) (us : Trees) : Typ
   pub alike : AreAlike ts n us
   pub rows : (names : List (List ℕ)) (i : ℕ) → i < n → fields_at us names i ≡ fields_at ts names (f i)
 
--- n rows of each column, from a start on
-abbrev pub AreSlices : Trees → ℕ → ℕ → Trees → Type 0
-AreSlices ts start n us = AreRowsAt ts (λ i. start + i) n us
+-- n rows of each column, from a start on, plain and of the same extents where the columns are plain
+pub record AreSlices (ts : Trees) (start n : ℕ) (us : Trees) : Type 0 where
+  pub rows_at : AreRowsAt ts (λ i. start + i) n us
+  pub plain : ArePlain ts → ArePlain us
+  pub extents : ArePlain ts → extents_of us ≡ extents_of ts
 
 -- the rows of each column at positions, plain and of the same extents where the columns are plain
 pub record AreSelected (ts : Trees) (ps : List ℕ) (us : Trees) : Type 0 where

@@ -20,12 +20,15 @@ pub record IsSlice (t : Tree) (start n : ℕ) (r : Tree) : Type 0 where
   pub len : tree_len r ≡ n
   pub kind : kind_of r ≡ kind_of t
   pub shape : shape_of r ≡ sliced_shape (shape_of t)
+  pub plain : IsPlain t → IsPlain r
+  pub extent : IsPlain t → extent_of r ≡ extent_of t
   pub rows : (i : ℕ) → i < n → row_at r i ≡ row_at t (start + i)
 
 pub record IsValidSlice (v : Valid) (start n : ℕ) (w : Valid) : Type 0 where
   pub fits : ValidFits w n
   pub kind : nullable w ≡ nullable v
   pub state : state_of w ≡ state_of v
+  pub plain : IsPlainValid v → IsPlainValid w
   pub bits : (i : ℕ) → i < n → is_valid_at w i ≡ is_valid_at v (start + i)
 
 -- ---- selecting: the rows at positions

@@ -4,12 +4,13 @@ use Rattle.vx_tree.specs.declared.array.ArrayRef.TheDeep.{size-ArrayRef}
 use Rattle.vx_tree.specs.Parts.{tree_of, valid_of}
 use Rattle.vx_tree.specs.Meaning.{tree_len, trees_from}
 use Rattle.vx_tree.specs.Formed.{ValidCovers-from_fits, WellFormed}
+use Rattle.vx_tree.specs.Operations.{IsSlice}
 use Rattle.vx_tree.specs.Tree.{Tree, list_view, structure}
 use Rattle.vx_base.proofs.Refused.{Gives-weaker}
 use Rattle.vx_tree.proofs.Dictionaries.{dictionary_sliced}
 use Rattle.vx_tree.proofs.FixedLists.{fixed_lists_sliced}
 use Rattle.vx_tree.proofs.Sliced.{lists_sliced}
-use Rattle.vx_tree.proofs.Columns.{IsRowsAt, IsRowsAt-slice, AreRowsAt-from_each, AllReach-at, AllReach-from_len, AllZip-next, columns_below}
+use Rattle.vx_tree.proofs.Columns.{AreSlices-from_each, struct_sliced, AllReach-at, AllReach-from_len, AllZip-next, columns_below}
 use Rattle.vx_tree.proofs.array.+slice.Goals as goal
 
 pub ArrayRef::slice_dictionary-returns : goal.ArrayRef::slice_dictionary-returns
@@ -58,9 +59,17 @@ ArrayRef::slice_columns-slice_within-requires t c =
 pub ArrayRef::slice_columns-loop-column-preserved : goal.ArrayRef::slice_columns-loop-column-preserved
 ArrayRef::slice_columns-loop-column-preserved t c =
     let n = c.args.end - c.args.start in
-    AllZip-next (λ x y. IsRowsAt x (λ i. c.args.start + i) n y) c.args.columns.now c.loop-column.sliced.items c.push.new.self.items c.loop-column.column-index c.column-item.result c.in_ok-slice_within.field-0
-    c.loop-column.invariant c.loop-column-test.true c.column-item.is (IsRowsAt-slice c.column-item.result c.args.start n c.in_ok-slice_within.field-0 c.in_ok-slice_within.ensures) c.in_ok-push.ensures.items
+    AllZip-next (λ x y. IsSlice x c.args.start n y) c.args.columns.now c.loop-column.sliced.items c.push.new.self.items c.loop-column.column-index c.column-item.result c.in_ok-slice_within.field-0
+    c.loop-column.invariant c.loop-column-test.true c.column-item.is c.in_ok-slice_within.ensures c.in_ok-push.ensures.items
 
 pub ArrayRef::slice_columns-returns : goal.ArrayRef::slice_columns-returns
 ArrayRef::slice_columns-returns t c =
-    AreRowsAt-from_each (λ i. c.args.start + i) (c.args.end - c.args.start) c.args.columns.now c.loop-column.sliced.items c.loop-column.column-index c.loop-column.invariant c.loop-column-test.false
+    AreSlices-from_each c.args.start (c.args.end - c.args.start) c.args.columns.now c.loop-column.sliced.items c.loop-column.column-index c.loop-column.invariant c.loop-column-test.false
+
+pub ArrayRef::slice_struct-returns : goal.ArrayRef::slice_struct-returns
+ArrayRef::slice_struct-returns t c =
+    let same = sym c.layout.ensures.parts ∙ ap tree_of c.in-Struct.is in
+    Gives-weaker c.with_parts.result _ _
+    (λ a e. struct_sliced c.args.self.now a c.in-Struct.names (trees_from c.in-Struct.columns.items) (trees_from c.in_ok-columns.columns.items) (valid_of c.in-Struct.validity) (valid_of c.in_ok-validity.validity) c.in-Struct.len c.args.start (c.args.end - c.args.start)
+    same (rw c.in_ok-names.ensures at e) (rw c.deref.ensures.value at c.in_ok-columns.ensures) c.in_ok-validity.ensures)
+    c.with_parts.ensures
