@@ -29,8 +29,8 @@ const INLINED_HIGH_BITS: u128 = 0x8080_8080_8080_8080_8080_8080_0000_0000;
 /// is judged alone: bytes that no valid view refers to never refuse, and neither does a null row.
 ///
 /// The `budget` is the number of bytes of whole buffers that may be read ahead, as
-/// `check_views_counted` reads them; it changes no answer. Asks one boolean of the mask for each
-/// view.
+/// `check_views_counted` reads them; it changes no answer. Asks at most one boolean of the mask for
+/// each view.
 pub fn check_views(
     alloc: Global,
     views: &[BinaryView],
