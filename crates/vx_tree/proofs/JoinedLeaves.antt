@@ -35,6 +35,10 @@ bools-content : (t : Tree) → is_bools t ≡ true → HasContent (λ u j. boole
 bools-content (bools bits v) h = λ j l. shown (is_valid_at v j) (boolean (bool_at bits j)) refl
 bools-content _ h = cc
 
+-- so many bits as rows
+pub length-bits : (ts : List Tree) → All (λ t. is_bools t ≡ true) ts → length (flat_map bits_in ts) ≡ joined_len ts
+length-bits ts h = length-joined bits_in ts (λ k d l. bools-hold (get_or ts k d) (h k d l))
+
 pub bools_joined : (ts : List Tree) (v : Valid) (bits : List Bool) → All (λ t. is_bools t ≡ true) ts → bits ≡ flat_map bits_in ts → IsValidJoined (nullable v) ts v → IsJoined (booleans (nullable v)) ts (bools bits v)
 bools_joined ts v bits h e valid =
     let hold : HoldEach bits_in ts = λ k d l. bools-hold (get_or ts k d) (h k d l) in

@@ -8,7 +8,7 @@ ghost use Rattle.vx_base.specs.ValueRows.{row_under};
 ghost use Rattle.vx_tree.specs.Tree.{bools};
 ghost use Rattle.vx_tree.specs.Layouts.{is_bools};
 ghost use Rattle.vx_tree.specs.Meaning.{tree_len, kind_of, row_at, is_valid_at, nullable};
-ghost use Rattle.vx_tree.specs.Joined.{IsJoined, IsValidJoined, bits_in};
+ghost use Rattle.vx_tree.specs.Joined.{joined_len, IsJoined, IsValidJoined, bits_in};
 ghost use Rattle.vx_tree.specs.Formed.{ValidFits};
 ghost use Rattle.vx_tree.specs.Parts.{valid_of};
 ghost use Rattle.vx_tree.specs.Canonical.{IsCanonical};
@@ -141,6 +141,7 @@ impl ArrayRef {
         validity: Validity,
     ) -> Result<ArrayRef, VortexError>
         requires layout { All (λ t. is_bools t ≡ true) arrays.now }
+        requires len { len ≡ joined_len arrays.now }
         requires valid { IsValidJoined (nullable (valid_of validity)) arrays.now (valid_of validity) }
         ensures { Gives result (IsJoined (booleans (nullable (valid_of validity))) arrays.now) }
     {
@@ -151,7 +152,8 @@ impl ArrayRef {
 
 // The bits of arrays of booleans, one array after another.
 fn joined_bits(alloc: Global, arrays: &[ArrayRef], len: usize) -> Result<BitBuffer, VortexError>
-    requires { All (λ t. is_bools t ≡ true) arrays.now }
+    requires layout { All (λ t. is_bools t ≡ true) arrays.now }
+    requires len { len ≡ joined_len arrays.now }
     ensures { Gives result (λ b. b.bits ≡ flat_map bits_in arrays.now) }
 {
     let mut joined = BitBufferMut::with_capacity(alloc, len)?;
