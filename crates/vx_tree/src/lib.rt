@@ -2,6 +2,7 @@
 #![tactic(auto)]
 
 mod array;
+mod collect;
 mod concat;
 mod execute_scalar;
 mod filter;
@@ -28,6 +29,7 @@ mod typed_array;
 mod validity;
 
 pub use crate::array::{ArrayRef, Layout, Validity};
+pub use crate::collect::collect_items;
 pub use crate::into_array::IntoArray;
 pub use crate::laws::{
     faults_of_worked_arrays, fewer_rows_are_countable, rows_fit_their_dtype, rows_fit_their_kind,

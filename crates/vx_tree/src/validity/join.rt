@@ -15,6 +15,7 @@ ghost use Rattle.vx_tree.specs.Validities.{valid_from};
 ghost use Rattle.vx_tree.specs.Joins.{executed, AreLens, mask_of, joined_mask, are_all, joined_validity, types_fault, join_fault};
 
 use crate::array::Validity;
+use crate::collect::collect_items;
 use crate::validity::told_by;
 use std::alloc::Global;
 use std::fmt;
@@ -186,20 +187,4 @@ pub(crate) fn bits_of_mask(alloc: Global, mask: &Mask) -> Result<BitBuffer, Vort
         Some(values) => values.bit_buffer(alloc),
         None => unreachable!(),
     }
-}
-
-// The items, in order.
-fn collect_items<T: Drop, I: Iterator<Item = T> + Drop>(
-    alloc: Global,
-    items: I,
-) -> Result<Vec<T>, VortexError>
-    requires can { I.can_next items }
-    requires ends { IsFinite (I.remaining items) }
-    ensures { Gives result (λ list. Drains I.next_gives items list.items) }
-{
-    let mut list = Vec::new(alloc);
-    for item in items {
-        list.push(item)?;
-    }
-    Ok(list)
 }

@@ -1,5 +1,5 @@
 use Rattle.std.proofs.Common.{◌≡◌}
-use Rattle.vx_tree.proofs.validity.join.collect_items.Given as goal
+use Rattle.vx_tree.proofs.collect.collect_items.Given as goal
 
 abbrev pub invariant-loop-item : goal.invariant-loop-item
 invariant-loop-item g l = l.list.items ≡ l.yielded
