@@ -6,7 +6,7 @@ use Rattle.vx_tree.specs.Tree.{Tree, fixed_list, Valid}
 use Rattle.vx_tree.specs.Meaning.{tree_len, row_at, rows, rows_range, is_valid_at}
 use Rattle.vx_tree.specs.Formed.{WellFormed}
 use Rattle.vx_tree.proofs.Fitting.{list_within}
-use Rattle.vx_lists.proofs.ViewLayouts.{take-drop-rows, list_in_present}
+use Rattle.vx_lists.proofs.ListViews.ViewLayouts.{take-drop-rows, list_in_present}
 
 -- where row i is present, it is the list of the element rows at its place
 pub list_of_fixed_elements : (t e : Tree) (k n : ℕ) (v : Valid) (i : ℕ) (xs : List Row) → t ≡ fixed_list e k v n → WellFormed (fixed_list e k v n) → i < tree_len t

@@ -1,12 +1,3 @@
-pub mod ListLayout
-pub mod CountBytes
 pub mod ListViews
-pub mod ListViewFaults
 pub mod FixedSizeLists
-pub mod ListReferences
-pub mod PlannedRuns
-pub mod RebuildModes
-pub mod Records
 pub mod Structs
-pub mod StructFaults
-pub mod StructConcats

@@ -1,17 +1,23 @@
 -- What a list view is made of, what it stands for, and what rebuilding gives.
+pub mod Layout
+pub mod CountBytes
+pub mod Faults
+pub mod References
+pub mod PlannedRuns
+pub mod Modes
 use Rattle.std.specs.Prelude.{◌≡◌, ℕ, Bool, true, false, List, map, codes, Option}
 use Rattle.vx_base.specs.declared.ptypes.PType.{PType}
 use Rattle.vx_base.specs.declared.ptypes.PType.TheVariants.{U8, U16, U32, U64, I8, I16, I32, I64}
 use Rattle.vx_base.specs.Rows.{Row, count_in, list_in}
 use Rattle.vx_base.specs.Kinds.{integers, integer_type}
-use Rattle.vx_tree.specs.Tree.{Tree, bools, primitive, fixed_list, list_view, structure, view_array, Valid}
-use Rattle.vx_tree.specs.Tree.{non_nullable}
+use Rattle.vx_tree.specs.Tree.{Tree, fixed_list, list_view}
 pub use Rattle.vx_tree.specs.Layouts.{is_list_view}
+pub use Rattle.vx_tree.specs.Slots.{validity_of}
 use Rattle.vx_tree.specs.Meaning.{tree_len, kind_of, rows, valid_mask}
 use Rattle.vx_tree.specs.Shapes.{state_of}
 use Rattle.vx_tree.specs.Formed.{IsCounts}
-use Rattle.vx_lists.specs.CountBytes.{HoldCounts}
-use Rattle.vx_lists.specs.ListLayout.{ListLayout, layout, canonical, valid_sizes, valid_total, joined_positions}
+use Rattle.vx_lists.specs.ListViews.CountBytes.{HoldCounts}
+use Rattle.vx_lists.specs.ListViews.Layout.{ListLayout, layout, canonical, valid_sizes, valid_total, joined_positions}
 
 -- ---- the parts of a list view; another layout has none
 
@@ -27,15 +33,6 @@ offsets_of t = t
 abbrev pub sizes_of : Tree → Tree
 sizes_of (list_view e o s v f) = s
 sizes_of t = t
-
-abbrev pub validity_of : Tree → Valid
-validity_of (bools bits v) = v
-validity_of (primitive t bs v) = v
-validity_of (fixed_list e k v n) = v
-validity_of (list_view e o s v f) = v
-validity_of (structure ns ts v n) = v
-validity_of (view_array vs bs u v) = v
-validity_of _ = non_nullable
 
 -- whether the lists are known to be consecutive
 abbrev pub flag_of : Tree → Bool

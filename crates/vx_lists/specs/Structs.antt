@@ -1,5 +1,9 @@
 -- Records by columns: what they are made of, and what the calls on their columns give.
-use Rattle.std.specs.Prelude.{◌≡◌, ◌<◌, ℕ, Bool, true, List, [], ◌∷◌, ◌++◌, length, map, slice_get, if◌then◌else◌, Option, Some, None, MatchBool}
+pub mod Records
+pub mod Faults
+pub mod Concats
+use Rattle.std.specs.Prelude.{◌≡◌, ◌<◌, ℕ, Bool, true, List, [], ◌∷◌, ◌++◌, length, map, slice_get, if◌then◌else◌}
+use Rattle.std.specs.Prelude.{Option, Some, None, MatchBool}
 use Rattle.std.specs.Borrow.{Bor}
 use Rattle.std.specs.List.{AllZip, All, flat_map, remove}
 use Rattle.std.specs.Option.{option_map}
@@ -12,7 +16,7 @@ use Rattle.vx_tree.specs.Plain.{IsPlain}
 use Rattle.vx_tree.specs.Shapes.{state_of, tree_state}
 use Rattle.vx_tree.specs.Validities.{array_of, is_full_state}
 use Rattle.vx_lists.specs.ListViews.{validity_of}
-use Rattle.vx_lists.specs.Records.{pushed, pushed_kind}
+use Rattle.vx_lists.specs.Structs.Records.{pushed, pushed_kind}
 pub use Rattle.vx_tree.specs.Layouts.{is_struct}
 
 -- ---- the parts

@@ -22,13 +22,13 @@ use Rattle.vx_tree.specs.Plain.{IsPlain}
 use Rattle.vx_tree.specs.Shapes.{tree_state, told, shape_of, sliced_shape, selected_shape, nulled_shape, taken_shape}
 use Rattle.vx_tree.proofs.RowLists.{length-valid_mask}
 use Rattle.vx_leaves.specs.Narrow.{IsNarrowed}
-use Rattle.vx_lists.specs.declared.rebuild.ListViewRebuildMode.{ListViewRebuildMode}
-use Rattle.vx_lists.specs.declared.rebuild.ListViewRebuildMode.TheVariants.{MakeZeroCopyToList, TrimElements, MakeExact, OverlapCompression}
-use Rattle.vx_lists.specs.ListReferences.{IsTrimmedToBounds}
-use Rattle.vx_lists.specs.ListViewFaults.{rebuild_fault}
+use Rattle.vx_lists.specs.declared.list_view.rebuild.ListViewRebuildMode.{ListViewRebuildMode}
+use Rattle.vx_lists.specs.declared.list_view.rebuild.ListViewRebuildMode.TheVariants.{MakeZeroCopyToList, TrimElements, MakeExact, OverlapCompression}
+use Rattle.vx_lists.specs.ListViews.References.{IsTrimmedToBounds}
+use Rattle.vx_lists.specs.ListViews.Faults.{rebuild_fault}
 use Rattle.vx_lists.specs.ListViews.{flag_of, with_flag, IsRebuilt}
-use Rattle.vx_lists.specs.Records.{names_in}
-use Rattle.vx_lists.specs.RebuildModes.{IsMadeBy, IsRebuiltBy}
+use Rattle.vx_lists.specs.Structs.Records.{names_in}
+use Rattle.vx_lists.specs.ListViews.Modes.{IsMadeBy, IsRebuiltBy}
 use Rattle.vx_run.specs.declared.steps.Step.TheVariants.{Slice, Take, Filter, Mask, Concat, Canonical, Rebuild, Narrow}
 use Rattle.vx_run.specs.Steps.{named_rows, rows_of, joined_names, array_at, arrays_at, joined_kind, narrowed_kind, IsStep}
 

@@ -9,7 +9,7 @@ use Rattle.vx_tree.specs.Tree.{Tree, bools, primitive, constant, dictionary, fix
 use Rattle.vx_base.specs.Integers.{number_nth}
 use Rattle.vx_tree.specs.Meaning.{tree_len, kind_of, row_at, rows, rows_range}
 use Rattle.vx_leaves.specs.Leaves.{IsPrimitive}
-use Rattle.vx_lists.specs.ListLayout.{items_of, size_of, starts_from}
+use Rattle.vx_lists.specs.ListViews.Layout.{items_of, size_of, starts_from}
 use Rattle.vx_lists.specs.ListViews.{is_list_view, counts_in, elements_of, offsets_of, sizes_of, flag_of, list_rows, IsRebuilt}
 use Rattle.vx_uses.proofs.EndToEnd.{rebuilt_offsets, rebuilt_elements}
 

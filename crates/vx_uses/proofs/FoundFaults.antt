@@ -7,7 +7,7 @@ use Rattle.vx_base.specs.declared.errors.VortexError.TheVariants.{Negative, OutO
 use Rattle.vx_base.specs.Refusals.{Refusal, refusal_of, IsMemoryOr, mismatched_types, length_mismatch, negative, overflow, out_of_bounds, or_else, IsLeastFault, FirstFaultIsLeast}
 use Rattle.vx_tree.specs.Tree.{Tree, non_nullable}
 use Rattle.vx_tree.specs.Meaning.{tree_len, kind_of}
-use Rattle.vx_lists.specs.ListViewFaults.{list_view_fault, list_rows_fault, list_row_fault, whole_at}
+use Rattle.vx_lists.specs.ListViews.Faults.{list_view_fault, list_rows_fault, list_row_fault, whole_at}
 use Rattle.vx_uses.specs.Uses.{IsFirstFault, IsNegative, NamesNoRow}
 
 -- a fault that is none of types and lengths is one of a row

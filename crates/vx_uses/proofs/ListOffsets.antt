@@ -7,7 +7,7 @@ use Rattle.vx_base.specs.Rows.{Row, null, is_present, list_in, count_in}
 use Rattle.vx_tree.specs.Tree.{Tree, Valid, bools, primitive, constant, dictionary, fixed_list, list_view, structure, view_array}
 use Rattle.vx_tree.specs.Formed.{WellFormed, IsConsecutive}
 use Rattle.vx_tree.specs.Meaning.{tree_len, row_at, rows, valid_mask, is_valid_at}
-use Rattle.vx_lists.specs.ListLayout.{lists_at, list_at, StandsFor}
+use Rattle.vx_lists.specs.ListViews.Layout.{lists_at, list_at, StandsFor}
 use Rattle.vx_lists.specs.ListViews.{elements_of, offsets_of, sizes_of, validity_of, flag_of, with_flag, counts_in, mask_of, list_layout_of, list_rows, IsRebuilt}
 use Rattle.vx_uses.specs.Uses.{AreListOffsets}
 

@@ -5,12 +5,12 @@ use Rattle.std.proofs.lemmas.Bool.{ne_eqb}
 use Rattle.vx_base.specs.Refusals.{not_implemented}
 use Rattle.vx_tree.specs.Tree.{Tree}
 use Rattle.vx_tree.specs.Meaning.{tree_len}
-use Rattle.vx_lists.specs.declared.rebuild.ListViewRebuildMode.{ListViewRebuildMode}
-use Rattle.vx_lists.specs.declared.rebuild.ListViewRebuildMode.TheVariants.{MakeZeroCopyToList, TrimElements, MakeExact, OverlapCompression}
-use Rattle.vx_lists.specs.ListReferences.{IsTrimmedToBounds}
-use Rattle.vx_lists.specs.ListViewFaults.{rebuild_fault}
+use Rattle.vx_lists.specs.declared.list_view.rebuild.ListViewRebuildMode.{ListViewRebuildMode}
+use Rattle.vx_lists.specs.declared.list_view.rebuild.ListViewRebuildMode.TheVariants.{MakeZeroCopyToList, TrimElements, MakeExact, OverlapCompression}
+use Rattle.vx_lists.specs.ListViews.References.{IsTrimmedToBounds}
+use Rattle.vx_lists.specs.ListViews.Faults.{rebuild_fault}
 use Rattle.vx_lists.specs.ListViews.{flag_of, with_flag, IsRebuilt}
-use Rattle.vx_lists.specs.RebuildModes.{IsMadeBy, IsRebuiltBy}
+use Rattle.vx_lists.specs.ListViews.Modes.{IsMadeBy, IsRebuiltBy}
 
 -- its clauses on success
 pub record IsAnswer (mode : ListViewRebuildMode) (t r : Tree) : Type 0 where

@@ -10,7 +10,7 @@ use Rattle.vx_tree.specs.Tree.{Tree, list_view, non_nullable}
 use Rattle.vx_tree.specs.Faults.{slice_fault, indices_fault}
 use Rattle.vx_tree.specs.Layouts.{is_fixed_list, is_struct}
 use Rattle.vx_tree.specs.Meaning.{tree_len, kind_of, row_at}
-use Rattle.vx_lists.specs.ListViewFaults.{list_view_fault, list_row_fault, whole_at}
+use Rattle.vx_lists.specs.ListViews.Faults.{list_view_fault, list_row_fault, whole_at}
 use Rattle.vx_uses.specs.declared.reader.Lists.{Lists}
 use Rattle.vx_uses.specs.declared.reader.Lists.TheVariants.{Read, NegativeRow, EndsPast, Refused}
 

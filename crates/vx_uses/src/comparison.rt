@@ -4,7 +4,7 @@ ghost use Rattle.std.specs.Prelude.{◌≡◌, ◌↔◌, true, IfOk, IsTrue};
 ghost use Rattle.vx_base.specs.Kinds.{is_integers};
 ghost use Rattle.vx_base.specs.Refusals.{Gives, Refuses, or_else};
 ghost use Rattle.vx_tree.specs.Meaning.{tree_len, kind_of, rows};
-ghost use Rattle.vx_lists.specs.ListViewFaults.{rebuild_overflow};
+ghost use Rattle.vx_lists.specs.ListViews.Faults.{rebuild_overflow};
 ghost use Rattle.vx_lists.specs.ListViews.{elements_of, mask_of};
 
 use std::alloc::Global;

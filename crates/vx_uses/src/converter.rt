@@ -6,10 +6,10 @@ ghost use Rattle.vx_base.specs.Refusals.{Refuses};
 ghost use Rattle.vx_base.specs.declared.errors.VortexError.TheVariants.{Memory};
 ghost use Rattle.vx_tree.specs.Formed.{IsConsecutive};
 ghost use Rattle.vx_tree.specs.Meaning.{tree_len, kind_of, rows};
-ghost use Rattle.vx_lists.specs.declared.rebuild.ListViewRebuildMode.TheVariants.{MakeZeroCopyToList};
-ghost use Rattle.vx_lists.specs.ListLayout.{items_of, size_of, starts_from};
+ghost use Rattle.vx_lists.specs.declared.list_view.rebuild.ListViewRebuildMode.TheVariants.{MakeZeroCopyToList};
+ghost use Rattle.vx_lists.specs.ListViews.Layout.{items_of, size_of, starts_from};
 ghost use Rattle.vx_lists.specs.ListViews.{elements_of, offsets_of, sizes_of, flag_of, list_rows};
-ghost use Rattle.vx_lists.specs.ListViewFaults.{rebuild_overflow, rebuild_fault};
+ghost use Rattle.vx_lists.specs.ListViews.Faults.{rebuild_overflow, rebuild_fault};
 ghost use Rattle.vx_uses.specs.Uses.{AreListOffsets, AreListsOf};
 
 use std::alloc::Global;

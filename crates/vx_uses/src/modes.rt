@@ -3,9 +3,9 @@
 ghost use Rattle.std.specs.Prelude.{◌≡◌, ◌<◌, false, IfOk};
 ghost use Rattle.vx_base.specs.Refusals.{Refuses};
 ghost use Rattle.vx_tree.specs.Meaning.{tree_len, rows};
-ghost use Rattle.vx_lists.specs.ListViewFaults.{rebuild_fault};
+ghost use Rattle.vx_lists.specs.ListViews.Faults.{rebuild_fault};
 ghost use Rattle.vx_lists.specs.ListViews.{AreAlike};
-ghost use Rattle.vx_lists.specs.RebuildModes.{IsRebuiltBy};
+ghost use Rattle.vx_lists.specs.ListViews.Modes.{IsRebuiltBy};
 
 use std::alloc::Global;
 use vx_base::VortexError;

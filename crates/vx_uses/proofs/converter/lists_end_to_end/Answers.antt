@@ -1,7 +1,7 @@
 use Rattle.std.proofs.Common.{◌≡◌, ◌<◌, ◌≤◌, [], ◌∷◌, ◌++◌, map, sym, ◌∙◌, ap, arith}
 use Rattle.vx_base.specs.Kinds.{lists, is_nullable_kind}
 use Rattle.vx_tree.specs.Meaning.{tree_len, kind_of}
-use Rattle.vx_lists.specs.ListLayout.{size_of, starts_from}
+use Rattle.vx_lists.specs.ListViews.Layout.{size_of, starts_from}
 use Rattle.vx_lists.specs.ListViews.{elements_of, offsets_of, list_rows}
 use Rattle.vx_uses.proofs.EndToEnd.{one_more, all_read, rebuilt_offsets, rebuilt_count, list_kind}
 use Rattle.vx_uses.proofs.converter.lists_end_to_end.Goals as goal

@@ -1,0 +1,4 @@
+pub mod RebuiltAlike
+pub mod ExactViews
+pub mod AlikeViews
+pub mod RebuiltTwice

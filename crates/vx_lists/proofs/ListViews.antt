@@ -1,0 +1,16 @@
+pub mod CanonicalRows
+pub mod TidyLayouts
+pub mod MappedLayouts
+pub mod PlannedRows
+pub mod PlannedNumbers
+pub mod ViewLayouts
+pub mod CountBytes
+pub mod ValidRuns
+pub mod CountArrays
+pub mod RebuiltViews
+pub mod Faults
+pub mod Plans
+pub mod MarkedRuns
+pub mod ReferencedElements
+pub mod TrimmedViews
+pub mod TrimmedLayouts

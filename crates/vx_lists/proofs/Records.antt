@@ -1,0 +1,9 @@
+pub mod Parts
+pub mod Faults
+pub mod PushedNulls
+pub mod NamedColumns
+pub mod Columns
+pub mod ColumnRows
+pub mod PlainColumns
+pub mod ConcatenatedRecords
+pub mod LentArrays

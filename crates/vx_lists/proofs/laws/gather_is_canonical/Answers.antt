@@ -1,5 +1,0 @@
-use Rattle.vx_lists.proofs.MappedLayouts.{canonical-numbered}
-use Rattle.vx_lists.proofs.laws.gather_is_canonical.Goals as goal
-
-pub returns : goal.returns
-returns g c = λ l d. canonical-numbered l d

@@ -1,5 +1,0 @@
-use Rattle.vx_lists.proofs.ListFaults.{AreChecked}
-use Rattle.vx_lists.proofs.list_checks.check_list_rows.Given as goal
-
-abbrev pub invariant-loop-row : goal.invariant-loop-row
-invariant-loop-row l = AreChecked l.count l.offsets l.sizes l.row

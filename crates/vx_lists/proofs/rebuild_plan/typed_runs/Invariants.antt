@@ -1,6 +1,0 @@
-use Rattle.vx_lists.specs.CountBytes.{counts_of}
-use Rattle.vx_lists.proofs.PlannedRows.{AreRuns}
-use Rattle.vx_lists.proofs.rebuild_plan.typed_runs.Given as goal
-
-abbrev pub invariant-loop-row : goal.invariant-loop-row
-invariant-loop-row g l = AreRuns (counts_of g.O.NativePType.PTYPE l.offsets) (counts_of g.S.NativePType.PTYPE l.sizes) l.row l.runs.items l.start l.end

@@ -1,0 +1,77 @@
+// Arrays of counts, as offsets and sizes are: read one at a time, as bytes of their type, and made.
+
+ghost use Rattle.std.specs.Prelude.{◌≡◌, ◌<◌, pos, true, IfOk, IfSome};
+ghost use Rattle.std.specs.List.{All};
+ghost use Rattle.vx_base.specs.Integers.{Holds};
+ghost use Rattle.vx_base.specs.Kinds.{integer_type, is_plain_integers};
+ghost use Rattle.vx_base.specs.Refusals.{Gives};
+ghost use Rattle.vx_base.specs.Rows.{count_in};
+ghost use Rattle.vx_tree.specs.Formed.{IsCounts};
+ghost use Rattle.vx_tree.specs.Meaning.{tree_len, kind_of, row_at};
+ghost use Rattle.vx_tree.specs.Tree.{primitive, non_nullable};
+ghost use Rattle.vx_lists.specs.ListViews.CountBytes.{HoldCounts};
+ghost use Rattle.vx_lists.specs.ListViews.{counts_in};
+
+use std::alloc::Global;
+use vx_base::{ByteBuffer, PType, VortexError, read_counts, write_counts};
+use vx_tree::{ArrayRef, Layout};
+
+// Row `i` of an array of counts.
+#[tactic(auto, using(crate::proofs::ListViews::CountArrays::integer_kinds))]
+pub(crate) fn count_at(array: &ArrayRef, i: usize) -> usize
+    requires counts { IsCounts array.now }
+    requires in_bounds { i < tree_len array.now }
+    ensures value { result ≡ count_in (row_at array.now i) }
+    ensures holds { Holds (integer_type (kind_of array.now)) (pos result) }
+{
+    array.int_at(i).unwrap() as usize
+}
+
+// The type and the bytes of whole numbers that lie one after another; no other layout has them.
+pub(crate) fn number_bytes(array: &ArrayRef) -> Option<(PType, &[u8])>
+    requires { is_plain_integers (kind_of array.now) ≡ true }
+    ensures { IfSome result (λ n. array.now ≡ primitive n.0 n.1.now non_nullable) }
+{
+    match array.layout() {
+        Layout::Primitive { ptype, bytes, .. } => Some((*ptype, bytes.as_slice())),
+        _ => None,
+    }
+}
+
+// The rows of an array of counts as bytes of its type, shared where they lie as such.
+pub(crate) fn count_bytes(alloc: Global, array: &ArrayRef) -> Result<ByteBuffer, VortexError>
+    requires { IsCounts array.now }
+    ensures { Gives result (λ b.
+        HoldCounts (integer_type (kind_of array.now)) b (counts_in array.now)) }
+{
+    if let Layout::Primitive { bytes, .. } = array.layout() {
+        return Ok(bytes.try_clone(alloc)?);
+    }
+    let counts = counts_by_row(alloc, array)?;
+    Ok(write_counts(alloc, array.dtype().as_ptype(), &counts)?)
+}
+
+// The rows of an array of counts.
+pub(crate) fn counts_of(alloc: Global, array: &ArrayRef) -> Result<Vec<usize>, VortexError>
+    requires { IsCounts array.now }
+    ensures { Gives result (λ counts. counts.items ≡ counts_in array.now) }
+{
+    if let Layout::Primitive { ptype, bytes, .. } = array.layout() {
+        return Ok(read_counts(alloc, *ptype, bytes.as_slice())?);
+    }
+    Ok(counts_by_row(alloc, array)?)
+}
+
+// The rows of an array of counts, which their type holds.
+fn counts_by_row(alloc: Global, array: &ArrayRef) -> Result<Vec<usize>, VortexError>
+    requires { IsCounts array.now }
+    ensures rows { Gives result (λ counts. counts.items ≡ counts_in array.now) }
+    ensures held { IfOk result (λ counts.
+        All (λ n. Holds (integer_type (kind_of array.now)) (pos n)) counts.items) }
+{
+    let mut counts = Vec::with_capacity(alloc, array.len())?;
+    for i in 0..array.len() {
+        counts.push(count_at(array, i))?;
+    }
+    Ok(counts)
+}
