@@ -3,20 +3,11 @@
 use std::alloc::Global;
 use std::rc::Rc;
 use std::test::Fail;
-use vx_base::{BitBuffer, Buffer, DType, NativePType, Nullability, PType, VortexError};
+use vx_base::{DType, Nullability, PType, VortexError};
 use vx_leaves::ConstantArray;
 use vx_lists::{FixedSizeListArray, FixedSizeListArrayExt, FixedSizeListData, FixedSizeListSlots};
+use vx_test_help::{has_numbers, ints, valid_where};
 use vx_tree::{ArrayRef, TypedArray, Validity};
-
-fn ints<T: NativePType>(alloc: Global, items: &[T]) -> Result<ArrayRef, VortexError> {
-    let bytes = Buffer::copy_from(alloc, items)?.into_byte_buffer(alloc)?;
-    ArrayRef::primitive(alloc, T::PTYPE, bytes, Validity::NonNullable)
-}
-
-fn validity_of(alloc: Global, items: &[bool]) -> Result<Validity, VortexError> {
-    let bits = BitBuffer::from_bools(alloc, items)?;
-    Ok(Validity::Array(ArrayRef::bools(alloc, bits, Validity::NonNullable)?))
-}
 
 // What making so many lists of a size of these elements comes to.
 fn lists(
@@ -27,19 +18,6 @@ fn lists(
 ) -> Result<FixedSizeListArray, VortexError> {
     let elements = ints(alloc, elements)?;
     FixedSizeListArray::try_new(alloc, elements, list_size, Validity::NonNullable, len)
-}
-
-// Whether these are the numbers of an array.
-fn has_numbers(array: &ArrayRef, wanted: &[i128]) -> bool {
-    if !array.dtype().is_int() || array.len() != wanted.len() {
-        return false;
-    }
-    for (i, number) in wanted.iter().enumerate() {
-        if array.int_at(i) != Some(*number) {
-            return false;
-        }
-    }
-    true
 }
 
 #[test]
@@ -83,7 +61,7 @@ fn a_missing_element_is_refused(rt: HostRuntime) -> Result<(), Fail> {
 #[test]
 fn validities_are_tested_first(rt: HostRuntime) -> Result<(), Fail> {
     let elements = ints::<u8>(rt.alloc(), &[7])?;
-    let validity = validity_of(rt.alloc(), &[true, true])?;
+    let validity = valid_where(rt.alloc(), &[true, true])?;
     assert!(rt;
         matches!(
             FixedSizeListData::validate(&elements, 1, 0, &validity),
@@ -112,7 +90,7 @@ fn validities_are_tested_first(rt: HostRuntime) -> Result<(), Fail> {
 // The lists `[1, 2]`, null and `[5, 6]`.
 fn three_lists(alloc: Global) -> Result<FixedSizeListArray, VortexError> {
     let elements = ints::<i16>(alloc, &[1, 2, 3, 4, 5, 6])?;
-    let validity = validity_of(alloc, &[true, false, true])?;
+    let validity = valid_where(alloc, &[true, false, true])?;
     FixedSizeListData::validate(&elements, 3, 2, &validity)?;
     FixedSizeListArray::new(alloc, elements, 2, validity, 3)
 }

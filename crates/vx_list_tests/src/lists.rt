@@ -1,23 +1,14 @@
 // Lists that are read, trimmed and rebuilt.
 
+mod copied;
 mod parts;
 
 use std::alloc::Global;
 use std::test::Fail;
-use vx_base::{BitBuffer, Buffer, DType, NativePType, Nullability, PType, Scalar, VortexError};
+use vx_base::{DType, NativePType, Nullability, PType, Scalar, VortexError};
 use vx_lists::{ListViewArray, ListViewArrayExt, ListViewRebuildMode};
+use vx_test_help::{bools, has_numbers, has_type, ints, valid_where};
 use vx_tree::{ArrayRef, TypedArray, Validity};
-
-fn ints<T: NativePType>(alloc: Global, items: &[T]) -> Result<ArrayRef, VortexError> {
-    let bytes = Buffer::copy_from(alloc, items)?.into_byte_buffer(alloc)?;
-    ArrayRef::primitive(alloc, T::PTYPE, bytes, Validity::NonNullable)
-}
-
-fn bools(alloc: Global, items: &[bool]) -> Result<ArrayRef, VortexError> {
-    let bits = BitBuffer::from_bools(alloc, items)?;
-    let validity = Validity::NonNullable;
-    ArrayRef::bools(alloc, bits, validity)
-}
 
 fn view<T: NativePType>(
     alloc: Global,
@@ -45,27 +36,6 @@ fn has_ranges(view: &ListViewArray, wanted: &[(usize, usize)]) -> bool {
     true
 }
 
-// Whether these are the numbers of an array.
-fn has_numbers(array: &ArrayRef, wanted: &[i128]) -> bool {
-    if !array.dtype().is_int() || array.len() != wanted.len() {
-        return false;
-    }
-    for (i, number) in wanted.iter().enumerate() {
-        if array.int_at(i) != Some(*number) {
-            return false;
-        }
-    }
-    true
-}
-
-// Whether the numbers of an array are of a type.
-fn has_type(array: &ArrayRef, ptype: PType) -> bool {
-    match array.dtype() {
-        DType::Primitive(own, _) => *own == ptype,
-        _ => false,
-    }
-}
-
 // Whether rebuilding gives a flagged view of these ranges over these elements.
 fn rebuilds_to(
     alloc: Global,
@@ -89,7 +59,7 @@ fn overlapping_lists_part(rt: HostRuntime) -> Result<(), Fail> {
 #[test]
 fn null_elements_go(rt: HostRuntime) -> Result<(), Fail> {
     let alloc = rt.alloc();
-    let validity = Validity::Array(bools(alloc, &[true, false, true])?);
+    let validity = valid_where(alloc, &[true, false, true])?;
     let lists = view::<u32>(alloc, &[1, 2, 3, 4], &[0, 1, 2], &[1, 2, 2], validity)?;
     assert!(rt; rebuilds_to(alloc, &lists, &[(0, 1), (1, 0), (1, 2)], &[1, 3, 4])?);
     Ok(())
@@ -98,7 +68,7 @@ fn null_elements_go(rt: HostRuntime) -> Result<(), Fail> {
 #[test]
 fn last_nulls_start_at_the_end(rt: HostRuntime) -> Result<(), Fail> {
     let alloc = rt.alloc();
-    let validity = Validity::Array(bools(alloc, &[true, true, false, false])?);
+    let validity = valid_where(alloc, &[true, true, false, false])?;
     let lists = view::<i16>(alloc, &[1, 2, 3, 4], &[0, 2, 0, 0], &[2, 2, 0, 0], validity)?;
     assert!(rt;
         rebuilds_to(
@@ -108,6 +78,18 @@ fn last_nulls_start_at_the_end(rt: HostRuntime) -> Result<(), Fail> {
             &[1, 2, 3, 4]
         )?
     );
+    Ok(())
+}
+
+#[test]
+fn exact_last_nulls_stay(rt: HostRuntime) -> Result<(), Fail> {
+    let alloc = rt.alloc();
+    let validity = valid_where(alloc, &[true, true, false, false])?;
+    let lists = view::<i16>(alloc, &[1, 2, 3, 4], &[0, 2, 0, 0], &[2, 2, 0, 0], validity)?;
+    let once = lists.rebuild(alloc, ListViewRebuildMode::MakeZeroCopyToList)?;
+    let exact = once.rebuild(alloc, ListViewRebuildMode::MakeExact)?;
+    assert!(rt; has_ranges(&exact, &[(0, 2), (2, 2), (4, 0), (4, 0)]));
+    assert!(rt; exact.is_zero_copy_to_list() && has_numbers(exact.elements(), &[1, 2, 3, 4]));
     Ok(())
 }
 
@@ -294,7 +276,7 @@ fn lists_that_reach_both_ends_stay(rt: HostRuntime) -> Result<(), Fail> {
 
 // The lists of two from the fifth element on, of none after the seventh, and null.
 fn scattered(alloc: Global) -> Result<ListViewArray, VortexError> {
-    let validity = Validity::Array(bools(alloc, &[true, true, false])?);
+    let validity = valid_where(alloc, &[true, true, false])?;
     view::<i32>(alloc, &[0; 9], &[4, 7, 1], &[2, 0, 1], validity)
 }
 
@@ -422,7 +404,7 @@ fn rebuilds_both_ways_to(
 #[test]
 fn runs_give_the_same_layout(rt: HostRuntime) -> Result<(), Fail> {
     let alloc = rt.alloc();
-    let validity = Validity::Array(bools(alloc, &[true, false, true])?);
+    let validity = valid_where(alloc, &[true, false, true])?;
     let lists = view::<u32>(alloc, &[1, 2, 3, 4], &[0, 1, 2], &[1, 2, 2], validity)?;
     assert!(rt; rebuilds_both_ways_to(alloc, &lists, &[(0, 1), (1, 0), (1, 2)], &[1, 3, 4])?);
     Ok(())

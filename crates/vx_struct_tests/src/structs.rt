@@ -11,26 +11,10 @@ mod pushed;
 
 use std::alloc::Global;
 use std::test::Fail;
-use vx_base::{BitBuffer, Buffer, DType, FieldNames, NativePType, Nullability, PType, VortexError};
+use vx_base::{DType, FieldNames, Nullability, PType, VortexError};
 use vx_lists::{StructArray, StructArrayExt, StructDataParts, StructSlots};
+use vx_test_help::{bools, has_numbers_or_nulls, ints, valid_where};
 use vx_tree::{ArrayRef, TypedArray, Validity};
-
-// Numbers, none of them null.
-fn ints<T: NativePType>(alloc: Global, items: &[T]) -> Result<ArrayRef, VortexError> {
-    let bytes = Buffer::copy_from(alloc, items)?.into_byte_buffer(alloc)?;
-    ArrayRef::primitive(alloc, T::PTYPE, bytes, Validity::NonNullable)
-}
-
-// Truth values, none of them null.
-fn bools(alloc: Global, items: &[bool]) -> Result<ArrayRef, VortexError> {
-    let bits = BitBuffer::from_bools(alloc, items)?;
-    ArrayRef::bools(alloc, bits, Validity::NonNullable)
-}
-
-// Valid where these are true.
-fn validity_of(alloc: Global, items: &[bool]) -> Result<Validity, VortexError> {
-    Ok(Validity::Array(bools(alloc, items)?))
-}
 
 // One column.
 fn one(alloc: Global, column: ArrayRef) -> Result<Vec<ArrayRef>, VortexError>
@@ -67,19 +51,6 @@ fn asked(alloc: Global, column: ArrayRef) -> Result<StructArray, VortexError>
     StructArray::new(alloc, names, columns.into_iter(), 2, Validity::AllValid)
 }
 
-// Whether these are the rows of a column of numbers.
-fn has_numbers(column: &ArrayRef, wanted: &[Option<i128>]) -> bool {
-    if !column.dtype().is_int() || column.len() != wanted.len() {
-        return false;
-    }
-    for (i, number) in wanted.iter().enumerate() {
-        if column.int_at(i) != *number {
-            return false;
-        }
-    }
-    true
-}
-
 // Whether a column of truth values is true, then false.
 fn is_true_false(alloc: Global, column: &ArrayRef) -> Result<bool, VortexError> {
     if column.len() != 2 {
@@ -94,7 +65,7 @@ fn is_true_false(alloc: Global, column: &ArrayRef) -> Result<bool, VortexError> 
 fn records_of_two_columns(rt: HostRuntime) -> Result<(), Fail> {
     let records = two_records(rt.alloc(), Validity::NonNullable)?;
     assert!(rt; records.len() == 2 && records.fields().len() == 2);
-    assert!(rt; has_numbers(records.unmasked_field(0), &[Some(1), Some(2)]));
+    assert!(rt; has_numbers_or_nulls(records.unmasked_field(0), &[Some(1), Some(2)]));
     assert!(rt; is_true_false(rt.alloc(), records.unmasked_field(1))?);
     assert!(rt; records.as_array().is_valid(rt.alloc(), 1)?);
     assert_eq!(rt; records.nullability(), Nullability::NonNullable);
@@ -107,7 +78,7 @@ fn records_of_a_column_that_fits(rt: HostRuntime) -> Result<(), Fail> {
     assert!(rt; column.len() == 2);
     let records = asked(rt.alloc(), column)?;
     assert!(rt; records.len() == 2 && records.fields().len() == 1);
-    assert!(rt; has_numbers(records.unmasked_field(0), &[Some(-1), Some(9)]));
+    assert!(rt; has_numbers_or_nulls(records.unmasked_field(0), &[Some(-1), Some(9)]));
     assert_eq!(rt; records.nullability(), Nullability::Nullable);
     Ok(())
 }
@@ -120,7 +91,7 @@ fn columns_come_in_order(rt: HostRuntime) -> Result<(), Fail> {
     let Some(first) = columns.next() else {
         return Err(VortexError::UnknownField.into());
     };
-    assert!(rt; has_numbers(first, &[Some(1), Some(2)]));
+    assert!(rt; has_numbers_or_nulls(first, &[Some(1), Some(2)]));
     assert_eq!(rt; columns.len(), 1);
     assert!(rt; columns.next().is_some() && columns.next().is_none());
     Ok(())
@@ -147,7 +118,7 @@ fn columns_by_place(rt: HostRuntime) -> Result<(), Fail> {
     let Some(first) = records.unmasked_field_opt(0) else {
         return Err(VortexError::UnknownField.into());
     };
-    assert!(rt; has_numbers(first, &[Some(1), Some(2)]));
+    assert!(rt; has_numbers_or_nulls(first, &[Some(1), Some(2)]));
     assert!(rt; records.unmasked_field_opt(2).is_none());
     Ok(())
 }
@@ -156,7 +127,7 @@ fn columns_by_place(rt: HostRuntime) -> Result<(), Fail> {
 fn columns_by_name(rt: HostRuntime) -> Result<(), Fail> {
     let records = two_records(rt.alloc(), Validity::NonNullable)?;
     let named = records.unmasked_field_by_name("a")?;
-    assert!(rt; has_numbers(named, &[Some(1), Some(2)]));
+    assert!(rt; has_numbers_or_nulls(named, &[Some(1), Some(2)]));
     let refused = records.unmasked_field_by_name("z");
     assert!(rt; matches!(refused, Err(VortexError::UnknownField)));
     assert!(rt; records.unmasked_field_by_name_opt("b").is_some());
@@ -166,7 +137,7 @@ fn columns_by_name(rt: HostRuntime) -> Result<(), Fail> {
 
 #[test]
 fn records_that_may_be_null(rt: HostRuntime) -> Result<(), Fail> {
-    let validity = validity_of(rt.alloc(), &[true, false])?;
+    let validity = valid_where(rt.alloc(), &[true, false])?;
     let records = two_records(rt.alloc(), validity)?.try_clone(rt.alloc())?;
     assert_eq!(rt; records.nullability(), Nullability::Nullable);
     assert!(rt; !records.as_array().is_valid(rt.alloc(), 1)?);
@@ -188,7 +159,7 @@ fn records_of_no_columns(rt: HostRuntime) -> Result<(), Fail> {
 fn slots_of_records(rt: HostRuntime) -> Result<(), Fail> {
     let slots = two_records(rt.alloc(), Validity::AllValid)?.slots(rt.alloc())?;
     assert!(rt; slots.fields.len() == 2 && slots.validity.is_none());
-    assert!(rt; has_numbers(&slots.fields[0], &[Some(1), Some(2)]));
+    assert!(rt; has_numbers_or_nulls(&slots.fields[0], &[Some(1), Some(2)]));
     Ok(())
 }
 
@@ -212,7 +183,7 @@ fn parts_of_records(rt: HostRuntime) -> Result<(), Fail> {
         validity,
     } = records.into_data_parts(rt.alloc())?;
     assert_eq!(rt; struct_fields.find("b"), Some(1));
-    assert!(rt; fields.len() == 2 && has_numbers(&fields[0], &[Some(1), Some(2)]));
+    assert!(rt; fields.len() == 2 && has_numbers_or_nulls(&fields[0], &[Some(1), Some(2)]));
     assert!(rt; matches!(validity, Validity::AllValid));
     Ok(())
 }

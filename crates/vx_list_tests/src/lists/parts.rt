@@ -1,11 +1,12 @@
 // Parts, slots, data and flag of list views.
 
-use super::{bools, has_numbers, has_ranges, ints, view};
+use super::{has_ranges, view};
 use std::alloc::Global;
 use std::test::Fail;
 use vx_base::{DType, Nullability, PType, VortexError};
 use vx_leaves::ConstantArray;
 use vx_lists::{ListViewArray, ListViewArrayExt, ListViewData, ListViewSlots};
+use vx_test_help::{bools, has_numbers, ints};
 use vx_tree::{TypedArray, Validity};
 
 // The lists `[3, 4]`, `[1]`, `[2, 3]` over four elements.

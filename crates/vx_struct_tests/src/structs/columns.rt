@@ -1,10 +1,11 @@
 // Columns that come with their names, and columns that are chosen, added and removed.
 
-use super::{bools, has_numbers, ints, is_true_false, two_records, validity_of};
+use super::{is_true_false, two_records};
 use std::alloc::Global;
 use std::test::Fail;
 use vx_base::{FieldName, VortexError};
 use vx_lists::{StructArray, StructArrayExt};
+use vx_test_help::{bools, has_numbers_or_nulls, ints, valid_where};
 use vx_tree::{ArrayRef, TypedArray, Validity};
 
 // The column a of the numbers 1 and 2, and the column b of true and false.
@@ -17,7 +18,7 @@ fn named_columns(alloc: Global) -> Result<Vec<(&'static str, ArrayRef)>, VortexE
 
 // Whether records have the column a of the numbers 1 and 2, and the column b of true and false.
 fn has_both(alloc: Global, records: &StructArray) -> Result<bool, VortexError> {
-    let first = has_numbers(records.unmasked_field_by_name("a")?, &[Some(1), Some(2)]);
+    let first = has_numbers_or_nulls(records.unmasked_field_by_name("a")?, &[Some(1), Some(2)]);
     let second = is_true_false(alloc, records.unmasked_field_by_name("b")?)?;
     Ok(records.len() == 2 && records.fields().len() == 2 && first && second)
 }
@@ -41,7 +42,7 @@ fn columns_of_an_iterator(rt: HostRuntime) -> Result<(), Fail> {
 #[test]
 fn columns_of_an_iterator_with_nulls(rt: HostRuntime) -> Result<(), Fail> {
     let fields = named_columns(rt.alloc())?.into_iter();
-    let validity = validity_of(rt.alloc(), &[false, true])?;
+    let validity = valid_where(rt.alloc(), &[false, true])?;
     let records = StructArray::try_from_iter_with_validity(rt.alloc(), fields, validity)?;
     assert!(rt; has_both(rt.alloc(), &records)?);
     assert!(rt; !records.as_array().is_valid(rt.alloc(), 0)?);
@@ -59,10 +60,10 @@ fn names(alloc: Global, texts: &[&str]) -> Result<Vec<FieldName>, VortexError> {
 
 #[test]
 fn columns_are_chosen(rt: HostRuntime) -> Result<(), Fail> {
-    let records = two_records(rt.alloc(), validity_of(rt.alloc(), &[true, false])?)?;
+    let records = two_records(rt.alloc(), valid_where(rt.alloc(), &[true, false])?)?;
     let chosen = records.project(rt.alloc(), &names(rt.alloc(), &["b", "a", "b"])?)?;
     assert!(rt; chosen.len() == 2 && chosen.fields().len() == 3);
-    assert!(rt; has_numbers(chosen.unmasked_field(1), &[Some(1), Some(2)]));
+    assert!(rt; has_numbers_or_nulls(chosen.unmasked_field(1), &[Some(1), Some(2)]));
     assert!(rt; is_true_false(rt.alloc(), chosen.unmasked_field(2))?);
     assert!(rt; !chosen.as_array().is_valid(rt.alloc(), 1)?);
     Ok(())
@@ -90,9 +91,9 @@ fn a_column_is_added(rt: HostRuntime) -> Result<(), Fail> {
     let column = ints::<i32>(rt.alloc(), &[5, -6])?;
     let more = records.with_column(rt.alloc(), "a", column)?;
     assert!(rt; more.len() == 2 && more.fields().len() == 3);
-    assert!(rt; has_numbers(more.unmasked_field(2), &[Some(5), Some(-6)]));
+    assert!(rt; has_numbers_or_nulls(more.unmasked_field(2), &[Some(5), Some(-6)]));
     let first = more.unmasked_field_by_name("a")?;
-    assert!(rt; has_numbers(first, &[Some(1), Some(2)]));
+    assert!(rt; has_numbers_or_nulls(first, &[Some(1), Some(2)]));
     Ok(())
 }
 
@@ -121,7 +122,7 @@ fn a_column_is_removed(rt: HostRuntime) -> Result<(), Fail> {
     };
     assert!(rt; rest.len() == 2 && rest.fields().len() == 1);
     assert!(rt; is_true_false(rt.alloc(), rest.unmasked_field(0))?);
-    assert!(rt; has_numbers(&column, &[Some(1), Some(2)]));
+    assert!(rt; has_numbers_or_nulls(&column, &[Some(1), Some(2)]));
     Ok(())
 }
 
@@ -132,7 +133,7 @@ fn the_other_column_is_removed(rt: HostRuntime) -> Result<(), Fail> {
         return Err(VortexError::UnknownField.into());
     };
     assert!(rt; rest.fields().len() == 1 && is_true_false(rt.alloc(), &column)?);
-    assert!(rt; has_numbers(rest.unmasked_field(0), &[Some(1), Some(2)]));
+    assert!(rt; has_numbers_or_nulls(rest.unmasked_field(0), &[Some(1), Some(2)]));
     Ok(())
 }
 

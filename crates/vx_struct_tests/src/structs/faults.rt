@@ -1,10 +1,11 @@
 // Parts of records that are refused.
 
-use super::{bools, both, ints, one, two_records, validity_of};
+use super::{both, one, two_records};
 use std::alloc::Global;
 use std::test::Fail;
 use vx_base::{FieldNames, VortexError};
 use vx_lists::{StructArray, StructArrayExt};
+use vx_test_help::{bools, ints, valid_where};
 use vx_tree::{ArrayRef, Validity};
 
 // How two records of these names and of one column of these numbers are refused.
@@ -43,7 +44,7 @@ fn validities_are_tested_next(rt: HostRuntime) -> Result<(), Fail> {
     let numbers = Validity::Array(ints::<u8>(rt.alloc(), &[1])?);
     let fault = fault_of(rt.alloc(), &["a"], &[1], numbers)?;
     assert!(rt; matches!(fault, Some(VortexError::MismatchedTypes)));
-    let long = validity_of(rt.alloc(), &[true, true, true])?;
+    let long = valid_where(rt.alloc(), &[true, true, true])?;
     let fault = fault_of(rt.alloc(), &["a"], &[1], long)?;
     assert!(rt;
         matches!(
@@ -119,7 +120,7 @@ fn columns_of_data_types_are_counted(rt: HostRuntime) -> Result<(), Fail> {
 #[test]
 fn validities_come_before_data_types(rt: HostRuntime) -> Result<(), Fail> {
     let columns = pair(rt.alloc(), &[1], &[true, false])?;
-    let long = validity_of(rt.alloc(), &[true, true, true])?;
+    let long = valid_where(rt.alloc(), &[true, true, true])?;
     let fault = typed_fault_of(rt.alloc(), columns, long)?;
     assert!(rt; matches!(fault, Some(VortexError::LengthMismatch { found: 3, .. })));
     Ok(())

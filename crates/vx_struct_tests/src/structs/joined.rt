@@ -1,10 +1,11 @@
 // Arrays of records, one after another.
 
-use super::{both, has_numbers, ints, two_records};
+use super::{both, two_records};
 use std::alloc::Global;
 use std::test::Fail;
 use vx_base::{FieldNames, VortexError};
 use vx_lists::{StructArray, StructArrayExt};
+use vx_test_help::{has_numbers_or_nulls, ints};
 use vx_tree::{TypedArray, Validity};
 
 // One record of two numbers, both under the name data.
@@ -20,10 +21,10 @@ fn columns_of_one_name_go_by_place(rt: HostRuntime) -> Result<(), Fail> {
     let chunks = [&first, &second];
     let all = StructArray::try_concat(rt.alloc(), chunks.iter().copied())?;
     assert!(rt; all.len() == 2 && all.fields().len() == 2);
-    assert!(rt; has_numbers(all.unmasked_field(0), &[Some(1), Some(2)]));
-    assert!(rt; has_numbers(all.unmasked_field(1), &[Some(3), Some(4)]));
+    assert!(rt; has_numbers_or_nulls(all.unmasked_field(0), &[Some(1), Some(2)]));
+    assert!(rt; has_numbers_or_nulls(all.unmasked_field(1), &[Some(3), Some(4)]));
     let named = all.unmasked_field_by_name("data")?;
-    assert!(rt; has_numbers(named, &[Some(1), Some(2)]));
+    assert!(rt; has_numbers_or_nulls(named, &[Some(1), Some(2)]));
     Ok(())
 }
 

@@ -1,10 +1,10 @@
 // Nulls of records, pushed into their columns.
 
-use super::{has_numbers, ints, validity_of};
 use std::alloc::Global;
 use std::test::Fail;
 use vx_base::{Nullability, VortexError};
 use vx_lists::{StructArray, StructArrayExt};
+use vx_test_help::{has_numbers_or_nulls, ints, valid_where};
 use vx_tree::{ArrayRef, TypedArray, Validity};
 
 // The column a of the numbers 1 and 2.
@@ -22,14 +22,14 @@ fn records(alloc: Global, validity: Validity) -> Result<StructArray, VortexError
 // Whether records have one column, of these numbers.
 fn has_column(records: &StructArray, wanted: &[Option<i128>]) -> bool {
     match records.unmasked_field_opt(0) {
-        Some(column) => records.fields().len() == 1 && has_numbers(column, wanted),
+        Some(column) => records.fields().len() == 1 && has_numbers_or_nulls(column, wanted),
         None => false,
     }
 }
 
 #[test]
 fn a_null_record_becomes_a_record_of_nulls(rt: HostRuntime) -> Result<(), Fail> {
-    let validity = validity_of(rt.alloc(), &[true, false])?;
+    let validity = valid_where(rt.alloc(), &[true, false])?;
     let pushed = records(rt.alloc(), validity)?.push_validity_into_children(rt.alloc(), true)?;
     assert!(rt; pushed.len() == 2 && has_column(&pushed, &[Some(1), None]));
     assert_eq!(rt; pushed.nullability(), Nullability::NonNullable);
@@ -41,7 +41,7 @@ fn a_null_record_becomes_a_record_of_nulls(rt: HostRuntime) -> Result<(), Fail> 
 
 #[test]
 fn null_records_stay(rt: HostRuntime) -> Result<(), Fail> {
-    let validity = validity_of(rt.alloc(), &[true, false])?;
+    let validity = valid_where(rt.alloc(), &[true, false])?;
     let pushed = records(rt.alloc(), validity)?.push_validity_into_children(rt.alloc(), false)?;
     assert!(rt; pushed.len() == 2 && has_column(&pushed, &[Some(1), None]));
     assert_eq!(rt; pushed.nullability(), Nullability::Nullable);
