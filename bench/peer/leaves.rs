@@ -9,19 +9,19 @@ use super::{
 use std::sync::Arc;
 
 /// Bits that come one after another, packed 64 to a word.
-struct Packer {
+pub struct Packer {
     words: Vec<u64>,
     packed: u64,
     len: usize,
 }
 
 impl Packer {
-    fn new() -> Packer {
+    pub fn new() -> Packer {
         Packer { words: Vec::new(), packed: 0, len: 0 }
     }
 
     #[inline]
-    fn push(&mut self, bit: bool) {
+    pub fn push(&mut self, bit: bool) {
         self.packed |= (bit as u64) << (self.len % 64);
         self.len += 1;
         if self.len % 64 == 0 {
@@ -30,7 +30,7 @@ impl Packer {
         }
     }
 
-    fn finish(mut self) -> Bits {
+    pub fn finish(mut self) -> Bits {
         if self.len % 64 != 0 {
             self.words.push(self.packed);
         }
@@ -39,7 +39,7 @@ impl Packer {
 }
 
 /// The array of a validity, where some rows are null and some are not.
-fn told_by(valid: Bits) -> Option<Bits> {
+pub fn told_by(valid: Bits) -> Option<Bits> {
     let count = valid.true_count();
     (count != 0 && count != valid.len).then_some(valid)
 }

@@ -4,9 +4,13 @@
 //! shared by `Arc`; each function tests what it is given, and refuses by an `Err`.
 
 mod leaves;
+mod lists;
 mod parts;
+mod records;
+mod steps;
 mod texts;
 mod trees;
+mod validities;
 
 use std::hint::black_box;
 use std::ops::Range;
@@ -145,7 +149,7 @@ enum DType {
     Text,
     List(Arc<DType>),
     FixedList(Arc<DType>, u32),
-    Record(Arc<[(String, DType)]>),
+    Record(Arc<[(Arc<str>, DType)]>),
 }
 
 #[derive(Clone)]
@@ -814,7 +818,34 @@ struct Bench {
     runs: Option<usize>,
 }
 
+/// An operation that is run some times in one measurement, each result but the last let go at once.
+struct Repeated<O> {
+    operation: O,
+    times: usize,
+}
+
+impl<O: Operation> Operation for Repeated<O> {
+    type Made = O::Made;
+
+    fn run(&mut self) -> Result<O::Made> {
+        let mut made = self.operation.run()?;
+        for _ in 1..self.times {
+            made = black_box(self.operation.run()?);
+        }
+        Ok(made)
+    }
+
+    fn checksum(&self, made: O::Made) -> u64 {
+        self.operation.checksum(made)
+    }
+}
+
 impl Bench {
+    /// Measures an operation that takes no time by the row: once for ten rows.
+    fn measure_often<O: Operation>(&self, operation: O) -> Result<()> {
+        self.measure(Repeated { operation, times: self.rows / 10 })
+    }
+
     fn measure<O: Operation>(&self, mut operation: O) -> Result<()> {
         for _ in 0..self.runs.unwrap_or(1) {
             let start = Instant::now();
@@ -1346,12 +1377,14 @@ impl Operation for WriteCounts {
     }
 }
 
-const OPERATIONS: [&str; 85] = [
+const OPERATIONS: [&str; 109] = [
     "rebuild_in_order",
     "rebuild_at_random",
     "rebuild_in_order_null",
     "rebuild_at_random_null",
     "rebuild_long_lists",
+    "rebuild_lists_of_texts",
+    "rebuild_lists_of_lists",
     "take_numbers",
     "take_bools",
     "take_list_view",
@@ -1360,6 +1393,8 @@ const OPERATIONS: [&str; 85] = [
     "take_records",
     "take_dictionary",
     "take_constant",
+    "take_short_runs",
+    "take_long_runs",
     "filter_numbers",
     "filter_bools",
     "filter_list_view",
@@ -1391,6 +1426,7 @@ const OPERATIONS: [&str; 85] = [
     "canonical_constant_text",
     "canonical_constant_list",
     "canonical_dictionary",
+    "canonical_nested_dictionary",
     "canonical_list_view",
     "canonical_numbers",
     "canonical_bools",
@@ -1408,6 +1444,12 @@ const OPERATIONS: [&str; 85] = [
     "check_long_ascii",
     "check_long_mixed",
     "rebuffer_filtered",
+    "texts_try_new",
+    "texts_try_new_null",
+    "texts_from_iter_short",
+    "texts_from_iter_long",
+    "texts_from_option_iter",
+    "texts_bytes_at",
     "bits_from_bools",
     "true_count",
     "and_bits",
@@ -1432,6 +1474,19 @@ const OPERATIONS: [&str; 85] = [
     "narrow",
     "referenced_values",
     "referenced_values_but_one",
+    "fixed_lists_try_new",
+    "records_try_new",
+    "records_project",
+    "records_with_column",
+    "records_remove_column",
+    "records_push_validity",
+    "records_concat",
+    "records_by_name",
+    "validity_and",
+    "validity_not",
+    "validity_patch",
+    "steps_run",
+    "steps_direct",
 ];
 
 fn byte_buffer(numbers: &[u32]) -> Buffer<u8> {
@@ -1520,6 +1575,13 @@ fn measure(bench: &Bench, name: &str) -> Result<()> {
     match verb {
         "kept" => measure_kept(bench, rest),
         "rebuffer" => texts::measure(bench),
+        "texts" => texts::measure_texts(bench, rest),
+        "rebuild" if rest.starts_with("lists_of") => lists::measure_rebuild(bench, rest),
+        "take" if rest.ends_with("runs") => lists::measure_runs(bench, rest),
+        "fixed" => lists::measure_fixed(bench),
+        "records" => records::measure(bench, rest),
+        "validity" => validities::measure(bench, rest),
+        "steps" => steps::measure(bench, rest),
         "mask" => parts::measure_mask(bench, rest),
         "concat" => trees::measure_concat(bench, rest),
         "canonical" => trees::measure_canonical(bench, rest),
@@ -1602,9 +1664,10 @@ fn start() -> Result<()> {
             }
             Ok(())
         }
-        [name, runs] => {
-            let runs = runs.parse().map_err(|_| Refusal::Usage)?;
-            measure(&Bench { rows: 1_000_000, runs: Some(runs) }, name)
+        [name, runs, rest @ ..] => {
+            let number = |word: &String| word.parse::<usize>().map_err(|_| Refusal::Usage);
+            let rows = rest.first().map_or(Ok(1_000_000), number)?;
+            measure(&Bench { rows, runs: Some(number(runs)?) }, name)
         }
         _ => Err(Refusal::Usage),
     }

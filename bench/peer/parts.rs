@@ -5,11 +5,10 @@ use super::{
     Operation, PrimitiveArray, Refusal, Result, View, list_view, random_bits, random_numbers,
     shared_numbers, text_array,
 };
-use std::hint::black_box;
 use std::sync::Arc;
 
 #[derive(Clone)]
-struct ViewArray {
+pub struct ViewArray {
     dtype: DType,
     views: Buffer<View>,
     buffers: Arc<[Buffer<u8>]>,
@@ -17,7 +16,7 @@ struct ViewArray {
 }
 
 #[derive(Clone)]
-struct FixedListArray {
+pub struct FixedListArray {
     dtype: DType,
     elements: Array,
     size: u32,
@@ -26,7 +25,7 @@ struct FixedListArray {
 }
 
 #[derive(Clone)]
-struct RecordArray {
+pub struct RecordArray {
     dtype: DType,
     columns: Arc<[Array]>,
     len: usize,
@@ -35,7 +34,7 @@ struct RecordArray {
 
 /// An array in plain layout.
 #[derive(Clone)]
-enum Array {
+pub enum Array {
     Numbers(Arc<PrimitiveArray>),
     Bools(Arc<BoolArray>),
     Views(Arc<ViewArray>),
@@ -44,7 +43,7 @@ enum Array {
 }
 
 /// True where both are.
-fn both(validity: &Option<Bits>, mask: &Bits) -> Result<Option<Bits>> {
+pub fn both(validity: &Option<Bits>, mask: &Bits) -> Result<Option<Bits>> {
     Ok(Some(match validity {
         Some(valid) => valid.and(mask)?,
         None => mask.clone(),
@@ -97,7 +96,7 @@ impl Array {
     }
 
     /// The same rows, null where the mask is false.
-    fn masked(&self, mask: &Bits) -> Result<Array> {
+    pub fn masked(&self, mask: &Bits) -> Result<Array> {
         Ok(match self {
             Array::Numbers(array) => Array::Numbers(Arc::new(array.masked(mask)?)),
             Array::Bools(array) => {
@@ -124,7 +123,7 @@ impl Array {
         })
     }
 
-    fn validity(&self) -> &Option<Bits> {
+    pub fn validity(&self) -> &Option<Bits> {
         match self {
             Array::Numbers(array) => &array.validity,
             Array::Bools(array) => &array.validity,
@@ -137,7 +136,7 @@ impl Array {
 
 impl Checksum {
     /// The parts of an array but for its validity.
-    fn with_parts(self, array: &Array) -> Checksum {
+    pub fn with_parts(self, array: &Array) -> Checksum {
         match array {
             Array::Numbers(array) => self.with_numbers(array.numbers()),
             Array::Bools(array) => self.with_bits(&array.bits),
@@ -147,26 +146,19 @@ impl Checksum {
         }
     }
 
-    fn with_validity(self, validity: &Option<Bits>) -> Checksum {
+    pub fn with_validity(self, validity: &Option<Bits>) -> Checksum {
         validity.as_ref().map_or(self, |valid| self.with_bits(valid))
     }
 }
 
-/// The plain layout of an array, some times, each but the last let go at once.
-struct ToCanonical {
-    array: Array,
-    times: usize,
-}
+/// The plain layout of an array.
+struct ToCanonical(Array);
 
 impl Operation for ToCanonical {
     type Made = Array;
 
     fn run(&mut self) -> Result<Array> {
-        let mut made = self.array.to_canonical();
-        for _ in 1..self.times {
-            made = black_box(self.array.to_canonical());
-        }
-        Ok(made)
+        Ok(self.0.to_canonical())
     }
 
     fn checksum(&self, made: Array) -> u64 {
@@ -278,11 +270,11 @@ impl Operation for MaskConstant {
 
 // ---- the operations by name ----
 
-fn bool_array(bits: Bits) -> Array {
+pub fn bool_array(bits: Bits) -> Array {
     Array::Bools(Arc::new(BoolArray { dtype: DType::Bool, bits, validity: None }))
 }
 
-fn number_array(numbers: Vec<u32>) -> Array {
+pub fn number_array(numbers: Vec<u32>) -> Array {
     Array::Numbers(shared_numbers(Buffer::new(numbers)))
 }
 
@@ -300,7 +292,7 @@ fn fixed_lists(rows: usize) -> Array {
 }
 
 fn records(rows: usize) -> Array {
-    let fields = [("number".to_string(), DType::Int), ("truth".to_string(), DType::Bool)];
+    let fields = [("number".into(), DType::Int), ("truth".into(), DType::Bool)];
     let numbers = number_array(random_numbers(rows, u32::MAX, 6));
     let truths = bool_array(random_bits(rows, 2, 7));
     Array::Records(Arc::new(RecordArray {
@@ -325,7 +317,7 @@ fn array_of(rows: usize, layout: &str) -> Result<Array> {
 
 pub fn measure_canonical(bench: &Bench, layout: &str) -> Result<()> {
     let array = array_of(bench.rows, layout)?;
-    bench.measure(ToCanonical { array, times: bench.rows / 10 })
+    bench.measure_often(ToCanonical(array))
 }
 
 /// Rows become null; but of texts and of a constant one in ten is null before.

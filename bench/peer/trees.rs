@@ -10,7 +10,7 @@ use std::sync::Arc;
 // ---- joining ----
 
 #[inline(never)]
-fn concat_numbers(arrays: &[&[u32]]) -> Vec<u32> {
+pub fn concat_numbers(arrays: &[&[u32]]) -> Vec<u32> {
     arrays.concat()
 }
 
@@ -36,7 +36,7 @@ fn concat_constants(arrays: &[(u32, usize)]) -> Vec<u32> {
 
 /// Bits, a word at a time, each word cut where the bits before it end within a word.
 #[inline(never)]
-fn concat_bits(arrays: &[&Bits]) -> Bits {
+pub fn concat_bits(arrays: &[&Bits]) -> Bits {
     let len = arrays.iter().map(|bits| bits.len).sum();
     let mut words: Vec<u64> = Vec::with_capacity(usize::div_ceil(len, 64) + 1);
     let mut filled = 0;
@@ -175,6 +175,8 @@ enum Canonical {
     Text { text: Buffer<u8>, rows: usize },
     List { elements: Arc<Vec<u32>>, rows: usize },
     Dictionary { codes: Vec<u32>, values: Vec<u32> },
+    /// Codes of a dictionary whose values are codes of another.
+    Nested { outer: Vec<u32>, inner: Vec<u32>, values: Vec<u32> },
     Lists { lists: Arc<ListViewArray>, size: u32 },
 }
 
@@ -193,6 +195,9 @@ impl Operation for Canonical {
                 Plain::Wide(WideLists { elements: elements.clone(), offsets, sizes })
             }
             Canonical::Dictionary { codes, values } => Plain::Numbers(take_numbers(values, codes)),
+            Canonical::Nested { outer, inner, values } => {
+                Plain::Numbers(take_numbers(&take_numbers(values, inner), outer))
+            }
             Canonical::Lists { lists, size } => Plain::Lists(Arc::new(ListViewArray {
                 dtype: lists.dtype.clone(),
                 elements: lists.elements.clone(),
@@ -247,6 +252,11 @@ pub fn measure_canonical(bench: &Bench, layout: &str) -> Result<()> {
             let codes = random_numbers(rows, 1000, 9);
             Canonical::Dictionary { codes, values: random_numbers(1000, u32::MAX, 6) }
         }
+        "nested_dictionary" => Canonical::Nested {
+            outer: random_numbers(rows, 1000, 9),
+            inner: random_numbers(1000, 100, 11),
+            values: random_numbers(100, u32::MAX, 6),
+        },
         "list_view" => Canonical::Lists { lists: list_view(rows, AT_RANDOM)?, size: 4 },
         _ => return parts::measure_canonical(bench, layout),
     })

@@ -100,11 +100,11 @@ impl Checksum {
         }
     }
 
-    // Offsets, sizes and elements of a list view.
+    // Offsets and sizes of a list view, and the parts of its elements.
     pub(crate) fn with_list_view(self, lists: &ListViewArray) -> Checksum {
         self.with_array(lists.offsets())
             .with_array(lists.sizes())
-            .with_array(lists.elements())
+            .with_parts(lists.elements())
     }
 
     // The parts of an array but for its validity, where they are numbers or truth values.
@@ -138,7 +138,7 @@ impl Checksum {
     }
 
     // The array of a validity, if it has one.
-    fn with_validity(self, validity: &Validity) -> Checksum {
+    pub(crate) fn with_validity(self, validity: &Validity) -> Checksum {
         match validity {
             Validity::Array(array) => self.with_array(array),
             _ => self,

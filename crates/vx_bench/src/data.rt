@@ -1,50 +1,41 @@
 // The data that is worked on. `bench/peer` makes the same.
 
-ghost use Rattle.std.specs.Prelude.{◌≤◌, ◌<◌};
+ghost use Rattle.std.specs.Prelude.{◌<◌, ◌^◌};
 
 use crate::fault::Fault;
 use std::alloc::Global;
 use std::rc::Rc;
 use vx_base::{
-    BitBuffer, Buffer, ByteBuffer, DType, FieldNames, Mask, Nullability, PType, Scalar,
+    BitBuffer, Buffer, ByteBuffer, DType, FieldName, FieldNames, Mask, Nullability, PType, Scalar,
     ScalarValue, ScalarValues,
 };
 use vx_leaves::{BoolArray, ConstantArray, DictArray, PrimitiveArray};
-use vx_lists::ListViewArray;
+use vx_lists::{ListViewArray, StructArray};
 use vx_tree::{ArrayRef, TypedArray, Validity};
-use vx_views::{MAX_BUFFER_LEN, build_views, check_views};
+use vx_views::{BinaryView, MAX_BUFFER_LEN, build_views, check_views};
 
 // How much data there is.
 #[derive(Clone, Copy)]
-pub(crate) enum Scale {
-    // A thousand rows.
-    Small,
-    // A million rows.
-    Large,
-    // A quarter of a thousand rows.
-    SmallQuarter,
-    // A quarter of a million rows.
-    LargeQuarter,
+pub(crate) struct Scale {
+    rows: u32,
 }
 
 impl Scale {
-    pub(crate) fn rows(self) -> usize
-        ensures { result ≤ 1000000 }
-    {
-        match self {
-            Scale::Small => 1_000,
-            Scale::Large => 1_000_000,
-            Scale::SmallQuarter => 250,
-            Scale::LargeQuarter => 250_000,
-        }
+    // So many rows.
+    pub(crate) fn of_rows(rows: u32) -> Scale {
+        Scale { rows }
     }
 
-    // A quarter of as much; of a quarter the same.
+    pub(crate) fn rows(self) -> usize
+        ensures { result < 2 ^ 32 }
+    {
+        self.rows as usize
+    }
+
+    // A quarter of as much.
     pub(crate) fn quarter(self) -> Scale {
-        match self {
-            Scale::Small => Scale::SmallQuarter,
-            Scale::Large => Scale::LargeQuarter,
-            quarter => quarter,
+        Scale {
+            rows: self.rows / 4,
         }
     }
 }
@@ -200,6 +191,12 @@ pub(crate) fn bool_array(alloc: Global, bits: BitBuffer) -> Result<ArrayRef, Fau
     Ok(BoolArray::try_new(alloc, bits, Validity::NonNullable)?.into_array())
 }
 
+// A validity of so many rows, of which one in ten is null.
+pub(crate) fn some_null(alloc: Global, rows: usize, seed: u64) -> Result<Validity, Fault> {
+    let valid = random_bits(alloc, rows, 10, seed)?;
+    Ok(Validity::Array(bool_array(alloc, valid)?))
+}
+
 // The lists of a list view.
 #[derive(Clone, Copy)]
 pub(crate) struct ListShape {
@@ -211,28 +208,37 @@ pub(crate) struct ListShape {
     pub(crate) some_null: bool,
 }
 
-// A list view over four elements a row of the scale.
+// A list view over four numbers a row of the scale.
 pub(crate) fn list_view(
     alloc: Global,
     scale: Scale,
     shape: ListShape,
 ) -> Result<ListViewArray, Fault> {
     let count = 4 * scale.rows();
-    let rows = count / shape.size.max(1) as usize;
+    let elements = number_array(alloc, random_numbers(alloc, count, u32::MAX, 1)?)?;
+    lists_over(alloc, elements, shape)
+}
+
+// As many lists over elements as could lie in them one after another.
+pub(crate) fn lists_over(
+    alloc: Global,
+    elements: ArrayRef,
+    shape: ListShape,
+) -> Result<ListViewArray, Fault> {
+    let rows = elements.len() / shape.size.max(1) as usize;
     let offsets = if shape.in_order {
         multiples(alloc, rows, shape.size)?
     } else {
-        let limit = (count as u32).saturating_sub(shape.size);
+        let limit = (elements.len() as u32).saturating_sub(shape.size);
         random_numbers(alloc, rows, limit, 2)?
     };
+    let offsets = number_array(alloc, offsets)?;
+    let sizes = number_array(alloc, vec![in alloc; shape.size; rows]?)?;
     let validity = if shape.some_null {
-        Validity::Array(bool_array(alloc, random_bits(alloc, rows, 10, 3)?)?)
+        some_null(alloc, rows, 3)?
     } else {
         Validity::NonNullable
     };
-    let elements = number_array(alloc, random_numbers(alloc, count, u32::MAX, 1)?)?;
-    let offsets = number_array(alloc, offsets)?;
-    let sizes = number_array(alloc, vec![in alloc; shape.size; rows]?)?;
     Ok(ListViewArray::try_new(alloc, elements, offsets, sizes, validity)?)
 }
 
@@ -315,10 +321,19 @@ pub(crate) fn offsets_of(alloc: Global, lengths: &[u32]) -> Result<Vec<u32>, Fau
     Ok(offsets)
 }
 
+// The buffers and the views of texts.
+pub(crate) fn text_views(
+    alloc: Global,
+    rows: usize,
+    texts: Texts,
+) -> Result<(Vec<ByteBuffer>, Buffer<BinaryView>), Fault> {
+    let heap = text_heap(alloc, rows, texts)?;
+    Ok(build_views(alloc, 0, MAX_BUFFER_LEN, heap.bytes, &heap.lengths)?)
+}
+
 // Texts of 8 or 24 bytes.
 pub(crate) fn text_array(alloc: Global, rows: usize) -> Result<ArrayRef, Fault> {
-    let heap = text_heap(alloc, rows, short_texts(false))?;
-    let (buffers, views) = build_views(alloc, 0, MAX_BUFFER_LEN, heap.bytes, &heap.lengths)?;
+    let (buffers, views) = text_views(alloc, rows, short_texts(false))?;
     let mask = Mask::new_true(views.len());
     check_views(alloc, views.as_slice(), &mask, &buffers, true, usize::MAX)?;
     let dtype = DType::Utf8(Nullability::NonNullable);
@@ -354,6 +369,15 @@ pub(crate) fn dictionary(alloc: Global, rows: usize, named: u32) -> Result<DictA
     let codes = number_array(alloc, random_numbers(alloc, rows, named, 9)?)?;
     let values = number_array(alloc, random_numbers(alloc, 1000, u32::MAX, 6)?)?;
     Ok(DictArray::try_new(alloc, codes, values)?)
+}
+
+// So many codes of a dictionary of a thousand codes of a hundred numbers.
+pub(crate) fn nested_dictionary(alloc: Global, rows: usize) -> Result<ArrayRef, Fault> {
+    let codes = number_array(alloc, random_numbers(alloc, 1000, 100, 11)?)?;
+    let numbers = number_array(alloc, random_numbers(alloc, 100, u32::MAX, 6)?)?;
+    let values = DictArray::try_new(alloc, codes, numbers)?.into_array();
+    let codes = number_array(alloc, random_numbers(alloc, rows, 1000, 9)?)?;
+    Ok(DictArray::try_new(alloc, codes, values)?.into_array())
 }
 
 // A number in so many rows.
@@ -400,4 +424,71 @@ pub(crate) fn lists_of_one_size(alloc: Global, scale: Scale) -> Result<ArrayRef,
 pub(crate) fn small_numbers(alloc: Global, rows: usize) -> Result<PrimitiveArray, Fault> {
     let buffer = Buffer::from_vec(alloc, random_numbers(alloc, rows, 60000, 10)?)?;
     Ok(PrimitiveArray::try_new(alloc, buffer, Validity::NonNullable)?)
+}
+
+// So many texts, each one of the choices.
+pub(crate) fn repeated_texts(
+    alloc: Global,
+    count: usize,
+    choices: &[&'static str],
+) -> Result<Vec<&'static str>, Fault> {
+    let mut random = Random::new(13);
+    let mut texts = Vec::with_capacity(alloc, count)?;
+    for _ in 0..count {
+        let choice = random.below(4) as usize;
+        texts.push(choices.get(choice).copied().unwrap_or(""))?;
+    }
+    Ok(texts)
+}
+
+// The same, of which one in ten is left out.
+pub(crate) fn optional_texts(
+    alloc: Global,
+    count: usize,
+    choices: &[&'static str],
+) -> Result<Vec<Option<&'static str>>, Fault> {
+    let mut present = Random::new(3);
+    let mut items = Vec::with_capacity(alloc, count)?;
+    for text in repeated_texts(alloc, count, choices)? {
+        let is_present = present.below(10) != 0;
+        items.push(is_present.then_some(text))?;
+    }
+    Ok(items)
+}
+
+// Columns of numbers and of truth values, in turns.
+pub(crate) fn five_columns(alloc: Global, rows: usize) -> Result<Vec<ArrayRef>, Fault> {
+    let numbers = number_array(alloc, random_numbers(alloc, rows, u32::MAX, 6)?)?;
+    let truths = bool_array(alloc, random_bits(alloc, rows, 2, 7)?)?;
+    let mut columns = Vec::with_capacity(alloc, 5)?;
+    for _ in 0..2 {
+        columns.push(numbers.try_clone(alloc)?)?;
+        columns.push(truths.try_clone(alloc)?)?;
+    }
+    columns.push(numbers)?;
+    Ok(columns)
+}
+
+// Records of these columns under these names.
+pub(crate) fn records_under(
+    alloc: Global,
+    names: &[&str],
+    columns: Vec<ArrayRef>,
+    rows: usize,
+    validity: Validity,
+) -> Result<StructArray, Fault> {
+    let names = FieldNames::try_new(alloc, names)?;
+    let columns = columns.into_iter();
+    Ok(StructArray::try_new(alloc, names, columns, rows, validity)?)
+}
+
+// A name that ends in the last two digits of a number.
+pub(crate) fn column_name(alloc: Global, number: u32) -> Result<FieldName, Fault> {
+    let tens = b'0' + (number / 10 % 10) as u8;
+    let ones = b'0' + (number % 10) as u8;
+    let text = [b'c', b'o', b'l', b'u', b'm', b'n', b'_', tens, ones];
+    match std::str::from_utf8(&text) {
+        Ok(text) => Ok(FieldName::try_new(alloc, text)?),
+        Err(_) => Err(Fault::Usage),
+    }
 }

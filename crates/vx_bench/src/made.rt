@@ -4,7 +4,7 @@ use crate::checksum::Checksum;
 use crate::fault::Fault;
 use vx_base::{BitBuffer, BitBufferMut, Buffer, ByteBuffer, Mask};
 use vx_lists::ListViewArray;
-use vx_tree::ArrayRef;
+use vx_tree::{ArrayRef, Validity};
 use vx_views::BinaryView;
 
 // What an operation made.
@@ -16,6 +16,8 @@ pub(crate) enum Made {
     Lists(ListViewArray),
     // Texts: their views and their buffers are summed.
     Texts(ArrayRef),
+    // A validity: its truth values are summed, where it has some.
+    Validity(Validity),
     // Views and the buffers that they refer to.
     Views(Vec<ByteBuffer>, Buffer<BinaryView>),
     Bits(BitBuffer),
@@ -46,6 +48,7 @@ impl Made {
             Made::Array(array) => sum.with_nullable(array).value(),
             Made::Lists(lists) => sum.with_list_view(lists).value(),
             Made::Texts(array) => sum.with_texts(array).value(),
+            Made::Validity(validity) => sum.with_validity(validity).value(),
             Made::Views(buffers, views) => sum
                 .with_views(views.as_slice())
                 .with_buffers(buffers)

@@ -1,10 +1,10 @@
 //! Runs operations on large arrays and says how long they take; `bench/peer` runs the same in plain
 //! Rust, and `tools/bench` compares the two.
 //!
-//! `vx_bench OPERATION RUNS` readies the data of an operation, a million rows, and runs it that often.
-//! It prints a line for each run: its nanoseconds and a checksum of what it made. `vx_bench` alone
-//! runs each operation once on a thousand rows, and prints its name and its checksum. The exit status
-//! is 0, or 1 where the words are not understood or something fails.
+//! `vx_bench OPERATION RUNS ROWS` readies the data of an operation, so many rows, a million if left
+//! out, and runs it that often. It prints a line for each run: its nanoseconds and a checksum of what
+//! it made. `vx_bench` alone runs each operation once on a thousand rows, and prints its name and its
+//! checksum. The exit status is 0, or 1 where the words are not understood or something fails.
 #![tactic(auto)]
 
 mod checksum;
@@ -21,10 +21,13 @@ use crate::operations::{OPERATIONS, measure};
 use std::env;
 use std::process::ExitCode;
 
-// Each operation once, on little data.
+// How many rows there are where the arguments do not say.
+const ROWS: u32 = 1_000_000;
+
+// Each operation once, on a thousand rows.
 fn run_all(rt: &HostRuntime) -> Result<(), Fault> {
     let bench = Bench {
-        scale: Scale::Small,
+        scale: Scale::of_rows(1_000),
         report: Report::Checksum,
     };
     for name in OPERATIONS {
@@ -34,6 +37,19 @@ fn run_all(rt: &HostRuntime) -> Result<(), Fault> {
     Ok(())
 }
 
+// The runs and the rows that the arguments after the operation ask for.
+fn asked(runs: Option<&str>, rows: Option<&str>) -> Option<Bench> {
+    let runs = runs?.parse::<usize>().ok()?;
+    let rows = match rows {
+        Some(word) => word.parse::<u32>().ok()?,
+        None => ROWS,
+    };
+    Some(Bench {
+        scale: Scale::of_rows(rows),
+        report: Report::Times { runs },
+    })
+}
+
 // What the arguments ask for.
 fn start(rt: &HostRuntime) -> Result<(), Fault> {
     let mut words = env::args(rt)?;
@@ -41,17 +57,11 @@ fn start(rt: &HostRuntime) -> Result<(), Fault> {
     let Some(name) = words.next() else {
         return run_all(rt);
     };
-    let Some(count) = words.next() else {
-        return Err(Fault::Usage);
-    };
-    let Ok(runs) = count.parse::<usize>() else {
-        return Err(Fault::Usage);
-    };
-    let bench = Bench {
-        scale: Scale::Large,
-        report: Report::Times { runs },
-    };
-    measure(rt, &bench, &name)
+    let (runs, rows) = (words.next(), words.next());
+    match asked(runs.as_deref(), rows.as_deref()) {
+        Some(bench) => measure(rt, &bench, &name),
+        None => Err(Fault::Usage),
+    }
 }
 
 fn main(rt: HostRuntime) -> ExitCode {

@@ -12,6 +12,23 @@ pub(crate) trait Operation {
     fn run(&mut self, alloc: Global) -> Result<Made, Fault>;
 }
 
+// An operation that is run some times in one measurement, each result but the last let go at once.
+#[derive(Drop)]
+pub(crate) struct Repeated<O> {
+    operation: O,
+    times: usize,
+}
+
+impl<O: Operation + Drop> Operation for Repeated<O> {
+    fn run(&mut self, alloc: Global) -> Result<Made, Fault> {
+        let mut made = self.operation.run(alloc)?;
+        for _ in 1..self.times {
+            made = self.operation.run(alloc)?;
+        }
+        Ok(made)
+    }
+}
+
 // What is printed.
 #[derive(Drop)]
 pub(crate) enum Report {
@@ -68,5 +85,16 @@ impl Bench {
             Report::Checksum => run_once(rt, &mut operation),
             Report::Times { runs } => run_timed(rt, &mut operation, runs),
         }
+    }
+
+    // Measures an operation whose data is ready and that takes no time by the row: once for ten
+    // rows.
+    pub(crate) fn measure_often<O: Operation + Drop>(
+        &self,
+        rt: &HostRuntime,
+        operation: O,
+    ) -> Result<(), Fault> {
+        let times = self.scale.rows() / 10;
+        self.measure(rt, Repeated { operation, times })
     }
 }

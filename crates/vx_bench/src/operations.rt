@@ -5,20 +5,26 @@ mod bits;
 mod encodings;
 mod lists;
 mod numbers;
+mod records;
+mod runs;
+mod steps;
 mod texts;
 mod trees;
+mod validities;
 mod views;
 
 use crate::fault::Fault;
 use crate::operation::Bench;
 
 // The names of the operations.
-pub(crate) const OPERATIONS: [&str; 85] = [
+pub(crate) const OPERATIONS: [&str; 109] = [
     "rebuild_in_order",
     "rebuild_at_random",
     "rebuild_in_order_null",
     "rebuild_at_random_null",
     "rebuild_long_lists",
+    "rebuild_lists_of_texts",
+    "rebuild_lists_of_lists",
     "take_numbers",
     "take_bools",
     "take_list_view",
@@ -27,6 +33,8 @@ pub(crate) const OPERATIONS: [&str; 85] = [
     "take_records",
     "take_dictionary",
     "take_constant",
+    "take_short_runs",
+    "take_long_runs",
     "filter_numbers",
     "filter_bools",
     "filter_list_view",
@@ -58,6 +66,7 @@ pub(crate) const OPERATIONS: [&str; 85] = [
     "canonical_constant_text",
     "canonical_constant_list",
     "canonical_dictionary",
+    "canonical_nested_dictionary",
     "canonical_list_view",
     "canonical_numbers",
     "canonical_bools",
@@ -75,6 +84,12 @@ pub(crate) const OPERATIONS: [&str; 85] = [
     "check_long_ascii",
     "check_long_mixed",
     "rebuffer_filtered",
+    "texts_try_new",
+    "texts_try_new_null",
+    "texts_from_iter_short",
+    "texts_from_iter_long",
+    "texts_from_option_iter",
+    "texts_bytes_at",
     "bits_from_bools",
     "true_count",
     "and_bits",
@@ -99,6 +114,19 @@ pub(crate) const OPERATIONS: [&str; 85] = [
     "narrow",
     "referenced_values",
     "referenced_values_but_one",
+    "fixed_lists_try_new",
+    "records_try_new",
+    "records_project",
+    "records_with_column",
+    "records_remove_column",
+    "records_push_validity",
+    "records_concat",
+    "records_by_name",
+    "validity_and",
+    "validity_not",
+    "validity_patch",
+    "steps_run",
+    "steps_direct",
 ];
 
 // Measures the operation of a name, by the first word of it.
@@ -107,6 +135,7 @@ pub(crate) fn measure(rt: &HostRuntime, bench: &Bench, name: &str) -> Result<(),
     match verb {
         "rebuild" => lists::measure_rebuild(rt, bench, name),
         "slice" | "list" | "is" => lists::measure(rt, bench, name),
+        "take" if rest.ends_with("runs") => runs::measure(rt, bench, rest),
         "take" => trees::measure_take(rt, bench, rest),
         "filter" => trees::measure_filter(rt, bench, rest),
         "kept" => trees::measure_kept(rt, bench, rest),
@@ -114,7 +143,12 @@ pub(crate) fn measure(rt: &HostRuntime, bench: &Bench, name: &str) -> Result<(),
         "concat" => trees::measure_concat(rt, bench, rest),
         "canonical" => trees::measure_canonical(rt, bench, rest),
         "build" | "check" => views::measure(rt, bench, name),
-        "rebuffer" => texts::measure(rt, bench),
+        "rebuffer" => texts::measure_rebuffer(rt, bench),
+        "texts" => texts::measure(rt, bench, rest),
+        "fixed" => lists::measure_fixed(rt, bench),
+        "records" => records::measure(rt, bench, rest),
+        "validity" => validities::measure(rt, bench, rest),
+        "steps" => steps::measure(rt, bench, rest),
         "bits" | "true" | "and" | "equal" | "fill" | "execute" => bits::measure(rt, bench, name),
         "numbers" => arrays::measure_numbers(rt, bench, rest),
         "bools" => arrays::measure_bools(rt, bench, rest),

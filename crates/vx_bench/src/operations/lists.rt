@@ -1,11 +1,13 @@
 // Operations on list views.
 
-use crate::data::{ListShape, list_view};
+use crate::data::{
+    ListShape, Scale, list_view, lists_over, number_array, random_numbers, text_array,
+};
 use crate::fault::Fault;
 use crate::made::Made;
 use crate::operation::{Bench, Operation};
 use std::alloc::Global;
-use vx_lists::{ListViewArray, ListViewRebuildMode};
+use vx_lists::{FixedSizeListArray, ListViewArray, ListViewRebuildMode};
 use vx_tree::{ArrayRef, TypedArray, Validity};
 
 // Lists of four elements in a million rows, and the ways in which they lie.
@@ -82,6 +84,30 @@ impl Operation for IsConsecutive {
     }
 }
 
+// The checks of the parts of fixed-size lists.
+#[derive(Drop)]
+struct FixedTryNew {
+    elements: ArrayRef,
+    rows: usize,
+}
+
+impl Operation for FixedTryNew {
+    fn run(&mut self, alloc: Global) -> Result<Made, Fault> {
+        let elements = self.elements.try_clone(alloc)?;
+        let validity = Validity::NonNullable;
+        let made = FixedSizeListArray::try_new(alloc, elements, 4, validity, self.rows)?;
+        Ok(Made::Array(made.into_array()))
+    }
+}
+
+// Measures the checks of fixed-size lists, four numbers each.
+pub(crate) fn measure_fixed(rt: &HostRuntime, bench: &Bench) -> Result<(), Fault> {
+    let alloc = rt.alloc();
+    let rows = bench.scale.rows();
+    let elements = number_array(alloc, random_numbers(alloc, 4 * rows, u32::MAX, 1)?)?;
+    bench.measure_often(rt, FixedTryNew { elements, rows })
+}
+
 // The lists that an operation of rebuilding has.
 fn shape_of(name: &str) -> ListShape {
     match name {
@@ -102,9 +128,21 @@ fn shape_of(name: &str) -> ListShape {
     }
 }
 
+// The lists that are rebuilt: of numbers, of as many texts as there are rows, or of as many lists.
+fn lists_of(alloc: Global, scale: Scale, name: &str) -> Result<ListViewArray, Fault> {
+    match name {
+        "rebuild_lists_of_texts" => lists_over(alloc, text_array(alloc, scale.rows())?, AT_RANDOM),
+        "rebuild_lists_of_lists" => {
+            let lists = list_view(alloc, scale, IN_ORDER)?;
+            lists_over(alloc, lists.into_array(), AT_RANDOM)
+        }
+        _ => list_view(alloc, scale, shape_of(name)),
+    }
+}
+
 // Measures a rebuilding.
 pub(crate) fn measure_rebuild(rt: &HostRuntime, bench: &Bench, name: &str) -> Result<(), Fault> {
-    let lists = list_view(rt.alloc(), bench.scale, shape_of(name))?;
+    let lists = lists_of(rt.alloc(), bench.scale, name)?;
     bench.measure(rt, Rebuild { lists })
 }
 

@@ -2,8 +2,8 @@
 
 use crate::data::{
     ListShape, Scale, bits_in_one_run, bits_in_runs, bool_array, constant_list, constant_number,
-    constant_text, dictionary, fixed_size_lists, list_view, lists_of_one_size, number_array,
-    random_bits, random_numbers, records, text_array,
+    constant_text, dictionary, fixed_size_lists, list_view, lists_of_one_size, nested_dictionary,
+    number_array, random_bits, random_numbers, records, text_array,
 };
 use crate::fault::Fault;
 use crate::made::Made;
@@ -83,20 +83,15 @@ impl Operation for Concat {
     }
 }
 
-// The plain layout of an array, some times, each but the last let go at once.
+// The plain layout of an array.
 #[derive(Drop)]
 struct ToCanonical {
     array: ArrayRef,
-    times: usize,
 }
 
 impl Operation for ToCanonical {
     fn run(&mut self, alloc: Global) -> Result<Made, Fault> {
-        let mut made = self.array.to_canonical(alloc)?;
-        for _ in 1..self.times {
-            made = self.array.to_canonical(alloc)?;
-        }
-        Ok(Made::Array(made))
+        Ok(Made::Array(self.array.to_canonical(alloc)?))
     }
 }
 
@@ -133,6 +128,7 @@ fn array_to_write(alloc: Global, scale: Scale, layout: &str) -> Result<ArrayRef,
         "constant_text" => constant_text(alloc, rows),
         "constant_list" => constant_list(alloc, rows),
         "list_view" => lists_of_one_size(alloc, scale),
+        "nested_dictionary" => nested_dictionary(alloc, rows),
         _ => array_of(alloc, scale, layout),
     }
 }
@@ -187,21 +183,18 @@ pub(crate) fn measure_concat(rt: &HostRuntime, bench: &Bench, layout: &str) -> R
     bench.measure(rt, Concat { arrays })
 }
 
-// How often the plain layout is made: where it only shares what is plain, one time is too short.
-fn times_of(scale: Scale, layout: &str) -> usize {
-    match layout {
-        "numbers" | "bools" | "views" | "fixed_lists" | "records" => scale.rows() / 10,
-        _ => 1,
-    }
-}
-
-// Measures the making of a plain layout.
+// Measures the making of a plain layout: often, where it only shares what is plain.
 pub(crate) fn measure_canonical(
     rt: &HostRuntime,
     bench: &Bench,
     layout: &str,
 ) -> Result<(), Fault> {
     let array = array_to_write(rt.alloc(), bench.scale, layout)?;
-    let times = times_of(bench.scale, layout);
-    bench.measure(rt, ToCanonical { array, times })
+    let operation = ToCanonical { array };
+    match layout {
+        "numbers" | "bools" | "views" | "fixed_lists" | "records" => {
+            bench.measure_often(rt, operation)
+        }
+        _ => bench.measure(rt, operation),
+    }
 }
