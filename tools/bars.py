@@ -1,11 +1,10 @@
-"""Draws docs/speed.svg from the tables of times in docs/SPEED.md: a bar for each operation."""
+"""Draws docs/speed.svg from the table of times in docs/SPEED.md: a bar for each operation."""
 import html
-import pathlib
 import re
 
-DOCS = pathlib.Path(__file__).resolve().parent.parent / 'docs'
-PAGE = DOCS / 'SPEED.md'
-PICTURE = DOCS / 'speed.svg'
+import page
+
+PICTURE = page.PAGE.with_name('speed.svg')
 
 # a row with a ratio. One whose answers differ is none, and gets no bar
 ROW = re.compile(r'\| `(\w+)` \| [\d.]* \| [\d.]* \| ([\d.]+) \|')
@@ -20,6 +19,9 @@ GROUPS = (
     ('canonical', ('canonical_',)),
     ('slice and read', ('slice_', 'int_at')),
     ('views', ('build_views', 'check_')),
+    ('texts', ('texts_',)),
+    ('records', ('records_', 'fixed_lists_')),
+    ('validities and steps', ('validity_', 'steps_')),
     ('bits and masks', ('bits_', 'true_count', 'and_bits', 'equal_bits', 'fill_bits', 'execute_mask',
                         'bools_execute_mask', 'bools_to_mask')),
     ('constructors', ('list_view_', 'is_consecutive', 'primitive_', 'numbers_from_', 'bools_from_')),
@@ -52,8 +54,7 @@ role="img" aria-labelledby="title desc">
   .beyond {{ font-size: 12px; font-weight: bold; }}
   .share {{ font-size: 12px; text-anchor: middle; }}
   .one {{ font-size: 12px; font-weight: bold; text-anchor: middle; }}
-  .first {{ fill: #777777; stroke: #000000; }}
-  .later {{ fill: #ffffff; stroke: #000000; }}
+  .bar {{ fill: #777777; stroke: #000000; }}
   path {{ fill: none; stroke: #bbbbbb; }}
   .rust {{ stroke: #000000; stroke-width: 2; }}
   .cut {{ stroke: #ffffff; stroke-width: 6; }}
@@ -62,22 +63,16 @@ role="img" aria-labelledby="title desc">
 <rect x="0" y="0" width="900" height="{height}" fill="#ffffff"/>"""
 
 
-def read_tables():
-    """By operation its ratio and the heading of its table. The first table that has an operation holds."""
-    found, heading = {}, ''
-    for line in PAGE.read_text(encoding='utf-8').splitlines():
-        if line.startswith('#'):
-            heading = line.lstrip('# ')
-        row = ROW.match(line)
-        if row:
-            found.setdefault(row[1], (row[2], heading))
-    return found
+def read_table():
+    """By operation its ratio."""
+    rows = map(ROW.match, page.held('times').splitlines())
+    return {row[1]: row[2] for row in rows if row}
 
 
 def grouped(found):
     """The names of each group that has some, the least ratio first."""
     groups = {title: [] for title, _ in GROUPS}
-    for name in sorted(found, key=lambda name: (float(found[name][0]), name)):
+    for name in sorted(found, key=lambda name: (float(found[name]), name)):
         groups[next(title for title, begin in GROUPS if name.startswith(begin))].append(name)
     return {title: names for title, names in groups.items() if names}
 
@@ -94,11 +89,11 @@ def path(kind, steps):
     return f'<path class="{kind}" d="{steps}"/>'
 
 
-def bar(kind, name, ratio, y):
+def bar(name, ratio, y):
     """A row: name, ratio and bar. A bar that goes beyond the axis is cut, and ends with its ratio."""
     width = min(float(ratio), END) * UNIT
     lines = [text('name', LEFT - 60, y + 9, name), text('ratio', LEFT - 8, y + 9, ratio),
-             box(kind, LEFT, y, max(width, 1))]
+             box('bar', LEFT, y, max(width, 1))]
     if float(ratio) > END:
         x = LEFT + width
         lines += [path('cut', f'M{x - 22:g},{y + 12} l6,-14'),
@@ -118,23 +113,13 @@ def axis(top, bottom):
     return lines
 
 
-def legend(kinds, y):
-    """What the kinds of bars are, a line for each table."""
-    lines = []
-    for place, (heading, kind) in enumerate(kinds.items()):
-        at = y + place * 20
-        lines += [box(kind, 16, at, 22), text('line', 46, at + 10, f'timed under “{heading}” in docs/SPEED.md')]
-    return lines
-
-
-def rows(found, kinds, y):
+def rows(found, y):
     """The rows of all groups, and where they end."""
     lines = []
     for title, names in grouped(found).items():
         lines.append(text('group', 16, y + 9, title))
         for name in names:
-            ratio, heading = found[name]
-            lines += bar(kinds[heading], name, ratio, y)
+            lines += bar(name, found[name], y)
             y += STEP
         lines.append(path('tick', f'M16,{y + 3} H{LEFT + END * UNIT:g}'))
         y += GAP
@@ -142,21 +127,18 @@ def rows(found, kinds, y):
 
 
 def picture(found):
-    headings = dict.fromkeys(heading for _, heading in found.values())
-    kinds = {heading: 'later' if place else 'first' for place, heading in enumerate(headings)}
-    top = 116 + 20 * len(kinds)
-    bars, bottom = rows(found, kinds, top + GAP)
+    top = 116
+    bars, bottom = rows(found, top + GAP)
     lines = [HEAD.format(height=bottom + 28, title=TITLE, meaning=MEANING),
              text('title', 16, 32, TITLE), text('line', 16, 58, MEANING),
              text('line', 16, 78, f'The axis is linear. A bar beyond {END} is cut, and its ratio stands at its end.'),
-             *legend(kinds, 90), *axis(top, bottom), *bars,
-             path('rust', f'M{LEFT + UNIT},{top} V{bottom}'), '</svg>', '']
+             *axis(top, bottom), *bars, path('rust', f'M{LEFT + UNIT},{top} V{bottom}'), '</svg>', '']
     return '\n'.join(lines)
 
 
 def draw():
     """Draws the picture anew, and gives the status."""
-    found = read_tables()
+    found = read_table()
     if not found:
         print('docs/SPEED.md has no table of times: docs/speed.svg stays as it is')
         return 1
