@@ -1,6 +1,6 @@
 // The data that is worked on. `bench/peer` makes the same.
 
-ghost use Rattle.std.specs.Prelude.{◌<◌, ◌^◌};
+ghost use Rattle.std.specs.Prelude.{◌<◌};
 
 use crate::fault::Fault;
 use std::alloc::Global;
@@ -27,7 +27,7 @@ impl Scale {
     }
 
     pub(crate) fn rows(self) -> usize
-        ensures { result < 2 ^ 32 }
+        ensures { result < 4294967296 }
     {
         self.rows as usize
     }

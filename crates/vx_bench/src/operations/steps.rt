@@ -78,7 +78,10 @@ impl Operation for Steps {
     fn run(&mut self, alloc: Global) -> Result<Made, Fault> {
         let arrays = self.inputs.shared(alloc)?;
         match run(alloc, arrays, &self.steps) {
-            Ok(mut results) => results.pop().map(Made::Array).ok_or(Fault::Usage),
+            Ok(mut results) => match results.pop() {
+                Some(array) => Ok(Made::Array(array)),
+                None => Err(Fault::Usage),
+            },
             Err(fault) => Err(Fault::Refused(fault.error)),
         }
     }
