@@ -120,3 +120,18 @@ fn default_of_what_may_be_null(rt: HostRuntime) -> Result<(), VortexError> {
     assert!(rt; null.is_null());
     Ok(())
 }
+
+#[test]
+fn default_of_records(rt: HostRuntime) -> Result<(), VortexError> {
+    let scalar = Scalar::default_value(rt.alloc(), parcel(rt.alloc())?)?;
+    let Some(ScalarValue::Record(fields)) = scalar.value() else {
+        return Err(VortexError::MismatchedTypes);
+    };
+    let Some(Some(ScalarValue::Text(name))) = fields.as_slice().first() else {
+        return Err(VortexError::MismatchedTypes);
+    };
+    assert!(rt; name.as_slice().is_empty());
+    assert!(rt; fields.as_slice().len() == 2);
+    assert!(rt; matches!(fields.as_slice().last(), Some(None)));
+    Ok(())
+}
