@@ -1,6 +1,6 @@
 -- Rows in plain layout of which only the validity is given.
 use Rattle.std.proofs.Common.{ℕ, suc, ◌<◌, ◌≡◌, Bool, true, false, List, [], ◌∷◌, length, map, replicate, refl, sym, ◌∙◌, ap, subst, arith}
-use Rattle.std.specs.Prelude.{pos, slice_index_or, Some, None, if◌then◌else◌}
+use Rattle.std.specs.Prelude.{pos, slice_index_or}
 use Rattle.std.proofs.lemmas.List.{length-map, length-replicate, get_or-replicate}
 use Rattle.vx_base.specs.declared.dtypes.DType.{DType}
 use Rattle.vx_base.specs.declared.ptypes.PType.{PType}
@@ -8,8 +8,6 @@ use Rattle.vx_base.specs.DTypes.{kinds_of as dtype_kinds}
 use Rattle.vx_base.specs.Integers.{numbers}
 use Rattle.vx_base.specs.Kinds.{Kind, booleans, integers, lists, fixed_lists, records, kind, is_nullable_kind, Fits}
 use Rattle.vx_base.specs.Rows.{Row, null}
-use Rattle.vx_base.specs.Defaults.{is_even, default_fault}
-use Rattle.vx_base.specs.Refusals.{mismatched_types}
 use Rattle.vx_views.specs.Views.{number_le, view_of}
 use Rattle.vx_views.specs.Sound.{IsSoundView}
 use Rattle.vx_tree.specs.Tree.{Tree, bools, primitive, constant, fixed_list, list_view, structure, view_array, Valid, all_invalid}
@@ -155,14 +153,6 @@ pub ruleset blanks = (bools_blank, numbers_blank, lists_blank, fixed_lists_blank
 
 -- ---- rows of null
 
--- a kind with a default has records with as many names as fields
-pub default_even : (k : Kind) → default_fault k ≡ None → is_even k ≡ true
-default_even k h = by_truth (is_even k) refl h
-  where
-    by_truth : (b : Bool) → is_even k ≡ b → (if b then None else Some mismatched_types) ≡ None → is_even k ≡ true
-    by_truth true e h = e
-    by_truth false e h = cc
-
 -- where null fits a kind, it may stand
 pub null_fits : (k : Kind) (r : Row) → Fits k r → r ≡ null → is_nullable_kind k ≡ true
 null_fits k r fits e = subst (Fits k) e fits
@@ -179,4 +169,4 @@ null_canonical k n r may h =
       kept = tt;
     }
 
-pub ruleset null_rows = (null_canonical, default_even, null_fits)
+pub ruleset null_rows = (null_canonical, null_fits)

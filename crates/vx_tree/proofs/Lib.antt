@@ -12,7 +12,6 @@ pub mod FixedLists
 pub mod ViewArrays
 pub mod RunViews
 pub mod Fitting
-pub mod Defaults
 pub mod Counted
 pub mod Values
 pub mod Worked

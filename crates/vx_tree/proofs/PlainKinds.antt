@@ -1,6 +1,6 @@
 -- What the kind alone tells of arrays in plain layout.
 use Rattle.std.proofs.Common.{ℕ, zero, suc, ◌+◌, ◌*◌, ◌^◌, ◌<◌, ◌≡◌, Bool, true, false, List, [], ◌∷◌, length, drop, ltb, Option, Some, None, refl, sym, ap, subst, arith}
-use Rattle.std.specs.Prelude.{◌&&◌, nat_lt, slice_index_or, if◌then◌else◌}
+use Rattle.std.specs.Prelude.{nat_lt, slice_index_or, if◌then◌else◌}
 use Rattle.std.specs.List.{All}
 use Rattle.std.proofs.lemmas.Bool.{ltb-true}
 use Rattle.vx_base.specs.declared.dtypes.DType.{DType, Struct as struct_dtype}
@@ -8,12 +8,11 @@ use Rattle.vx_base.specs.declared.nullability.Nullability.{Nullability}
 use Rattle.vx_base.specs.declared.struct_fields.StructFields.{StructFields}
 use Rattle.vx_base.proofs.StructKinds.{from_place, struct_kind}
 use Rattle.vx_base.specs.DTypes.{dtype_meaning, field_kinds, kinds_of as dtype_kinds}
-use Rattle.vx_base.specs.Defaults.{is_even, even_fields}
 use Rattle.vx_base.specs.Refusals.{Refusal, overflow, or_else}
 use Rattle.vx_base.specs.Kinds.{Kind, booleans, integers, texts, binaries, lists, fixed_lists, records, Kinds, no_kinds, kind, or_nullable}
 use Rattle.vx_tree.specs.Tree.{Tree, bools, primitive, constant, dictionary, fixed_list, list_view, structure, view_array, Trees, no_trees, tree}
 use Rattle.vx_tree.specs.Meaning.{kind_of, kinds_of, nullable, is_texts}
-use Rattle.vx_tree.specs.Formed.{column_count, value_kind}
+use Rattle.vx_tree.specs.Formed.{value_kind}
 use Rattle.vx_tree.specs.Fitting.{AllFormed, ColumnsFormed}
 use Rattle.vx_tree.specs.Faults.{take_overflow, columns_overflow}
 use Rattle.vx_tree.specs.Plain.{IsPlain, ArePlain}
@@ -96,56 +95,5 @@ fields_overflow-from ds n i d inside here = ap (λ (xs : List DType). fields_ove
 
 pub record_overflow : (d : DType) (fs : StructFields) (m : Nullability) (n : ℕ) → d ≡ struct_dtype fs m → plain_overflow (dtype_meaning d) n ≡ fields_overflow (field_kinds fs) n
 record_overflow d fs m n e = ap (λ k. plain_overflow k n) (struct_kind d fs m e)
-
--- ---- records with as many names as fields
-
-pub both_true : (a b : Bool) → (a && b) ≡ true → (a ≡ true) × (b ≡ true)
-both_true true b h = (refl, h)
-both_true false b h = cc
-
-pub fields_even : (names : List (List ℕ)) (ds : List DType) → even_fields names (dtype_kinds ds) ≡ true → All (λ d. is_even (dtype_meaning d) ≡ true) ds
-fields_even names [] h = λ i d l. absurd (omega arith)
-fields_even [] (e ∷ ds) h = absurd (cc)
-fields_even (m ∷ names) (e ∷ ds) h =
-    let both = both_true (is_even (dtype_meaning e)) (even_fields names (dtype_kinds ds)) h in
-    All-cons (λ d. is_even (dtype_meaning d) ≡ true) e ds both.0 (fields_even names ds both.1)
-
-pub fields_even-count : (names : List (List ℕ)) (ds : List DType) → even_fields names (dtype_kinds ds) ≡ true → length names ≡ length ds
-fields_even-count [] [] h = refl
-fields_even-count [] (e ∷ ds) h = absurd (cc)
-fields_even-count (m ∷ names) [] h = absurd (cc)
-fields_even-count (m ∷ names) (e ∷ ds) h = ap suc (fields_even-count names ds (both_true (is_even (dtype_meaning e)) (even_fields names (dtype_kinds ds)) h).1)
-
-pub is_even-or_nullable : (b : Bool) (k : Kind) → is_even (or_nullable b k) ≡ is_even k
-is_even-or_nullable b (booleans m) = refl
-is_even-or_nullable b (integers t m) = refl
-is_even-or_nullable b (texts m) = refl
-is_even-or_nullable b (binaries m) = refl
-is_even-or_nullable b (lists k m) = refl
-is_even-or_nullable b (fixed_lists k size m) = refl
-is_even-or_nullable b (records names ks m) = refl
-
-value_even : (u m : Bool) → is_even (value_kind u m) ≡ true
-value_even true m = refl
-value_even false m = refl
-
-mutual
-  pub is_even-plain : (t : Tree) → AllFormed t → IsPlain t → is_even (kind_of t) ≡ true
-  is_even-plain (bools bits v) h p = refl
-  is_even-plain (primitive t bs v) h p = refl
-  is_even-plain (constant k r m) h p = absurd p
-  is_even-plain (dictionary c v f) h p = absurd p
-  is_even-plain (fixed_list e k v m) h p = is_even-plain e h.1 p.0
-  is_even-plain (list_view e o s v f) h p = is_even-plain e h.1 p.0
-  is_even-plain (structure ns ts v m) h p = even_columns ns ts h.0.1.named h.1 p.0
-  is_even-plain (view_array vs bs k v) h p =
-      let P : Kind → Type 0 = λ x. is_even x ≡ true in
-      subst P (sym h.0.1.kind) (value_even (is_texts k) (nullable v))
-
-  even_columns : (ns : List (List ℕ)) (ts : Trees) → length ns ≡ column_count ts → ColumnsFormed ts → ArePlain ts → even_fields ns (kinds_of ts) ≡ true
-  even_columns [] no_trees e h p = refl
-  even_columns (m ∷ ns) no_trees e h p = absurd (omega arith)
-  even_columns [] (tree t ts) e h p = absurd (omega arith)
-  even_columns (m ∷ ns) (tree t ts) e h p = rw (is_even-plain t h.0 p.0) (even_columns ns ts (omega arith) h.1 p.1)
 
 pub ruleset plain_kinds = (take_overflow-plain, columns_overflow-plain)

@@ -15,12 +15,12 @@ use Rattle.vx_base.specs.declared.errors.VortexError.{VortexError}
 use Rattle.vx_base.proofs.Defaults.{take_push}
 use Rattle.vx_base.proofs.StructKinds.{from_place}
 use Rattle.vx_base.specs.DTypes.{dtype_meaning, kinds_of as dtype_kinds}
-use Rattle.vx_base.specs.Defaults.{default_fault}
+use Rattle.vx_base.specs.Defaults.{is_even}
 use Rattle.vx_tree.specs.Faults.{take_overflow}
 use Rattle.vx_tree.specs.Fitting.{AllFormed}
 use Rattle.vx_tree.specs.Canonical.{IsCanonical, plain_overflow, canonical_fault}
-use Rattle.vx_base.specs.Kinds.{Kind, lists, fixed_lists, records, kind, Fits, AllFit, FieldsFit, is_nullable_kind, or_nullable, row_count}
-use Rattle.vx_base.specs.Refusals.{Refusal, mismatched_types, IsMemoryOr, or_else}
+use Rattle.vx_base.specs.Kinds.{Kind, lists, fixed_lists, records, kind, Fits, AllFit, FieldsFit, is_nullable_kind, row_count}
+use Rattle.vx_base.specs.Refusals.{Refusal, IsMemoryOr, or_else}
 use Rattle.vx_base.specs.Rows.{Row, null, boolean, whole, bytes, text, items, record_of, Rows, no_rows, row, Fields, no_fields, field, is_present, count_in, list_from, rows_from}
 use Rattle.vx_base.specs.ValueRows.{value_row, option_row, named, all_named, fields_named, row_under, unnamed}
 use Rattle.vx_tree.specs.Tree.{Tree, constant, list_view, fixed_list, structure, Valid}
@@ -31,8 +31,7 @@ use Rattle.vx_tree.specs.Joined.{IsCountsOf}
 use Rattle.vx_tree.specs.RowParts.{field_at, field_in, items_in, items_or_nulls}
 use Rattle.vx_tree.specs.Extents.{extents_of, rows_extent, fields_extents, extent, list_extent, fixed_list_extent, struct_extent}
 use Rattle.vx_tree.specs.PlainValues.{ArePlainValues, ArePlainRows, ArePlainFields, AreSpread, FieldsFitNamed, FitsNamed, FitsIfThere, fields_fault, list_places, list_sizes, rows_fault, values_valid, long_values, buffers_overflow}
-use Rattle.vx_tree.proofs.Blanks.{default_even}
-use Rattle.vx_tree.proofs.PlainKinds.{is_even-or_nullable, take_overflow-plain}
+use Rattle.vx_tree.proofs.PlainKinds.{take_overflow-plain}
 use Rattle.vx_tree.proofs.Dictionaries.{memory_only}
 use Rattle.vx_tree.proofs.JoinedListViews.{counts_of-are}
 use Rattle.vx_tree.proofs.RowNames.{rows_fault-named}
@@ -539,16 +538,10 @@ first_refused (Some r) b e (inr same) = inr same
 
 -- ---- one value
 
-pub one_row_fault : (k : Kind) (v : Option ScalarValue) (r : Row) → row_under k v ≡ r → default_fault k ≡ None → rows_fault k (map option_row (v ∷ [])) ≡ or_else (default_fault k) (rows_fault k (r ∷ []))
-one_row_fault k v r e even =
-    sym (rows_fault-named k (map option_row (v ∷ [])) (default_even k even)) ∙ ap (λ x. rows_fault k (x ∷ [])) e ∙ ap (λ f. or_else f (rows_fault k (r ∷ []))) (sym even)
-
-pub ruleset one_row = (default_even, one_row_fault)
+pub one_row_fault : (k : Kind) (v : Option ScalarValue) (r : Row) → row_under k v ≡ r → is_even k ≡ true → rows_fault k (map option_row (v ∷ [])) ≡ rows_fault k (r ∷ [])
+one_row_fault k v r e even = sym (rows_fault-named k (map option_row (v ∷ [])) even) ∙ ap (λ x. rows_fault k (x ∷ [])) e
 
 -- ---- one value, over and over
-
-pub default_fault-or_nullable : (b : Bool) (k : Kind) → default_fault (or_nullable b k) ≡ default_fault k
-default_fault-or_nullable b k = ap (λ x. if x then None else Some mismatched_types) (is_even-or_nullable b k)
 
 pub present : (r : Row) (b : Bool) → b ≡ false → (IsTrue b ↔ (r ≡ null)) → is_present r ≡ true
 present null b e h = sym e ∙ h.1 refl
@@ -559,21 +552,17 @@ present (text bs) b e h = refl
 present (items rs) b e h = refl
 present (record_of fs) b e h = refl
 
-both_or : (a b c : Option Refusal) → or_else (or_else a b) c ≡ or_else a (or_else b c)
-both_or None b c = refl
-both_or (Some r) b c = refl
-
 -- the faults of the row by itself, then of all of them
-pub constant_fault-present : (t : Tree) (k : Kind) (r : Row) (n : ℕ) → t ≡ constant k r n → is_present r ≡ true → or_else (or_else (default_fault k) (rows_fault k (r ∷ []))) (plain_overflow k n) ≡ canonical_fault t
+pub constant_fault-present : (t : Tree) (k : Kind) (r : Row) (n : ℕ) → t ≡ constant k r n → is_present r ≡ true → or_else (rows_fault k (r ∷ [])) (plain_overflow k n) ≡ canonical_fault t
 constant_fault-present t k r n e here =
-    both_or (default_fault k) (rows_fault k (r ∷ [])) (plain_overflow k n) ∙ ap (λ b. or_else (default_fault k) (or_else (if b then rows_fault k (r ∷ []) else None) (plain_overflow k n))) (sym here) ∙ ap canonical_fault (sym e)
+    ap (λ b. or_else (if b then rows_fault k (r ∷ []) else None) (plain_overflow k n)) (sym here) ∙ ap canonical_fault (sym e)
 
-pub constant_refused : (t : Tree) (k : Kind) (r : Row) (n : ℕ) (e : VortexError) → t ≡ constant k r n → is_present r ≡ true → IsMemoryOr (or_else (default_fault k) (rows_fault k (r ∷ []))) e → IsMemoryOr (canonical_fault t) e
+pub constant_refused : (t : Tree) (k : Kind) (r : Row) (n : ℕ) (e : VortexError) → t ≡ constant k r n → is_present r ≡ true → IsMemoryOr (rows_fault k (r ∷ [])) e → IsMemoryOr (canonical_fault t) e
 constant_refused t k r n e same here refused =
-    subst (λ f. IsMemoryOr f e) (constant_fault-present t k r n same here) (first_refused (or_else (default_fault k) (rows_fault k (r ∷ []))) (plain_overflow k n) e refused)
+    subst (λ f. IsMemoryOr f e) (constant_fault-present t k r n same here) (first_refused (rows_fault k (r ∷ [])) (plain_overflow k n) e refused)
 
 -- the row taken so often needs as many elements as so many rows of its kind
-pub constant_counted : (t a : Tree) (k : Kind) (r : Row) (n : ℕ) (f : Option Refusal) → t ≡ constant k r n → is_present r ≡ true → or_else (default_fault k) (rows_fault k (r ∷ [])) ≡ None → IsCanonical (constant k r 1) a → AllFormed a
+pub constant_counted : (t a : Tree) (k : Kind) (r : Row) (n : ℕ) (f : Option Refusal) → t ≡ constant k r n → is_present r ≡ true → rows_fault k (r ∷ []) ≡ None → IsCanonical (constant k r 1) a → AllFormed a
     → take_overflow a n ≡ f → canonical_fault t ≡ f
 constant_counted t a k r n f e here none x formed counts =
     sym (constant_fault-present t k r n e here) ∙ ap (λ g. or_else g (plain_overflow k n)) none ∙ ap (λ j. plain_overflow j n) (sym x.same.kind) ∙ sym (take_overflow-plain a formed x.plain n) ∙ counts

@@ -1,6 +1,6 @@
 -- Rows, the names of their kind, and rows of null.
-use Rattle.std.proofs.Common.{ℕ, zero, suc, ◌+◌, ◌*◌, ◌^◌, ◌≡◌, Bool, true, cond, List, [], ◌∷◌, ◌++◌, length, map, replicate, Some, refl, sym, ◌∙◌, ap, arith}
-use Rattle.std.specs.Prelude.{count_by, nat_lt, if◌then◌else◌}
+use Rattle.std.proofs.Common.{ℕ, zero, suc, ◌+◌, ◌*◌, ◌^◌, ◌≡◌, Bool, true, false, cond, List, [], ◌∷◌, ◌++◌, length, map, replicate, Some, refl, sym, ◌∙◌, ap, arith}
+use Rattle.std.specs.Prelude.{◌&&◌, count_by, nat_lt, if◌then◌else◌}
 use Rattle.std.specs.List.{flat_map}
 use Rattle.std.proofs.lemmas.List.{length-map, map-append, replicate-append-replicate}
 use Rattle.std.proofs.lemmas.List.Folds.{sum_by-replicate}
@@ -12,7 +12,10 @@ use Rattle.vx_base.specs.ValueRows.{named, all_named, fields_named}
 use Rattle.vx_tree.specs.RowParts.{field_at, field_in, is_long_row, items_in, items_or_nulls}
 use Rattle.vx_tree.specs.Extents.{rows_extent, fields_extents, extent, view_extent, list_extent, fixed_list_extent, struct_extent}
 use Rattle.vx_tree.specs.PlainValues.{fields_fault, rows_fault}
-use Rattle.vx_tree.proofs.PlainKinds.{both_true}
+
+both_true : (a b : Bool) → (a && b) ≡ true → (a ≡ true) × (b ≡ true)
+both_true true b h = (refl, h)
+both_true false b h = cc
 
 -- ---- names change neither a fault nor an extent
 

@@ -4,7 +4,6 @@ use Rattle.std.specs.List.{AllZip}
 use Rattle.vx_base.specs.DTypes.{dtype_meaning}
 use Rattle.vx_base.specs.declared.dtypes.DType.{DType}
 use Rattle.vx_base.specs.Rows.{Row, null, is_present}
-use Rattle.vx_base.specs.Defaults.{default_fault}
 use Rattle.vx_base.specs.Refusals.{Refusal, overflow, or_else}
 use Rattle.vx_base.specs.Kinds.{Kind, fixed_lists, records, Kinds, no_kinds, kind}
 use Rattle.vx_tree.specs.Tree.{Tree, bools, primitive, constant, dictionary, fixed_list, list_view, structure}
@@ -65,17 +64,13 @@ abbrev mutual
   fields_overflow no_kinds n = None
   fields_overflow (kind k ks) n = or_else (plain_overflow k n) (fields_overflow ks n)
 
--- rows of null need a record with as many names as kinds, and elements that can be counted
-abbrev pub nulls_fault : Kind → ℕ → Option Refusal
-nulls_fault k n = or_else (default_fault k) (plain_overflow k n)
-
 -- a row by itself, where it is there
 abbrev pub value_fault : Kind → Row → Option Refusal
 value_fault k r = if is_present r then rows_fault k (r ∷ []) else None
 
--- a row, n times: a record with another number of names than of kinds, the row by itself, then all of them
+-- a row, n times: the row by itself, then all of them
 abbrev pub constant_fault : Kind → Row → ℕ → Option Refusal
-constant_fault k r n = or_else (default_fault k) (or_else (value_fault k r) (plain_overflow k n))
+constant_fault k r n = or_else (value_fault k r) (plain_overflow k n)
 
 -- the first fault of the parts; taking the values of a dictionary by its codes needs elements for each code
 abbrev mutual

@@ -1,9 +1,8 @@
 // Values that are lists or records, one a row, in plain layout: one recursion through data types.
 
-ghost use Rattle.std.specs.Prelude.{◌≡◌, ◌<◌, ◌*◌, ◌^◌, ◌++◌, [], true, length, map, replicate, IfOk};
+ghost use Rattle.std.specs.Prelude.{◌≡◌, ◌<◌, ◌*◌, ◌^◌, ◌++◌, [], length, map, replicate, IfOk};
 ghost use Rattle.std.specs.List.{All, flat_map};
 ghost use Rattle.vx_base.specs.DTypes.{dtype_meaning, field_kinds, field_names, is_nullable, kinds_of};
-ghost use Rattle.vx_base.specs.Defaults.{is_even};
 ghost use Rattle.vx_base.specs.Kinds.{fixed_lists, lists, records};
 ghost use Rattle.vx_base.specs.Refusals.{Gives, Refuses};
 ghost use Rattle.vx_base.specs.Rows.{null};
@@ -25,8 +24,7 @@ pub(crate) fn plain_values(
     dtype: &DType,
     values: &[Option<ScalarValue>],
 ) -> Result<ArrayRef, VortexError>
-    requires even { is_even (dtype_meaning dtype.now) ≡ true }
-    requires fit { All (FitsIfThere (dtype_meaning dtype.now)) values.now }
+    requires { All (FitsIfThere (dtype_meaning dtype.now)) values.now }
     ensures made { IfOk result (ArePlainValues (dtype_meaning dtype.now) values.now) }
     ensures refuses { Refuses result (rows_fault (dtype_meaning dtype.now) (map option_row values.now)) }
 {
@@ -50,8 +48,7 @@ fn plain_lists(
     nullability: Nullability,
     values: &[Option<ScalarValue>],
 ) -> Result<ArrayRef, VortexError>
-    requires even { is_even (dtype_meaning items.now) ≡ true }
-    requires fit { All (FitsIfThere (lists (dtype_meaning items.now) (is_nullable nullability))) values.now }
+    requires { All (FitsIfThere (lists (dtype_meaning items.now) (is_nullable nullability))) values.now }
     ensures made { IfOk result (ArePlainValues (lists (dtype_meaning items.now) (is_nullable nullability)) values.now) }
     ensures refuses { Refuses result (rows_fault (dtype_meaning items.now) (flat_map items_in (map option_row values.now))) }
 {
@@ -74,8 +71,7 @@ fn plain_fixed_lists(
     nullability: Nullability,
     values: &[Option<ScalarValue>],
 ) -> Result<ArrayRef, VortexError>
-    requires even { is_even (dtype_meaning items.now) ≡ true }
-    requires fit { All (FitsIfThere (fixed_lists (dtype_meaning items.now) size (is_nullable nullability))) values.now }
+    requires { All (FitsIfThere (fixed_lists (dtype_meaning items.now) size (is_nullable nullability))) values.now }
     ensures made { IfOk result (ArePlainValues (fixed_lists (dtype_meaning items.now) size (is_nullable nullability)) values.now) }
     ensures refuses { Refuses result (rows_fault
         (fixed_lists (dtype_meaning items.now) size (is_nullable nullability)) (map option_row values.now)) }
@@ -98,8 +94,7 @@ fn plain_records(
     nullability: Nullability,
     values: &[Option<ScalarValue>],
 ) -> Result<ArrayRef, VortexError>
-    requires even { is_even (records (field_names fields.now) (field_kinds fields.now) (is_nullable nullability)) ≡ true }
-    requires fit { All (FitsIfThere (records (field_names fields.now) (field_kinds fields.now) (is_nullable nullability))) values.now }
+    requires { All (FitsIfThere (records (field_names fields.now) (field_kinds fields.now) (is_nullable nullability))) values.now }
     ensures made { IfOk result (ArePlainValues
         (records (field_names fields.now) (field_kinds fields.now) (is_nullable nullability)) values.now) }
     ensures refuses { Refuses result (fields_fault (field_kinds fields.now) 0 (map option_row values.now)) }
@@ -118,8 +113,7 @@ fn plain_fields(
     dtypes: &[DType],
     values: &[Option<ScalarValue>],
 ) -> Result<Vec<ArrayRef>, VortexError>
-    requires even { All (λ d. is_even (dtype_meaning d) ≡ true) dtypes.now }
-    requires fit { FieldsFitNamed dtypes.now (map option_row values.now) }
+    requires { FieldsFitNamed dtypes.now (map option_row values.now) }
     ensures made { IfOk result (λ cs. ArePlainFields 0 dtypes.now (map option_row values.now) cs.items) }
     ensures refuses { Refuses result (fields_fault (kinds_of dtypes.now) 0 (map option_row values.now)) }
 {

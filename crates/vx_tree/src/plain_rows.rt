@@ -1,9 +1,8 @@
 // Rows of a data type in plain layout, of which only the validity is given.
 
-ghost use Rattle.std.specs.Prelude.{◌≡◌, ◌<◌, ℕ, None, Some, true, false, if◌then◌else◌};
+ghost use Rattle.std.specs.Prelude.{◌≡◌, ◌<◌, ℕ, None, Some, false, if◌then◌else◌};
 ghost use Rattle.std.specs.List.{All};
 ghost use Rattle.vx_base.specs.DTypes.{dtype_meaning, kinds_of};
-ghost use Rattle.vx_base.specs.Defaults.{is_even};
 ghost use Rattle.vx_base.specs.Kinds.{is_nullable_kind, or_nullable};
 ghost use Rattle.vx_base.specs.Refusals.{Gives, overflow};
 ghost use Rattle.vx_tree.specs.Meaning.{kind_of, is_valid_at, nullable, is_texts};
@@ -32,7 +31,6 @@ impl ArrayRef {
         requires fits { ValidFits (valid_of validity) len }
         requires plain { IsPlainValid (valid_of validity) }
         requires nullable { nullable (valid_of validity) ≡ is_nullable_kind (dtype_meaning dtype.now) }
-        requires even { is_even (dtype_meaning dtype.now) ≡ true }
         requires countable { plain_overflow (dtype_meaning dtype.now) len ≡ None }
         ensures { Gives result (IsBlank (dtype_meaning dtype.now) len (valid_of validity)) }
     {
@@ -86,8 +84,7 @@ impl ArrayRef {
     // The same, null where null may stand.
     #[cycle(blank)]
     fn blank_part(alloc: Global, dtype: &DType, len: usize) -> Result<ArrayRef, VortexError>
-        requires even { is_even (dtype_meaning dtype.now) ≡ true }
-        requires countable { plain_overflow (dtype_meaning dtype.now) len ≡ None }
+        requires { plain_overflow (dtype_meaning dtype.now) len ≡ None }
         ensures { Gives result (IsBlankPart (dtype_meaning dtype.now) len) }
     {
         let validity = if dtype.is_nullable() {
@@ -105,8 +102,7 @@ impl ArrayRef {
         dtypes: &[DType],
         len: usize,
     ) -> Result<Vec<ArrayRef>, VortexError>
-        requires even { All (λ d. is_even (dtype_meaning d) ≡ true) dtypes.now }
-        requires countable { All (λ d. plain_overflow (dtype_meaning d) len ≡ None) dtypes.now }
+        requires { All (λ d. plain_overflow (dtype_meaning d) len ≡ None) dtypes.now }
         ensures { Gives result (λ cs. AreBlankParts dtypes.now len cs.items) }
     {
         let mut columns = Vec::with_capacity(alloc, dtypes.len())?;

@@ -20,11 +20,11 @@ impl ArrayRef {
     /// elements and the buffers of its values, none if it has no values. Lists that a constant or
     /// a dictionary becomes have the flag false. An array that is plain already is shared. Refuses
     /// by the first fault of the parts in their order, the values of a dictionary first: a
-    /// constant with `MismatchedTypes` where a record has not as many names as fields, then with
-    /// `Overflow` where its row, unless that is null, or else all of its rows need more elements
-    /// of lists of one size than can be counted, or its row more than 4294967296 buffers in one
-    /// layout; a dictionary with `Overflow` where the rows of its codes need too many elements. Of
-    /// the values 7, 9 and the codes 1, null, 0, 1 it makes the numbers 9, null, 7, 9.
+    /// constant with `Overflow` where its row, unless that is null, or else all of its rows need
+    /// more elements of lists of one size than can be counted, or its row more than 4294967296
+    /// buffers in one layout; a dictionary with `Overflow` where the rows of its codes need too
+    /// many elements. Of the values 7, 9 and the codes 1, null, 0, 1 it makes the numbers 9, null,
+    /// 7, 9.
     #[tactic(auto, using(crate::proofs::PlainTests::plain_tests))]
     pub fn to_canonical(&self, alloc: Global) -> Result<ArrayRef, VortexError>
         ensures rows { IfOk result (λ a. rows a ≡ rows self.now) }

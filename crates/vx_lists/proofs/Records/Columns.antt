@@ -7,7 +7,7 @@ use Rattle.std.proofs.lemmas.Bool.Decides.{nat_tests}
 use Rattle.std.proofs.lemmas.List.{map_push}
 use Rattle.std.proofs.lemmas.Slice.Eq.{bytes_eq-Decides}
 use Rattle.vx_base.proofs.FirstFaults.{or_else-none}
-use Rattle.vx_base.specs.Fields.{place_of_name, kind_count, kinds_without}
+use Rattle.vx_base.specs.Fields.{place_of_name, kinds_without}
 use Rattle.vx_base.specs.Kinds.{kind}
 use Rattle.vx_base.specs.Refusals.{unknown_field, or_else}
 use Rattle.vx_base.specs.Rows.{field}
@@ -161,10 +161,6 @@ fields_at-added (n ∷ ns) (d ∷ cs) name c i same = ap (field n (row_at d i)) 
 pub kinds_of-added : (cs : List Tree) (c : Tree) → kinds_of (trees_from (cs ++ c ∷ [])) ≡ kinds_and (kinds_of (trees_from cs)) (kind_of c)
 kinds_of-added [] c = refl
 kinds_of-added (d ∷ cs) c = ap (kind (kind_of d)) (kinds_of-added cs c)
-
-pub kind_count-columns : (cs : List Tree) → kind_count (kinds_of (trees_from cs)) ≡ length cs
-kind_count-columns [] = refl
-kind_count-columns (c ∷ cs) = ap suc (kind_count-columns cs)
 
 pub AllLen-added : (len : ℕ) (cs : List Tree) (c : Tree) → AllLen len (trees_from cs) → tree_len c ≡ len → AllLen len (trees_from (cs ++ c ∷ []))
 AllLen-added len [] c lens same = (same, tt)

@@ -73,10 +73,6 @@ typed_column_fault-other k n t own differs owned told other =
 pub dtypes_counted : (dtypes : List DType) (ks : Kinds) → kinds_of dtypes ≡ ks → length dtypes ≡ kind_count ks
 dtypes_counted dtypes ks same = sym (kind_count_of dtypes) ∙ ap kind_count same
 
-pub dtypes_of_columns : (dtypes : List DType) (ks : Kinds) (count columns : ℕ) → kinds_of dtypes ≡ ks → count ≡ kind_count ks → length_fault count columns ≡ None
-    → length dtypes ≡ columns
-dtypes_of_columns dtypes ks count columns same counted none = dtypes_counted dtypes ks same ∙ sym counted ∙ sym (length_fault-none count columns none)
-
 lens_of_typed : (ks : Kinds) (n : ℕ) (columns : List Tree) → kind_count ks ≡ length columns → typed_columns_fault ks n columns ≡ None → AllLen n (trees_from columns)
 lens_of_typed ks n [] counted none = tt
 lens_of_typed no_kinds n (t ∷ ts) counted none = absurd (omega (arith, counted))
@@ -85,19 +81,17 @@ lens_of_typed (kind k ks) n (t ∷ ts) counted none =
     let here = or_else-none (kind_fault k t) (length_fault n (tree_len t)) both.0 in
     (length_fault-none n (tree_len t) here.1, lens_of_typed ks n ts (omega (arith, counted)) both.1)
 
--- faultless parts are well formed
-pub typed_parts_formed : (names : List (List ℕ)) (ks : Kinds) (columns : List Tree) (v : Valid) (n : ℕ) → typed_struct_fault names ks columns v n ≡ None
-    → WellFormed (records_by names columns v n)
-typed_parts_formed names ks columns v n none =
+-- faultless parts of as many kinds as names are well formed
+pub typed_parts_formed : (names : List (List ℕ)) (ks : Kinds) (columns : List Tree) (v : Valid) (n : ℕ) → kind_count ks ≡ length names
+    → typed_struct_fault names ks columns v n ≡ None → WellFormed (records_by names columns v n)
+typed_parts_formed names ks columns v n counted none =
     let named = or_else-none (length_fault (length names) (length columns)) _ none in
-    let counted = or_else-none (length_fault (kind_count ks) (length columns)) _ named.1 in
-    let valid = or_else-none (validity_fault v n) (typed_columns_fault ks n columns) counted.1 in
-    let names_count = length_fault-none (length names) (length columns) named.0 in
-    let kinds_count = length_fault-none (kind_count ks) (length columns) counted.0 in (
+    let valid = or_else-none (validity_fault v n) (typed_columns_fault ks n columns) named.1 in
+    let count = length_fault-none (length names) (length columns) named.0 in (
       faultless_fits v n valid.0,
       record {
-        named = sym names_count ∙ sym (column_count-trees_from columns);
-        lens = lens_of_typed ks n columns (sym kinds_count) valid.1;
+        named = sym count ∙ sym (column_count-trees_from columns);
+        lens = lens_of_typed ks n columns (counted ∙ sym count) valid.1;
       },
     )
 
@@ -105,12 +99,11 @@ after_none : {A : Type 0} (r : Result A VortexError) (first second : Option Refu
 after_none r None second none tests = tests
 after_none r (Some fault) second none tests = absurd (cc)
 
--- where the counts and the validity are faultless, the columns are tested
+-- where the count and the validity are faultless, the columns are tested
 pub typed_parts_tested : {A : Type 0} (r : Result A VortexError) (names : List (List ℕ)) (ks : Kinds) (columns : List Tree) (v : Valid) (n : ℕ)
-    → length_fault (length names) (length columns) ≡ None → length_fault (kind_count ks) (length columns) ≡ None → validity_fault v n ≡ None
+    → length_fault (length names) (length columns) ≡ None → validity_fault v n ≡ None
     → Tests r (typed_columns_fault ks n columns) → Tests r (typed_struct_fault names ks columns v n)
-typed_parts_tested r names ks columns v n named counted valid tests =
-    after_none r _ _ named (after_none r _ _ counted (after_none r _ _ valid tests))
+typed_parts_tested r names ks columns v n named valid tests = after_none r _ _ named (after_none r _ _ valid tests)
 
 -- what holds where there is no fault holds where a test passes
 pub where_faultless : {A : Type 0} (r : Result A VortexError) (fault : Option Refusal) (P : Type 0) → (fault ≡ None → P) → Tests r fault → IfOk r (λ _. P)

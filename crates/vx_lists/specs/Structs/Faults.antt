@@ -1,7 +1,7 @@
 -- Why the parts of records, or a call on their columns, are refused.
 use Rattle.std.specs.Prelude.{◌≡◌, ◌⊎◌, ℕ, List, [], ◌∷◌, length, if◌then◌else◌, Option, Some, None}
 use Rattle.std.specs.Iterator.{Drains}
-use Rattle.vx_base.specs.Fields.{place_of_name, kind_count}
+use Rattle.vx_base.specs.Fields.{place_of_name}
 use Rattle.vx_base.specs.Kinds.{Kind, Kinds, kind}
 use Rattle.vx_base.specs.SameKind.{kind_eq}
 use Rattle.vx_base.specs.declared.errors.VortexError.{VortexError}
@@ -42,8 +42,7 @@ typed_columns_fault _ n _ = None
 -- the first fault of so many records under these names and kinds: columns and validity
 abbrev pub typed_struct_fault : List (List ℕ) → Kinds → List Tree → Valid → ℕ → Option Refusal
 typed_struct_fault names ks columns v n =
-    or_else (length_fault (length names) (length columns)) (or_else (length_fault (kind_count ks) (length columns))
-    (or_else (validity_fault v n) (typed_columns_fault ks n columns)))
+    or_else (length_fault (length names) (length columns)) (or_else (validity_fault v n) (typed_columns_fault ks n columns))
 
 -- no column is given; else the first fault of as many records as the first column has rows
 abbrev pub first_fault_of : List Tree → Valid → Option Refusal

@@ -2,7 +2,6 @@
 
 ghost use Rattle.std.specs.Prelude.{◌≡◌, length, IfOk};
 ghost use Rattle.vx_base.specs.DTypes.{dtype_meaning, kinds_of, field_names, field_kinds};
-ghost use Rattle.vx_base.specs.Fields.{kind_count};
 ghost use Rattle.vx_base.specs.Refusals.{Tests};
 ghost use Rattle.vx_tree.specs.Faults.{length_fault};
 ghost use Rattle.vx_tree.specs.Formed.{WellFormed};
@@ -61,17 +60,8 @@ pub(crate) fn check_typed_parts(
     ensures formed { IfOk result (λ _. WellFormed (records_by (field_names fields.now) columns.now (valid_of validity.now) len)) }
 {
     check_count(fields.names().len(), columns)?;
-    check_count(dtype_count(fields), columns)?;
     validity.check(len)?;
     check_typed_columns(columns, fields.fields(), len)
-}
-
-// How many data types the fields have.
-#[tactic(auto, using(crate::proofs::Records::Faults::dtypes_counted))]
-fn dtype_count(fields: &StructFields) -> usize
-    ensures { result ≡ kind_count (field_kinds fields.now) }
-{
-    fields.fields().len()
 }
 
 // Refuses the first column that is not of the data type at its place, or has not `len` rows. Asks

@@ -10,7 +10,7 @@ ghost use Rattle.vx_tree.specs.Meaning.{tree_len, trees_from, kind_of, rows};
 ghost use Rattle.vx_lists.specs.Structs.Records.{projected, with_column, without_column};
 ghost use Rattle.vx_lists.specs.Structs.Records.{projected_kind, kind_with_column, kind_without_column};
 ghost use Rattle.vx_lists.specs.Structs.Faults.{names_fault};
-ghost use Rattle.vx_lists.specs.Structs.{names_of, columns_of, with_columns, column_at_place, IsProjected, added, removed};
+ghost use Rattle.vx_lists.specs.Structs.{names_of, with_columns, column_at_place, IsProjected, added, removed};
 
 use crate::structs::array::StructArray;
 use crate::structs::ext::StructArrayExt;
@@ -99,10 +99,9 @@ impl StructArray {
         Ok(Some((rest, removed)))
     }
 
-    // The names without the one at a place. Asks that there is one, and a column there too.
+    // The names without the one at a place. Asks that there is one.
     fn names_without(&self, alloc: Global, place: usize) -> Result<FieldNames, VortexError>
-        requires names { place < length (names_of self.now) }
-        requires columns { place < length (columns_of self.now) }
+        requires { place < length (names_of self.now) }
         ensures { Gives result (λ names. names ≡ remove (names_of self.now) place) }
     {
         let rest = self.struct_fields().without_field(alloc, place)?;

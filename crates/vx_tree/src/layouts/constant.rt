@@ -4,8 +4,8 @@ ghost use Rattle.std.specs.Prelude.{◌≡◌, ◌<◌, ◌≤◌, ◌-◌, ◌�
 ghost use Rattle.vx_base.specs.Kinds.{is_nullable_kind};
 ghost use Rattle.vx_base.specs.DTypes.{dtype_meaning};
 ghost use Rattle.vx_base.specs.Rows.{is_present, null};
-ghost use Rattle.vx_base.specs.Defaults.{default_fault, default_row};
-ghost use Rattle.vx_base.specs.Refusals.{Gives, Refuses, or_else};
+ghost use Rattle.vx_base.specs.Defaults.{default_row};
+ghost use Rattle.vx_base.specs.Refusals.{Gives, Refuses};
 ghost use Rattle.vx_base.specs.ValueRows.{row_under};
 ghost use Rattle.vx_base.specs.Trues.{trues};
 ghost use Rattle.vx_tree.specs.Tree.{constant};
@@ -16,14 +16,14 @@ ghost use Rattle.vx_tree.specs.Shapes.{state_of, row_state};
 ghost use Rattle.vx_tree.specs.Formed.{ValidFits};
 ghost use Rattle.vx_tree.specs.Parts.{valid_of};
 ghost use Rattle.vx_tree.specs.PlainValues.{rows_fault};
-ghost use Rattle.vx_tree.specs.Canonical.{IsCanonical, canonical_fault, nulls_fault};
+ghost use Rattle.vx_tree.specs.Canonical.{IsCanonical, canonical_fault, plain_overflow};
 ghost use Rattle.vx_tree.specs.Operations.{IsSlice, IsSelected, IsNulled, IsNulls, AreBelow};
 
 use crate::array::{ArrayRef, Layout, Validity};
 use crate::plain_parts::plain_values;
 use crate::plain_rows::is_countable;
 use std::alloc::Global;
-use vx_base::{DType, Mask, Nullability, Scalar, ScalarValue, Selection, VortexError};
+use vx_base::{DType, Mask, Scalar, ScalarValue, Selection, VortexError};
 
 impl ArrayRef {
     /// The row `len` times.
@@ -154,13 +154,12 @@ impl ArrayRef {
     }
 
     // `len` rows of its data type where none is given.
-    #[tactic(auto, using(crate::proofs::Defaults::default_of_array))]
     pub(crate) fn default_rows(&self, alloc: Global, len: usize) -> Result<ArrayRef, VortexError>
         ensures { Gives result (λ a. a ≡ constant (kind_of self.now) (default_row (kind_of self.now)) len) }
     {
         self.known();
         let dtype = self.dtype().try_clone(alloc)?;
-        ArrayRef::constant(alloc, Scalar::default_that_fits(alloc, dtype)?, len)
+        ArrayRef::constant(alloc, Scalar::default_value(alloc, dtype)?, len)
     }
 }
 
@@ -186,13 +185,11 @@ fn constant_or_null(
 }
 
 // The one row in plain layout.
-#[tactic(auto, using(crate::proofs::PlainParts::one_row))]
 fn plain_row(alloc: Global, scalar: &Scalar) -> Result<ArrayRef, VortexError>
     ensures ok { IfOk result (IsCanonical (constant scalar.now.kind scalar.now.row 1)) }
-    ensures refuses { Refuses result (or_else (default_fault scalar.now.kind) (rows_fault scalar.now.kind (scalar.now.row ∷ []))) }
+    ensures refuses { Refuses result (rows_fault scalar.now.kind (scalar.now.row ∷ [])) }
 {
     let dtype = scalar.dtype();
-    test_even(alloc, dtype)?;
     plain_values(alloc, dtype, std::slice::from_ref(scalar.value()))
 }
 
@@ -201,25 +198,12 @@ fn plain_row(alloc: Global, scalar: &Scalar) -> Result<ArrayRef, VortexError>
 fn null_rows(alloc: Global, dtype: &DType, len: usize) -> Result<ArrayRef, VortexError>
     requires { is_nullable_kind (dtype_meaning dtype.now) ≡ true }
     ensures ok { IfOk result (IsCanonical (constant (dtype_meaning dtype.now) null len)) }
-    ensures refuses { Refuses result (nulls_fault (dtype_meaning dtype.now) len) }
+    ensures refuses { Refuses result (plain_overflow (dtype_meaning dtype.now) len) }
 {
-    test_even(alloc, dtype)?;
     if !is_countable(dtype, len) {
         return Err(VortexError::Overflow);
     }
     Ok(ArrayRef::blank(alloc, dtype, len, Validity::AllInvalid)?)
-}
-
-// Refuses `MismatchedTypes` a data type with a record that has another number of names than of data
-// types: null, which is its default where null may stand, takes no memory.
-fn test_even(alloc: Global, dtype: &DType) -> Result<(), VortexError>
-    ensures { Refuses result (default_fault (dtype_meaning dtype.now)) }
-{
-    let dtype = dtype.try_clone(alloc)?;
-    let dtype = dtype.union_nullability(Nullability::Nullable);
-    let scalar = Scalar::default_value(alloc, dtype)?;
-    drop(scalar);
-    Ok(())
 }
 
 // The validity of rows that are all this one.

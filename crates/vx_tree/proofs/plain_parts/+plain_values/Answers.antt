@@ -1,9 +1,7 @@
 use Rattle.std.proofs.Common.{rules, ◌≡◌, ◌∙◌, ◌+◌, List, ℕ, map, length, sym, ap, subst, refl, true, IfOk, None, arith}
 use Rattle.std.specs.List.{All}
 use Rattle.vx_base.specs.Codes.{kind_depth, kinds_depth}
-use Rattle.vx_base.specs.declared.dtypes.DType.{DType}
 use Rattle.vx_base.specs.DTypes.{dtype_meaning, dtype_meaning-Struct, field_kinds, field_names, is_nullable, kinds_of}
-use Rattle.vx_base.specs.Defaults.{is_even, even_fields}
 use Rattle.vx_base.specs.Kinds.{fixed_lists, records, is_nullable_kind}
 use Rattle.vx_base.specs.Refusals.{Refuses}
 use Rattle.vx_base.specs.ValueRows.{option_row}
@@ -13,7 +11,6 @@ use Rattle.vx_tree.specs.Meaning.{is_texts}
 use Rattle.vx_tree.specs.Formed.{value_kind}
 use Rattle.vx_tree.specs.Joined.{IsCountsOf}
 use Rattle.vx_tree.specs.PlainValues.{ArePlainValues, FitsIfThere, fields_fault, rows_fault}
-use Rattle.vx_tree.proofs.PlainKinds.{fields_even, fields_even-count}
 use Rattle.vx_tree.proofs.PlainParts.{list_rows_fit, lists_formed, lists_made, fixed_rows_fit, fixed_lists_formed, fixed_lists_made, record_fields_fit, field_values_fit, field_rows, ArePlainFields-next, records_formed, records_made, texts_fault, fields_fault-next}
 use Rattle.vx_tree.proofs.plain_parts.+plain_values.Goals as goal
 
@@ -21,13 +18,9 @@ pub plain_fields-plain_values-requires : goal.plain_fields-plain_values-requires
 plain_fields-plain_values-requires t c =
     let ds = c.args.dtypes.now in
     let i = c.loop-place.place in
-    let d = c.index-dtypes-place.result in
-    let E : DType → Type 0 = λ x. is_even (dtype_meaning x) ≡ true in (
+    let d = c.index-dtypes-place.result in (
       omega (arith, field_depth ds i d c.loop-place-test.true c.index-dtypes-place.is, c.decreases),
-      (
-        subst E (sym c.index-dtypes-place.is) (c.requires.even i d c.loop-place-test.true),
-        rw c.deref.ensures.value (field_values_fit ds i d c.args.values.now c.in_ok-rows.rows.items c.requires.fit c.loop-place-test.true c.index-dtypes-place.is c.in_ok-rows.ensures),
-      ),
+      rw c.deref.ensures.value (field_values_fit ds i d c.args.values.now c.in_ok-rows.rows.items c.requires c.loop-place-test.true c.index-dtypes-place.is c.in_ok-rows.ensures),
     )
 
 pub plain_fields-loop-place-preserved : goal.plain_fields-loop-place-preserved
@@ -47,14 +40,14 @@ plain_fields-loop-place-preserved t c =
 
 pub plain_fixed_lists-plain_values-requires : goal.plain_fixed_lists-plain_values-requires
 plain_fixed_lists-plain_values-requires t c =
-    (omega (arith, c.decreases), (c.requires.even, rw c.deref.ensures.value (fixed_rows_fit (dtype_meaning c.args.items.now) c.args.size (is_nullable c.args.nullability) c.args.values.now c.in_ok-rows.rows.items c.in_ok-rows.ensures c.requires.fit)))
+    (omega (arith, c.decreases), rw c.deref.ensures.value (fixed_rows_fit (dtype_meaning c.args.items.now) c.args.size (is_nullable c.args.nullability) c.args.values.now c.in_ok-rows.rows.items c.in_ok-rows.ensures c.requires))
 
 pub plain_fixed_lists-fixed_size_list-requires : goal.plain_fixed_lists-fixed_size_list-requires
 plain_fixed_lists-fixed_size_list-requires t c =
     let k = dtype_meaning c.args.items.now in
     let ws = c.in_ok-rows.rows.items in
     let made : ArePlainValues k ws c.in_ok-elements.elements = rw c.deref.ensures.value at c.in_ok-elements.ensures.made in
-    fixed_lists_formed c.in_ok-elements.elements k c.args.size (length c.args.values.now) (is_nullable c.args.nullability) (valid_of c.in_ok-validity.validity) c.args.values.now ws c.in_ok-validity.ensures refl c.in_ok-rows.ensures c.requires.fit made
+    fixed_lists_formed c.in_ok-elements.elements k c.args.size (length c.args.values.now) (is_nullable c.args.nullability) (valid_of c.in_ok-validity.validity) c.args.values.now ws c.in_ok-validity.ensures refl c.in_ok-rows.ensures c.requires made
 
 pub plain_fixed_lists-returns-clause-made : goal.plain_fixed_lists-returns-clause-made
 plain_fixed_lists-returns-clause-made t c =
@@ -62,11 +55,11 @@ plain_fixed_lists-returns-clause-made t c =
     let ws = c.in_ok-rows.rows.items in
     let made : ArePlainValues k ws c.in_ok-elements.elements = rw c.deref.ensures.value at c.in_ok-elements.ensures.made in
     fixed_lists_made c.in_ok-fixed_size_list.field-0 c.in_ok-elements.elements k c.args.size (length c.args.values.now) (is_nullable c.args.nullability) (valid_of c.in_ok-validity.validity) c.args.values.now ws
-    c.in_ok-validity.ensures refl c.in_ok-rows.ensures c.requires.fit made c.in_ok-fixed_size_list.ensures
+    c.in_ok-validity.ensures refl c.in_ok-rows.ensures c.requires made c.in_ok-fixed_size_list.ensures
 
 pub plain_lists-plain_values-requires : goal.plain_lists-plain_values-requires
 plain_lists-plain_values-requires t c =
-    (omega (arith, c.decreases), (c.requires.even, rw c.deref.ensures.value (list_rows_fit (dtype_meaning c.args.items.now) (is_nullable c.args.nullability) c.args.values.now c.in_ok-rows.rows.items c.in_ok-rows.ensures.items c.requires.fit)))
+    (omega (arith, c.decreases), rw c.deref.ensures.value (list_rows_fit (dtype_meaning c.args.items.now) (is_nullable c.args.nullability) c.args.values.now c.in_ok-rows.rows.items c.in_ok-rows.ensures.items c.requires))
 
 pub plain_lists-list_view-requires : goal.plain_lists-list_view-requires
 plain_lists-list_view-requires t c =
@@ -96,23 +89,18 @@ pub plain_records-plain_fields-requires : goal.plain_records-plain_fields-requir
 plain_records-plain_fields-requires t c =
     let fs = c.args.fields.now in
     let ds = c.fields.result.now in
-    let even : even_fields (field_names fs) (kinds_of ds) ≡ true = ap (even_fields (field_names fs)) c.fields.ensures ∙ c.requires.even in
-    let deep : kinds_depth (kinds_of ds) ≡ kinds_depth (field_kinds fs) = ap kinds_depth c.fields.ensures in (
+    let deep : kinds_depth (kinds_of ds) ≡ kinds_depth (field_kinds fs) = ap kinds_depth c.fields.ensures.kinds in (
       omega (arith, deep, c.decreases),
-      (
-        fields_even (field_names fs) ds even,
-        record_fields_fit (field_names fs) ds (is_nullable c.args.nullability) c.args.values.now
-            (subst (λ ks. All (FitsIfThere (records (field_names fs) ks (is_nullable c.args.nullability))) c.args.values.now) (sym c.fields.ensures) c.requires.fit),
-      ),
+      record_fields_fit (field_names fs) ds (is_nullable c.args.nullability) c.args.values.now
+          (subst (λ ks. All (FitsIfThere (records (field_names fs) ks (is_nullable c.args.nullability))) c.args.values.now) (sym c.fields.ensures.kinds) c.requires),
     )
 
 pub plain_records-structure-requires-clause-columns : goal.plain_records-structure-requires-clause-columns
 plain_records-structure-requires-clause-columns t c =
     let fs = c.args.fields.now in
     let ds = c.fields.result.now in
-    let even : even_fields (field_names fs) (kinds_of ds) ≡ true = ap (even_fields (field_names fs)) c.fields.ensures ∙ c.requires.even in
     rw (c.in_ok-names.ensures, c.names.ensures) ((records_formed (field_names fs) ds (is_nullable c.args.nullability) (valid_of c.in_ok-validity.validity) c.args.values.now c.in_ok-columns.columns.items (length c.args.values.now)
-    c.in_ok-validity.ensures refl (fields_even-count (field_names fs) ds even) c.in_ok-columns.ensures.made).1)
+    c.in_ok-validity.ensures refl (sym c.fields.ensures.count) c.in_ok-columns.ensures.made).1)
 
 pub plain_records-returns-clause-made : goal.plain_records-returns-clause-made
 plain_records-returns-clause-made t c =
@@ -121,7 +109,7 @@ plain_records-returns-clause-made t c =
     let m = is_nullable c.args.nullability in
     let records_of = records_made c.in_ok-structure.field-0 (field_names fs) ds m (valid_of c.in_ok-validity.validity) c.args.values.now c.in_ok-columns.columns.items (length c.args.values.now)
     c.in_ok-validity.ensures refl c.in_ok-columns.ensures.made (rw (c.in_ok-names.ensures, c.names.ensures) at c.in_ok-structure.ensures) in
-    subst (λ ks. ArePlainValues (records (field_names fs) ks m) c.args.values.now c.in_ok-structure.field-0) c.fields.ensures records_of
+    subst (λ ks. ArePlainValues (records (field_names fs) ks m) c.args.values.now c.in_ok-structure.field-0) c.fields.ensures.kinds records_of
 
 pub plain_values-plain_records-requires : goal.plain_values-plain_records-requires
 plain_values-plain_records-requires t c =
@@ -129,7 +117,7 @@ plain_values-plain_records-requires t c =
     let n = c.in-Struct.nullability in
     let kind : dtype_meaning c.args.dtype.now ≡ records (field_names fs) (field_kinds fs) (is_nullable n) = ap dtype_meaning c.in-Struct.is ∙ dtype_meaning-Struct fs n in
     let deep : kind_depth (dtype_meaning c.args.dtype.now) ≡ kinds_depth (field_kinds fs) + 1 = ap kind_depth kind in
-    (omega (arith, deep, c.decreases), (ap is_even (sym kind) ∙ c.requires.even, subst (λ k. All (FitsIfThere k) c.args.values.now) kind c.requires.fit))
+    (omega (arith, deep, c.decreases), subst (λ k. All (FitsIfThere k) c.args.values.now) kind c.requires)
 
 pub plain_values-returns-in-FixedSizeList-clause-refuses : goal.plain_values-returns-in-FixedSizeList-clause-refuses
 plain_values-returns-in-FixedSizeList-clause-refuses t c =

@@ -26,5 +26,5 @@ are_countable-is_countable-requires t c =
 pub is_countable-are_countable-requires : goal.is_countable-are_countable-requires
 is_countable-are_countable-requires t c =
     let ds = c.fields.result.now in
-    let deep : kind_depth (dtype_meaning c.args.dtype.now) ≡ kinds_depth (kinds_of ds) + 1 = struct_depth c.args.dtype.now c.in-Struct.fields c.in-Struct.field-1 c.in-Struct.is ∙ ap (λ ks. kinds_depth ks + 1) (sym c.fields.ensures) in
+    let deep : kind_depth (dtype_meaning c.args.dtype.now) ≡ kinds_depth (kinds_of ds) + 1 = struct_depth c.args.dtype.now c.in-Struct.fields c.in-Struct.field-1 c.in-Struct.is ∙ ap (λ ks. kinds_depth ks + 1) (sym c.fields.ensures.kinds) in
     (omega (arith, deep, c.decreases), tt)

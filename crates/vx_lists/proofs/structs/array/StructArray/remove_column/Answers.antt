@@ -9,11 +9,6 @@ use Rattle.vx_lists.proofs.Records.Parts.{place_of_column}
 use Rattle.vx_lists.proofs.Records.ColumnRows.{names_of_columns, removed_fits, removed-found, removed_rows, removed_kind}
 use Rattle.vx_lists.proofs.structs.array.StructArray.remove_column.Goals as goal
 
-pub names_without-requires-clause-columns : goal.names_without-requires-clause-columns
-names_without-requires-clause-columns c =
-    let p = c.parts-parts.result in
-    rw c.parts-parts.ensures.columns (place_of_column p.names.now p.columns.now (valid_of p.validity.now) p.len c.args.name.now c.in-Some.place c.parts-parts.ensures.formed (sym c.in-Some.ensures))
-
 pub columns_without-requires : goal.columns_without-requires
 columns_without-requires c =
     let p = c.parts-parts.result in
