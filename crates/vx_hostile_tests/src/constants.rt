@@ -1,17 +1,76 @@
 // Constants of more rows than memory could hold.
 
-use super::columns::zeros;
+use super::columns::{has_numbers, ints, zeros};
+use std::alloc::Global;
 use std::test::Fail;
-use vx_base::VortexError;
-use vx_tree::ArrayRef;
+use vx_base::{BitBuffer, DType, Nullability, PType, Scalar, VortexError};
+use vx_leaves::DictArray;
+use vx_tree::{ArrayRef, TypedArray, Validity};
 
 // Half of the rows that can be counted, and one more than half of the greatest count.
 const HALF: usize = 9223372036854775808;
+
+// More rows than memory holds a byte for.
+const MANY: usize = 1099511627776;
+
+// The truth value so many times.
+fn truths(alloc: Global, value: bool) -> Result<ArrayRef, VortexError> {
+    ArrayRef::constant(alloc, Scalar::bool(value, Nullability::NonNullable), MANY)
+}
+
+// A code into null and 6, so many times.
+fn dictionary(alloc: Global) -> Result<ArrayRef, VortexError> {
+    let values = ints::<i8>(alloc, &[5, 6])?;
+    let bits = BitBuffer::from_bools(alloc, &[false, true])?;
+    let mask = ArrayRef::bools(alloc, bits, Validity::NonNullable)?;
+    let values = values.mask(alloc, &mask)?;
+    Ok(DictArray::try_new(alloc, zeros(alloc, MANY)?, values)?.into_array())
+}
 
 #[test]
 fn two_halves_of_all_rows_are_too_many(rt: HostRuntime) -> Result<(), Fail> {
     let halves = vec![in rt.alloc(); zeros(rt.alloc(), HALF)?, zeros(rt.alloc(), HALF)?]?;
     let fault = ArrayRef::concat(rt.alloc(), &halves).err();
     assert_eq!(rt; fault, Some(VortexError::Overflow));
+    Ok(())
+}
+
+#[test]
+fn as_many_equal_indices_as_rows(rt: HostRuntime) -> Result<(), Fail> {
+    let rows = zeros(rt.alloc(), MANY)?;
+    let taken = rows.take(rt.alloc(), &rows)?;
+    let part = taken.slice(rt.alloc(), MANY - 2..MANY)?;
+    assert!(rt; has_numbers(&part, &[0, 0]));
+    Ok(())
+}
+
+#[test]
+fn as_many_null_indices_as_rows(rt: HostRuntime) -> Result<(), Fail> {
+    let null = Scalar::null(DType::Primitive(PType::U8, Nullability::Nullable));
+    let nulls = ArrayRef::constant(rt.alloc(), null, MANY)?;
+    let taken = zeros(rt.alloc(), MANY)?.take(rt.alloc(), &nulls)?;
+    assert_eq!(rt; taken.len(), MANY);
+    assert!(rt; !taken.is_valid(rt.alloc(), MANY - 1)?);
+    Ok(())
+}
+
+#[test]
+fn a_mask_of_one_value_for_as_many_rows(rt: HostRuntime) -> Result<(), Fail> {
+    let rows = zeros(rt.alloc(), MANY)?;
+    let kept = rows.mask(rt.alloc(), &truths(rt.alloc(), true)?)?;
+    let gone = kept.mask(rt.alloc(), &truths(rt.alloc(), false)?)?;
+    assert!(rt; kept.is_valid(rt.alloc(), MANY - 1)?);
+    assert!(rt; !gone.is_valid(rt.alloc(), MANY - 1)?);
+    Ok(())
+}
+
+#[test]
+fn the_validity_of_as_many_equal_codes(rt: HostRuntime) -> Result<(), Fail> {
+    let validity = dictionary(rt.alloc())?.validity(rt.alloc())?;
+    assert!(rt; !validity.is_valid(rt.alloc(), MANY - 1)?);
+    let opposite = validity.not(rt.alloc())?;
+    assert!(rt; opposite.is_valid(rt.alloc(), MANY - 1)?);
+    let both = opposite.and(rt.alloc(), Validity::Array(truths(rt.alloc(), false)?))?;
+    assert!(rt; !both.is_valid(rt.alloc(), MANY - 1)?);
     Ok(())
 }
