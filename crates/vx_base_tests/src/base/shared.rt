@@ -46,7 +46,7 @@ fn null_and_default_rows(rt: HostRuntime) -> Result<(), VortexError> {
     let null = Scalar::null(DType::Utf8(Nullability::Nullable));
     assert!(rt; null.is_null() && !null.is_valid());
     let number = DType::Primitive(PType::U8, Nullability::NonNullable);
-    let zero = Scalar::default_that_fits(rt.alloc(), number)?;
+    let zero = Scalar::default_value(rt.alloc(), number)?;
     assert!(rt; zero.as_int() == Some(0) && zero.is_valid());
     Ok(())
 }
