@@ -85,24 +85,12 @@ impl ListViewArray {
         Ok((elements, runs))
     }
 
-    // The elements of the plan, run by run.
-    fn elements_by_runs(&self, alloc: Global, plan: &RebuildPlan) -> Result<ArrayRef, VortexError>
-        requires plan { IsRebuildPlan self.now plan.now.offset_type plan.now.offsets
-            plan.now.size_type plan.now.sizes plan.now.count }
-        requires fits { rebuilt_total_fault self.now ≡ None }
-        ensures selected { IfOk result
-            (IsSelected (elements_of self.now) (valid_positions_of self.now)) }
-        ensures refuses { Refuses result (rebuild_overflow self.now) }
-    {
-        let (elements, runs) = self.planned_runs(alloc, plan)?;
-        elements.select(alloc, &Selection::of_runs(&runs, plan.count))
-    }
-
-    // The elements of the plan, by their positions.
-    fn elements_at_positions(
+    // The elements of the plan: run by run, or by their positions.
+    fn planned_elements(
         &self,
         alloc: Global,
         plan: &RebuildPlan,
+        by_runs: bool,
     ) -> Result<ArrayRef, VortexError>
         requires plan { IsRebuildPlan self.now plan.now.offset_type plan.now.offsets
             plan.now.size_type plan.now.sizes plan.now.count }
@@ -112,41 +100,19 @@ impl ListViewArray {
         ensures refuses { Refuses result (rebuild_overflow self.now) }
     {
         let (elements, runs) = self.planned_runs(alloc, plan)?;
+        if by_runs {
+            return elements.select(alloc, &Selection::of_runs(&runs, plan.count));
+        }
         let positions = positions_of_runs(alloc, &runs, plan.count)?;
         elements.select(alloc, &Selection::at_positions(&positions))
     }
 
-    // The elements of the plan at once: of numbers and bits ranges are copied.
-    fn take_elements(&self, alloc: Global, plan: &RebuildPlan) -> Result<ArrayRef, VortexError>
-        requires plan { IsRebuildPlan self.now plan.now.offset_type plan.now.offsets
-            plan.now.size_type plan.now.sizes plan.now.count }
-        requires fits { rebuilt_total_fault self.now ≡ None }
-        ensures selected { IfOk result
-            (IsSelected (elements_of self.now) (valid_positions_of self.now)) }
-        ensures refuses { Refuses result (rebuild_overflow self.now) }
-    {
-        if matches!(
+    // Whether ranges of the elements are copied in any case: of numbers and of bits.
+    fn has_ranges(&self) -> bool {
+        matches!(
             self.parts().elements.layout(),
             Layout::Bool { .. } | Layout::Primitive { .. }
-        ) {
-            return self.elements_by_runs(alloc, plan);
-        }
-        self.elements_at_positions(alloc, plan)
-    }
-
-    // The elements of the plan, at once or run by run, as `should_use_take` says.
-    fn planned_elements(&self, alloc: Global, plan: &RebuildPlan) -> Result<ArrayRef, VortexError>
-        requires plan { IsRebuildPlan self.now plan.now.offset_type plan.now.offsets
-            plan.now.size_type plan.now.sizes plan.now.count }
-        requires fits { rebuilt_total_fault self.now ≡ None }
-        ensures selected { IfOk result
-            (IsSelected (elements_of self.now) (valid_positions_of self.now)) }
-        ensures refuses { Refuses result (rebuild_overflow self.now) }
-    {
-        if Self::should_use_take(plan.count as u64, self.len()) {
-            return self.take_elements(alloc, plan);
-        }
-        self.elements_by_runs(alloc, plan)
+        )
     }
 
     // The rebuilt list view of a plan over these elements.
@@ -190,7 +156,7 @@ impl ListViewArray {
         ensures refuses { Refuses result (rebuild_overflow self.now) }
     {
         let plan = self.plan(alloc)?;
-        let elements = self.take_elements(alloc, &plan)?;
+        let elements = self.planned_elements(alloc, &plan, self.has_ranges())?;
         Ok(self.rebuilt(alloc, plan, elements)?)
     }
 
@@ -201,7 +167,7 @@ impl ListViewArray {
         ensures refuses { Refuses result (rebuild_overflow self.now) }
     {
         let plan = self.plan(alloc)?;
-        let elements = self.elements_by_runs(alloc, &plan)?;
+        let elements = self.planned_elements(alloc, &plan, true)?;
         Ok(self.rebuilt(alloc, plan, elements)?)
     }
 
@@ -219,7 +185,9 @@ impl ListViewArray {
         ensures refuses { Refuses result (rebuild_overflow self.now) }
     {
         let plan = self.plan(alloc)?;
-        let elements = self.planned_elements(alloc, &plan)?;
+        let at_once = Self::should_use_take(plan.count as u64, self.len());
+        let by_runs = !at_once || self.has_ranges();
+        let elements = self.planned_elements(alloc, &plan, by_runs)?;
         Ok(self.rebuilt(alloc, plan, elements)?)
     }
 
