@@ -1,22 +1,34 @@
-/* Preloaded into a program under test: makes one of its calls of the C library fail.
+/* Preloaded into a program under test: makes calls of the C library fail.
  * FAIL_ALLOCATION=N, FAIL_READ=N, FAIL_WRITE=N: the Nth such call fails, counted from 1.
+ * FAIL_ALLOCATION=N.. : the Nth allocation fails, and so does each one after it.
  * COUNT_CALLS=FILE: at the end, FILE has how many calls there were of each of the three. */
 #define _GNU_SOURCE
 #include <dlfcn.h>
 #include <errno.h>
 #include <stdio.h>
 #include <stdlib.h>
+#include <string.h>
 #include <unistd.h>
 
-static long wanted(const char *name) {
+/* The first call that fails, and whether the later ones do too. */
+struct wanted {
+    long first;
+    int later;
+};
+
+static struct wanted wanted(const char *name) {
     const char *text = getenv(name);
-    return text ? atol(text) : 0;
+    char *end = "";
+    struct wanted it = {text ? strtol(text, &end, 10) : 0, 0};
+    it.later = strcmp(end, "..") == 0;
+    return it;
 }
 
 static int fails(long *calls, const char *name) {
-    return ++*calls == wanted(name);
+    struct wanted it = wanted(name);
+    ++*calls;
+    return it.first > 0 && (*calls == it.first || (it.later && *calls > it.first));
 }
-
 static long allocations, reads, writes;
 
 #define NEXT(name) ((__typeof__(&name))dlsym(RTLD_NEXT, #name))
