@@ -164,10 +164,7 @@ fn typed_sizes<S: NativePType, N: NativePType>(
     ensures { Gives result (λ b.
         HoldCounts N.PTYPE b (valid_sizes (counts_of S.PTYPE sizes.now) mask.now)) }
 {
-    let count = number_count(sizes, S::PTYPE);
-    let Some(len) = count.checked_mul(N::PTYPE.byte_width()) else {
-        return Err(VortexError::Memory);
-    };
+    let len = number_count(sizes, S::PTYPE).saturating_mul(N::PTYPE.byte_width());
     let mut out = vec![in alloc; 0u8; len]?;
     put_valid_sizes::<S, N>(sizes, mask, &mut out);
     Ok(ByteBuffer::from_vec(alloc, out)?)
@@ -243,10 +240,7 @@ fn typed_starts<O: NativePType, S: NativePType>(
     ensures { Gives result (λ b.
         HoldCounts O.PTYPE b (starts_from 0 (counts_of S.PTYPE sizes.now))) }
 {
-    let count = number_count(sizes, S::PTYPE);
-    let Some(len) = count.checked_mul(O::PTYPE.byte_width()) else {
-        return Err(VortexError::Memory);
-    };
+    let len = number_count(sizes, S::PTYPE).saturating_mul(O::PTYPE.byte_width());
     let mut out = vec![in alloc; 0u8; len]?;
     put_starts::<O, S>(sizes, &mut out);
     Ok(ByteBuffer::from_vec(alloc, out)?)
