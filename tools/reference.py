@@ -2,6 +2,8 @@
 import re
 from typing import Any, Dict, List, NamedTuple, Optional, Tuple
 
+from rows import Rows, blocks, joined, listed, repeated, zipped
+
 RANGES: Dict[str, range] = {f"u{bits}": range(0, 2**bits) for bits in (8, 16, 32, 64)}
 RANGES.update({f"i{bits}": range(-(2 ** (bits - 1)), 2 ** (bits - 1)) for bits in (8, 16, 32, 64)})
 REBUILT = {"u8": "u32", "u16": "u32", "u32": "u32", "u64": "u64"}
@@ -15,6 +17,8 @@ OPERANDS.update({"rebuild": (2, 2), "const": (3, 3), "slice": (3, 3), "listview"
 OPERANDS.update({"fixed": (4, 4), "concat": (0, None), "struct": (2, None), "project": (1, None)})
 PLAIN_LAYOUTS = {"bool": "bool", "utf8": "views", "binary": "views"}
 PLAIN_LAYOUTS.update({"list": "listview", "fixed": "fixed", "record": "struct"})
+MOST_LISTED = 2**16  # rows that differ, which this reading writes out
+MOST_BYTES = 2**31  # of an answer, from which on it is `Memory`
 
 
 class Fault(Exception):
@@ -25,7 +29,7 @@ class Array(NamedTuple):
     layout: str  # bool, primitive, constant, dict, fixed, listview, struct or views
     kind: str  # bool, utf8, binary, list, fixed (lists of one size), record or an integer type
     nullable: bool
-    rows: List[Any]  # None where a row is null; a record is a tuple of its names and rows
+    rows: Rows  # None where a row is null; a list is of its own rows, and a record a tuple of its names and rows
     elements: Optional["Array"] = None  # of lists, also of those that a dictionary names
     size: int = 0  # of lists of one size
     names: Tuple[str, ...] = ()  # of records
@@ -99,14 +103,14 @@ def read_register(word: str) -> int:
 # ---- calls
 
 
-def literal(layout: str, kind: str, nullable: bool, rows: List[Any]) -> Array:
+def literal(layout: str, kind: str, nullable: bool, rows: Rows) -> Array:
     want(nullable or None not in rows, "HasNulls")
     return Array(layout, kind, nullable, rows)
 
 
-def list_rows(elements: Array, offsets: List[int], sizes: List[int], mask: List[bool]):
-    spans = zip(offsets, sizes, mask)
-    return [elements.rows[o : o + s] if there else None for o, s, there in spans]
+def numbers(kind: str, rows: Rows) -> Array:
+    """Plain numbers of an integer type."""
+    return Array("primitive", kind, False, rows)
 
 
 def is_mask(validity) -> bool:
@@ -116,26 +120,35 @@ def is_mask(validity) -> bool:
 
 def want_rows(validity, count: int):
     """Refuses an array of another length as the validity of so many rows."""
-    want(isinstance(validity, str) or len(validity.rows) == count, "LengthMismatch")
+    want(isinstance(validity, str) or validity.rows.count == count, "LengthMismatch")
 
 
-def mask_of(validity, count: int) -> List[bool]:
+def mask_of(validity, count: int) -> Rows:
     """Which of so many rows a validity says are there."""
     want_rows(validity, count)
-    return [validity != "allinvalid"] * count if isinstance(validity, str) else validity.rows
+    if isinstance(validity, str):
+        return repeated(validity != "allinvalid", count)
+    return validity.rows
+
+
+def masked(rows: Rows, mask: Rows) -> Rows:
+    """The rows, null where the mask is false."""
+    return Rows((row if there else None, count) for (row, there), count in zipped(rows, mask))
 
 
 def list_view(elements: Array, offsets: Array, sizes: Array, validity) -> Array:
     want(offsets.is_plain_integers() and sizes.is_plain_integers(), "MismatchedTypes")
     want(is_mask(validity), "MismatchedTypes")
-    count = len(offsets.rows)
-    want(len(sizes.rows) == count, "LengthMismatch")
+    count = offsets.rows.count
+    want(sizes.rows.count == count, "LengthMismatch")
     mask = mask_of(validity, count)
-    for offset, size in zip(offsets.rows, sizes.rows):
+    rows = []
+    for (offset, size), times in zipped(offsets.rows, sizes.rows):
         want(offset >= 0 and size >= 0, "Negative")
         want(offset + size < 2**64, "Overflow")
-        want(offset + size <= len(elements.rows), "OutOfBounds")
-    rows = list_rows(elements, offsets.rows, sizes.rows, mask)
+        want(offset + size <= elements.rows.count, "OutOfBounds")
+        rows.append((elements.rows.between(offset, offset + size), times))
+    rows = masked(Rows(rows), mask)
     parts = {"elements": elements, "offsets": offsets, "sizes": sizes}
     return Array("listview", "list", validity != "nonnull", rows, **parts)
 
@@ -143,20 +156,19 @@ def list_view(elements: Array, offsets: Array, sizes: Array, validity) -> Array:
 def fixed_lists(elements: Array, size: int, validity, count: int) -> Array:
     want(is_mask(validity), "MismatchedTypes")
     want_rows(validity, count)
-    want(size > 0 or not elements.rows, "DegenerateElements")
+    want(size > 0 or elements.rows.count == 0, "DegenerateElements")
     want(count * size < 2**64, "Overflow")
-    want(len(elements.rows) == count * size, "LengthMismatch")
-    offsets = [row * size for row in range(count)]
-    rows = list_rows(elements, offsets, [size] * count, mask_of(validity, count))
+    want(elements.rows.count == count * size, "LengthMismatch")
+    rows = masked(blocks(elements.rows, size, count), mask_of(validity, count))
     return Array("fixed", "fixed", validity != "nonnull", rows, elements=elements, size=size)
 
 
 def records(count: int, validity, names: List[str], columns: List[Array]) -> Array:
     want(is_mask(validity), "MismatchedTypes")
     mask = mask_of(validity, count)
-    want(all(len(column.rows) == count for column in columns), "LengthMismatch")
-    fields = [tuple((n, c.rows[row]) for n, c in zip(names, columns)) for row in range(count)]
-    rows = [record if there else None for record, there in zip(fields, mask)]
+    want(all(column.rows.count == count for column in columns), "LengthMismatch")
+    fields = zipped(repeated(None, count), *[column.rows for column in columns])
+    rows = masked(Rows((tuple(zip(names, row[1:])), times) for row, times in fields), mask)
     parts = {"names": tuple(names), "columns": tuple(columns)}
     return Array("struct", "record", validity != "nonnull", rows, **parts)
 
@@ -165,55 +177,93 @@ def project(array: Array, names: List[str]) -> Array:
     want(array.layout == "struct", "MismatchedTypes")
     want(all(name in array.names for name in names), "UnknownField")
     places = [array.names.index(name) for name in names]
-    rows = [None if row is None else tuple(row[i] for i in places) for row in array.rows]
+    picked = lambda row: None if row is None else tuple(row[i] for i in places)
     columns = tuple(array.columns[i] for i in places)
-    return array._replace(rows=rows, names=tuple(names), columns=columns)
+    return array._replace(rows=array.rows.changed(picked), names=tuple(names), columns=columns)
 
 
 def texts(kind: str, nullable: bool, rows: List[Any]) -> Array:
     for row in rows:
         want(nullable or row is not None, "HasNulls")
         want(fits(kind, row), "NotUtf8")
-    return Array("views", kind, nullable, rows, buffers=int(any(map(is_long, rows))))
+    return Array("views", kind, nullable, listed(rows), buffers=int(any(map(is_long, rows))))
+
+
+def selected(array: Array, indices: Array) -> Rows:
+    """The rows that indices name, null where an index is."""
+    for index in indices.rows.different():
+        want(index is None or index >= 0, "Negative")
+        want(index is None or index < array.rows.count, "OutOfBounds")
+    return indices.rows.changed(lambda index: None if index is None else array.rows[index])
 
 
 def dictionary(codes: Array, values: Array) -> Array:
     want(codes.kind in RANGES, "MismatchedTypes")
-    for code in codes.rows:
-        want(code is None or code >= 0, "Negative")
-        want(code is None or code < len(values.rows), "OutOfBounds")
-    rows = [None if code is None else values.rows[code] for code in codes.rows]
-    kept = values.buffers if values.rows or values.buffers == 0 else None
-    parts = {"codes": codes, "count": len(values.rows), "buffers": kept, "is_exact": True}
+    rows = selected(values, codes)
+    kept = values.buffers if values.rows.count or values.buffers == 0 else None
+    parts = {"codes": codes, "count": values.rows.count, "buffers": kept, "is_exact": True}
     nullable = values.nullable or codes.nullable
     return values._replace(layout="dict", nullable=nullable, rows=rows, flag=False, **parts)
 
 
 def narrow(array: Array) -> Array:
     want(array.layout == "primitive", "MismatchedTypes")
-    numbers = [row for row in array.rows if row is not None]
-    if max(numbers, default=0) >= 2**63:
+    there = [row for row in array.rows.different() if row is not None]
+    if max(there, default=0) >= 2**63:
         return array
-    names = ("i8", "i16", "i32") if min(numbers, default=0) < 0 else ("u8", "u16", "u32")
-    fitting = [name for name in names if all(number in RANGES[name] for number in numbers)]
+    names = ("i8", "i16", "i32") if min(there, default=0) < 0 else ("u8", "u16", "u32")
+    fitting = [name for name in names if all(number in RANGES[name] for number in there)]
     return array._replace(kind=(fitting + [array.kind])[0])
 
 
 def trim(array: Array) -> Array:
     if not array.is_exact:
         return array
-    start = min(array.offsets.rows)
-    end = max(offset + size for offset, size in zip(array.offsets.rows, array.sizes.rows))
-    offsets = [offset - start for offset in array.offsets.rows]
+    start = min(array.offsets.rows.different())
+    end = max(offset + size for (offset, size), _ in zipped(array.offsets.rows, array.sizes.rows))
+    offsets = array.offsets.rows.changed(lambda offset: offset - start)
     return array._replace(
         elements=slice_array(array.elements, start, end),
-        offsets=Array("primitive", array.offsets.kind, False, offsets),
+        offsets=made(numbers(array.offsets.kind, offsets)),
     )
+
+
+def laid_out(array: Array):
+    """The items of all lists one after another, and where each list starts."""
+    items, starts, place = [], [], 0
+    for row, count in array.rows.runs:
+        size = row.count if row else 0
+        want(size == 0 or count <= MOST_LISTED, "Memory")
+        items += [row] * (count if size else 0)
+        starts += [(place + size * i, 1) for i in range(count)] if size else [(place, count)]
+        place += size * count
+    return joined(items), Rows(starts)
+
+
+def weight(array: Array, count: int) -> int:
+    """How many bytes so many rows take in an array's layout, without what constants and states can say."""
+    if array.layout == "listview":
+        return weight(array.offsets, count) + weight(array.sizes, count)
+    if array.layout == "dict":
+        return weight(array.codes, count)
+    if array.layout == "fixed":
+        return weight(array.elements, count * array.size)
+    if array.layout == "struct":
+        return sum(weight(column, count) for column in array.columns)
+    if array.layout == "primitive":
+        return count * int(array.kind[1:]) // 8
+    return count * {"constant": 0, "bool": 1, "views": 128, "rows": 128}[array.layout] // 8
+
+
+def made(array: Array) -> Array:
+    """An array that is made anew, where there is memory for it."""
+    want(weight(array, array.rows.count) < MOST_BYTES, "Memory")
+    return array
 
 
 def rebuild(array: Array, mode: str) -> Array:
     want(array.layout == "listview", "MismatchedTypes")
-    if not array.rows:
+    if array.rows.count == 0:
         return array._replace(flag=True)
     want(mode != "overlap", "NotImplemented")
     if mode == "trim" or (mode == "exact" and array.flag):
@@ -221,22 +271,25 @@ def rebuild(array: Array, mode: str) -> Array:
     if array.flag:
         return array
     offset_type, size_type = REBUILT[array.offsets.kind], REBUILT[array.sizes.kind]
-    sizes = [0 if row is None else len(row) for row in array.rows]
-    want(sum(sizes) in RANGES[offset_type] and sum(sizes) in RANGES[size_type], "Overflow")
-    offsets = [sum(sizes[:i]) for i in range(len(sizes))]
-    rows = [item for row in array.rows if row is not None for item in row]
-    return array._replace(
-        elements=array.elements._replace(layout="rows", rows=rows),
-        offsets=Array("primitive", offset_type, False, offsets),
-        sizes=Array("primitive", size_type, False, sizes),
+    made(numbers(offset_type, array.offsets.rows))
+    sizes = array.rows.changed(lambda row: 0 if row is None else row.count)
+    total = sum(size * count for size, count in sizes.runs)
+    want(total in RANGES[offset_type] and total in RANGES[size_type], "Overflow")
+    rows, offsets = laid_out(array)
+    layout = "constant" if array.elements.layout == "constant" else "rows"
+    rebuilt = array._replace(
+        elements=made(array.elements._replace(layout=layout, rows=rows)),
+        offsets=numbers(offset_type, offsets),
+        sizes=numbers(size_type, sizes),
         flag=True,
         is_exact=True,
     )
+    return made(rebuilt)
 
 
 def slice_array(array: Array, start: int, end: int) -> Array:
-    want(end <= len(array.rows) and start <= end, "OutOfBounds")
-    array = array._replace(rows=array.rows[start:end])
+    want(end <= array.rows.count and start <= end, "OutOfBounds")
+    array = array._replace(rows=array.rows.between(start, end))
     if array.layout == "listview":
         offsets = slice_array(array.offsets, start, end)
         return array._replace(offsets=offsets, sizes=slice_array(array.sizes, start, end))
@@ -256,47 +309,59 @@ def fits_usize(array: Array, count: int) -> bool:
 
 def take(array: Array, indices: Array) -> Array:
     want(indices.kind in RANGES, "MismatchedTypes")
-    for index in indices.rows:
-        want(index is None or index >= 0, "Negative")
-        want(index is None or index < len(array.rows), "OutOfBounds")
-    want(fits_usize(array, len(indices.rows)), "Overflow")
-    rows = [None if index is None else array.rows[index] for index in indices.rows]
+    rows = selected(array, indices)
+    want(fits_usize(array, indices.rows.count), "Overflow")
     taken = array._replace(rows=rows, nullable=array.nullable or indices.nullable)
     if array.layout == "listview":
         is_exact = array.is_exact and None not in indices.rows
-        there = Array("primitive", "u64", False, [index or 0 for index in indices.rows])
+        there = numbers("u64", indices.rows.changed(lambda index: index or 0))
         if is_exact:
             taken = taken._replace(
                 offsets=take(array.offsets, there), sizes=take(array.sizes, there)
             )
-        return taken._replace(flag=False, is_exact=is_exact)
+        return made(taken._replace(flag=False, is_exact=is_exact))
     if array.layout == "dict":
-        return taken._replace(codes=take(array.codes, indices))
+        return made(taken._replace(codes=take(array.codes, indices)))
     if array.layout == "constant" and indices.nullable:
-        zeroes = [None if index is None else 0 for index in indices.rows]
+        zeroes = indices.rows.changed(lambda index: None if index is None else 0)
         return taken._replace(layout="dict", codes=Array("primitive", "u8", True, zeroes), count=1)
-    return taken
+    return made(taken)
 
 
-def kept(array: Array, mask: Array) -> List[int]:
-    """The rows at which a mask of plain booleans is true."""
+def want_mask(array: Array, mask: Array):
+    """Refuses a mask that is not of plain booleans, one for each row."""
     want(mask.kind == "bool" and not mask.nullable, "MismatchedTypes")
-    want(len(mask.rows) == len(array.rows), "LengthMismatch")
-    return [row for row, is_kept in enumerate(mask.rows) if is_kept]
+    want(mask.rows.count == array.rows.count, "LengthMismatch")
+
+
+def kept(rows: Rows, mask: Rows) -> Rows:
+    """The rows at which a mask is true."""
+    return Rows((row, count) for (row, there), count in zipped(rows, mask) if there)
 
 
 def filter_array(array: Array, mask: Array) -> Array:
-    return take(array, Array("primitive", "u64", False, kept(array, mask)))
+    want_mask(array, mask)
+    filtered = array._replace(rows=kept(array.rows, mask.rows))
+    part = lambda counts: counts._replace(rows=kept(counts.rows, mask.rows))
+    if array.layout == "listview":
+        parts = {"offsets": part(array.offsets), "sizes": part(array.sizes)}
+        return filtered._replace(flag=False, **(parts if array.is_exact else {}))
+    if array.layout == "dict":
+        return filtered._replace(codes=part(array.codes))
+    return filtered
 
 
 def mask_array(array: Array, mask: Array) -> Array:
-    there = set(kept(array, mask))
-    places = [row if row in there else None for row in range(len(array.rows))]
-    rows = [None if place is None else array.rows[place] for place in places]
-    masked = array._replace(rows=rows, nullable=True)
-    if array.layout in ("dict", "constant"):
-        return take(array, Array("primitive", "u64", True, places))
-    return masked
+    want_mask(array, mask)
+    nulled = array._replace(rows=masked(array.rows, mask.rows), nullable=True)
+    if array.layout == "dict":
+        codes = array.codes._replace(rows=masked(array.codes.rows, mask.rows), nullable=True)
+        return nulled._replace(codes=codes)
+    if array.layout == "constant":
+        zeroes = masked(repeated(0, mask.rows.count), mask.rows)
+        codes = Array("primitive", "u8", True, zeroes)
+        return nulled._replace(layout="dict", codes=codes, count=1)
+    return nulled
 
 
 def type_of(array: Array):
@@ -309,42 +374,57 @@ def same_type(array: Array, other: Array) -> bool:
     return type_of(array) == type_of(other)
 
 
+def fit_together(arrays: List[Array], counts: List[int]) -> bool:
+    """Whether the rows of arrays of one type, and those of their parts in plain layout, can be counted together."""
+    kind = arrays[0].kind
+    fit = sum(counts) < 2**64
+    if kind == "list":
+        elements = [array.elements for array in arrays]
+        fit = fit and fit_together(elements, [one.rows.count for one in elements])
+    if kind == "fixed":
+        elements = [array.elements for array in arrays]
+        fit = fit and fit_together(elements, [n * arrays[0].size for n in counts])
+    columns = zip(*[array.columns for array in arrays])
+    return fit and all(fit_together(column, counts) for column in columns)
+
+
 def concat(*arrays: Array) -> Array:
     want(arrays, "EmptyInput")
     want(all(same_type(arrays[0], array) for array in arrays), "DifferingDtypes")
+    want(fit_together(arrays, [array.rows.count for array in arrays]), "Overflow")
     kind = arrays[0].kind
     counts = [array.buffers for array in arrays]
     buffers = None if None in counts else sum(counts)
-    joined = arrays[0]._replace(
+    whole = arrays[0]._replace(
         layout=PLAIN_LAYOUTS.get(kind, "primitive"),
-        rows=[row for array in arrays for row in array.rows],
+        rows=joined(array.rows for array in arrays),
         columns=tuple(map(concat, *[array.columns for array in arrays])),
         buffers=buffers,
         flag=False,
         is_exact=buffers is not None,
     )
     if kind in ("list", "fixed"):
-        joined = joined._replace(elements=concat(*[array.elements for array in arrays]))
+        whole = whole._replace(elements=concat(*[array.elements for array in arrays]))
     if kind != "list":
-        return joined
+        return made(whole)
     if not all(array.layout == "listview" and array.is_exact for array in arrays):
-        zeroes = Array("primitive", "u64", False, [0] * len(joined.rows))
-        return joined._replace(offsets=zeroes, sizes=zeroes, is_exact=False)
-    before = [sum(len(array.elements.rows) for array in arrays[:i]) for i in range(len(arrays))]
-    offsets = [n + base for array, base in zip(arrays, before) for n in array.offsets.rows]
-    sizes = [size for array in arrays for size in array.sizes.rows]
-    return joined._replace(
-        offsets=Array("primitive", "u64", False, offsets),
-        sizes=Array("primitive", "u64", False, sizes),
-    )
+        zeroes = numbers("u64", repeated(0, whole.rows.count))
+        return made(whole._replace(offsets=zeroes, sizes=zeroes, is_exact=False))
+    before = [sum(array.elements.rows.count for array in arrays[:i]) for i in range(len(arrays))]
+    moved = lambda array, base: array.offsets.rows.changed(lambda offset: offset + base)
+    offsets = joined(map(moved, arrays, before))
+    sizes = joined(array.sizes.rows for array in arrays)
+    counts = [numbers("u64", rows) for rows in (offsets, sizes)]
+    return made(whole._replace(offsets=counts[0], sizes=counts[1]))
 
 
 # ---- text
 
 
 def row_text(row) -> str:
-    if isinstance(row, list):
-        return "[" + ",".join(map(row_text, row)) + "]"
+    if isinstance(row, Rows):
+        texts = [row_text(one) for one, count in row.runs for _ in range(count)]
+        return "[" + ",".join(texts) + "]"
     if isinstance(row, tuple):
         return "{" + ",".join(f"{name}:{row_text(field)}" for name, field in row) + "}"
     if isinstance(row, bytes):
@@ -356,18 +436,18 @@ def parts_text(array: Array) -> str:
     if array.layout == "listview":
         counts = [f"{part.kind} {row_text(part.rows)}" for part in (array.offsets, array.sizes)]
         flag = "true" if array.flag else "false"
-        count = len(array.elements.rows)
+        count = array.elements.rows.count
         return f"listview offsets {counts[0]} sizes {counts[1]} elements {count} flag {flag}"
     if array.layout == "dict":
         return f"dict codes {row_text(array.codes.rows)} values {array.count} flag false"
     if array.layout == "fixed":
-        return f"fixed {array.size} elements {len(array.rows) * array.size}"
+        return f"fixed {array.size} elements {array.rows.count * array.size}"
     if array.layout == "struct":
-        return f"struct {len(array.rows)} {','.join(array.names) or '-'}"
+        return f"struct {array.rows.count} {','.join(array.names) or '-'}"
     if array.layout == "views":
-        return f"views {len(array.rows)} buffers {array.buffers}"
+        return f"views {array.rows.count} buffers {array.buffers}"
     kind = f" {array.kind}" if array.layout == "primitive" else ""
-    return f"{array.layout}{kind} {len(array.rows)}"
+    return f"{array.layout}{kind} {array.rows.count}"
 
 
 # ---- scripts
@@ -389,13 +469,13 @@ def spelled(name: str, operands: List[str]) -> Array:
         count = read_number(operands[2])
         want(nullable or item is not None, "HasNulls")
         want(fits(kind, item), "MismatchedTypes")
-        constant = literal("constant", kind, nullable, [item] * count)
+        constant = literal("constant", kind, nullable, repeated(item, count))
         return constant._replace(buffers=int(is_long(item)))
     want(kind in LITERAL_KINDS[name], "Syntax")
     rows = read_items(kind, operands[1])
     if name == "texts":
         return texts(kind, nullable, rows)
-    return literal("bool" if kind == "bool" else "primitive", kind, nullable, rows)
+    return literal("bool" if kind == "bool" else "primitive", kind, nullable, listed(rows))
 
 
 def read_struct(words: List[str]):

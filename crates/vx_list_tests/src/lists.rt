@@ -1,6 +1,7 @@
 // Lists that are read, trimmed and rebuilt.
 
 mod copied;
+mod flags;
 mod parts;
 
 use std::alloc::Global;

@@ -120,6 +120,14 @@ fn null_rows_are_patched(rt: HostRuntime) -> Result<(), VortexError> {
 }
 
 #[test]
+fn places_of_patches_are_counted_from_an_offset(rt: HostRuntime) -> Result<(), VortexError> {
+    let alloc = rt.alloc();
+    let rows = Validity::AllInvalid;
+    let patched = rows.patch(alloc, 3, 2, &two_and_four(alloc)?, &Validity::AllValid)?;
+    expect_valid(&rt, alloc, &patched, &[true, false, true])
+}
+
+#[test]
 fn rows_of_an_array_are_patched(rt: HostRuntime) -> Result<(), VortexError> {
     let alloc = rt.alloc();
     let rows = [false, true, false, true, false];
@@ -201,6 +209,16 @@ fn rows_at_indices_with_null(rt: HostRuntime) -> Result<(), VortexError> {
     let places = zero_and_null(alloc)?;
     expect_taken(&rt, alloc, Validity::AllValid, &places, &[true, false])?;
     expect_taken(&rt, alloc, Validity::NonNullable, &places, &[true, false])
+}
+
+#[test]
+fn rows_at_indices_that_are_all_null(rt: HostRuntime) -> Result<(), VortexError> {
+    let alloc = rt.alloc();
+    let places = numbers(alloc, PType::U8, &[0, 1], Validity::AllInvalid)?;
+    expect_taken(&rt, alloc, Validity::AllValid, &places, &[false, false])?;
+    expect_taken(&rt, alloc, Validity::NonNullable, &places, &[false, false])?;
+    let rows = valid(alloc, &[true, true])?;
+    expect_taken(&rt, alloc, rows, &places, &[false, false])
 }
 
 #[test]
