@@ -3,8 +3,8 @@
 use super::columns::{ints, validity_of, zeros};
 use std::alloc::Global;
 use std::test::Fail;
-use vx_base::{NativePType, VortexError};
-use vx_lists::{ListViewArray, ListViewData};
+use vx_base::{NativePType, Nullability, PType, Scalar, VortexError};
+use vx_lists::{ListViewArray, ListViewArrayExt, ListViewData};
 use vx_tree::{ArrayRef, Validity};
 
 // The greatest offset that there is.
@@ -81,5 +81,25 @@ fn a_negative_offset(rt: HostRuntime) -> Result<(), Fail> {
     let many = zeros(rt.alloc(), 255)?;
     let fault = fault_of::<i8>(rt.alloc(), many, &[-1], &[0], Validity::NonNullable)?;
     assert_eq!(rt; fault, Some(VortexError::Negative { row: 0 }));
+    Ok(())
+}
+
+#[test]
+fn as_many_lists_that_all_are_the_first(rt: HostRuntime) -> Result<(), Fail> {
+    let many = 1099511627776;
+    let offset = Scalar::int(1, PType::U32, Nullability::NonNullable);
+    let offsets = ArrayRef::constant(rt.alloc(), offset, many)?;
+    let size = Scalar::int(2, PType::I16, Nullability::NonNullable);
+    let sizes = ArrayRef::constant(rt.alloc(), size, many)?;
+    let three = zeros(rt.alloc(), 3)?;
+    let lists = ListViewArray::try_new(rt.alloc(), three, offsets, sizes, Validity::NonNullable)?;
+    assert!(rt; !lists.is_consecutive());
+    assert_eq!(rt;
+        lists
+            .compute_referenced_elements_mask(rt.alloc())?
+            .true_count(),
+        2
+    );
+    assert!(rt; matches!(lists.referenced_element_bounds(), Ok((1, 3))));
     Ok(())
 }

@@ -12,5 +12,6 @@ pub mod Faults
 pub mod Plans
 pub mod MarkedRuns
 pub mod ReferencedElements
+pub mod RepeatedLists
 pub mod TrimmedViews
 pub mod TrimmedLayouts

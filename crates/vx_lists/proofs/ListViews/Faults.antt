@@ -25,13 +25,13 @@ second_test true true first second none = refl
 second_test true false first second none = cc
 second_test false b first second none = cc
 
-list_row-not_negative : (count row : ℕ) (offset size : ℤ) → list_row_fault count row offset size ≡ None → (m : ℕ) × (n : ℕ) × (offset ≡ pos m) × (size ≡ pos n) × (m + n ≤ count)
+pub list_row-not_negative : (count row : ℕ) (offset size : ℤ) → list_row_fault count row offset size ≡ None → (m : ℕ) × (n : ℕ) × (offset ≡ pos m) × (size ≡ pos n) × (m + n ≤ count)
 list_row-not_negative count row (pos m) (pos n) none = (m, n, refl, refl, leb-true (m + n) count (second_test (ltb (m + n) (2 ^ 64)) (leb (m + n) count) _ _ none))
 list_row-not_negative count row (pos m) (negsuc n) none = cc
 list_row-not_negative count row (negsuc m) (pos n) none = cc
 list_row-not_negative count row (negsuc m) (negsuc n) none = cc
 
-count_row : (r : Row) (z : ℤ) (n : ℕ) → number_in r ≡ Some z → z ≡ pos n → r ≡ whole (pos (count_in r))
+pub count_row : (r : Row) (z : ℤ) (n : ℕ) → number_in r ≡ Some z → z ≡ pos n → r ≡ whole (pos (count_in r))
 count_row null z n number same = cc
 count_row (boolean b) z n number same = cc
 count_row (whole (pos k)) z n number same = refl

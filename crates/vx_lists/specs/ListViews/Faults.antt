@@ -1,5 +1,5 @@
 -- Why a list view, or its rebuilding, is refused.
-use Rattle.std.specs.Prelude.{ℕ, ◌+◌, ◌^◌, ◌==◌, nat_lt, nat_le, int_le, if◌then◌else◌, ℤ, pos, negsuc, Option, Some, None, unwrap_or}
+use Rattle.std.specs.Prelude.{◌≡◌, ◌<◌, ℕ, ◌+◌, ◌^◌, ◌==◌, nat_lt, nat_le, int_le, if◌then◌else◌, ℤ, pos, negsuc, Option, Some, None, unwrap_or}
 use Rattle.vx_base.specs.declared.ptypes.PType.{PType}
 use Rattle.vx_base.specs.Integers.{greatest}
 use Rattle.vx_base.specs.Refusals.{Refusal, mismatched_types, length_mismatch, negative, overflow, out_of_bounds, not_implemented, or_else}
@@ -75,3 +75,9 @@ rebuild_fault MakeZeroCopyToList t = if tree_len t == 0 then None else (if flag_
 rebuild_fault TrimElements t = None
 rebuild_fault MakeExact t = if tree_len t == 0 then None else (if flag_of t then None else rebuild_overflow t)
 rebuild_fault OverlapCompression t = if tree_len t == 0 then None else Some not_implemented
+
+-- there are lists, and each has the offset and the size of the first
+pub record AreRepeated (o s : Tree) : Type 0 where
+  pub some : 0 < tree_len o
+  pub offsets : (i : ℕ) → row_at o i ≡ row_at o 0
+  pub sizes : (i : ℕ) → row_at s i ≡ row_at s 0

@@ -9,7 +9,7 @@ ghost use Rattle.vx_tree.specs.Tree.{list_view};
 ghost use Rattle.vx_lists.specs.ListViews.Faults.{list_view_fault};
 ghost use Rattle.vx_lists.specs.ListViews.{is_list_view, elements_of, offsets_of, sizes_of, flag_of, with_flag};
 
-use crate::list_view::counts::{count_at, number_bytes};
+use crate::list_view::counts::{are_repeated, count_at, number_bytes};
 use crate::list_view::data::ListViewData;
 use crate::list_view::number_rows::are_number_rows_consecutive;
 use std::alloc::Global;
@@ -213,6 +213,9 @@ impl ListViewArray {
             number_bytes(parts.sizes),
         ) {
             return are_number_rows_consecutive(offset_type, offsets, size_type, sizes);
+        }
+        if are_repeated(parts.offsets, parts.sizes) {
+            return self.len() == 1 || count_at(parts.sizes, 0) == 0;
         }
         for i in 1..parts.offsets.len() {
             let end = count_at(parts.offsets, i - 1) + count_at(parts.sizes, i - 1);

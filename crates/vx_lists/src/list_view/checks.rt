@@ -7,9 +7,9 @@ ghost use Rattle.vx_tree.specs.Formed.{WellFormed, IsCounts};
 ghost use Rattle.vx_tree.specs.Meaning.{tree_len, kind_of};
 ghost use Rattle.vx_tree.specs.Parts.{valid_of};
 ghost use Rattle.vx_tree.specs.Tree.{list_view};
-ghost use Rattle.vx_lists.specs.ListViews.Faults.{list_row_fault, list_parts_fault, list_rows_fault, list_view_fault, either_total_fault};
+ghost use Rattle.vx_lists.specs.ListViews.Faults.{list_row_fault, list_parts_fault, list_rows_fault, list_view_fault, either_total_fault, AreRepeated};
 
-use crate::list_view::counts::number_bytes;
+use crate::list_view::counts::{are_repeated, number_bytes};
 use crate::list_view::number_rows::check_number_rows;
 use vx_base::{PType, VortexError};
 use vx_tree::{ArrayRef, Validity};
@@ -77,12 +77,42 @@ fn check_list_rows(count: usize, offsets: &ArrayRef, sizes: &ArrayRef) -> Result
     ) {
         return check_number_rows(count, offset_type, offset_bytes, size_type, size_bytes);
     }
+    if are_repeated(offsets, sizes) {
+        return check_first_row(count, offsets, sizes);
+    }
+    check_each_row(count, offsets, sizes)
+}
+
+// The same of lists in any layout, one after another.
+fn check_each_row(count: usize, offsets: &ArrayRef, sizes: &ArrayRef) -> Result<(), VortexError>
+    requires offsets { is_plain_integers (kind_of offsets.now) ≡ true }
+    requires sizes { is_plain_integers (kind_of sizes.now) ≡ true }
+    requires same_len { tree_len sizes.now ≡ tree_len offsets.now }
+    ensures tests { Tests result (list_rows_fault count offsets.now sizes.now) }
+    ensures offsets { IfOk result (λ _. IsCounts offsets.now) }
+    ensures sizes { IfOk result (λ _. IsCounts sizes.now) }
+{
     for row in 0..offsets.len() {
         let offset = offsets.int_at(row).unwrap();
         let size = sizes.int_at(row).unwrap();
         check_list_row(count, row, offset, size)?;
     }
     Ok(())
+}
+
+// The same of lists that all have the offset and the size of the first, which alone is tested.
+fn check_first_row(count: usize, offsets: &ArrayRef, sizes: &ArrayRef) -> Result<(), VortexError>
+    requires offsets { is_plain_integers (kind_of offsets.now) ≡ true }
+    requires sizes { is_plain_integers (kind_of sizes.now) ≡ true }
+    requires same_len { tree_len sizes.now ≡ tree_len offsets.now }
+    requires repeated { AreRepeated offsets.now sizes.now }
+    ensures tests { Tests result (list_rows_fault count offsets.now sizes.now) }
+    ensures offsets { IfOk result (λ _. IsCounts offsets.now) }
+    ensures sizes { IfOk result (λ _. IsCounts sizes.now) }
+{
+    let offset = offsets.int_at(0).unwrap();
+    let size = sizes.int_at(0).unwrap();
+    check_list_row(count, 0, offset, size)
 }
 
 // Refuses parts that make no list view, with their first fault.

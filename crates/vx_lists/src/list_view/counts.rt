@@ -1,6 +1,6 @@
 // Arrays of counts, as offsets and sizes are: read one at a time, as bytes of their type, and made.
 
-ghost use Rattle.std.specs.Prelude.{◌≡◌, ◌<◌, pos, true, IfOk, IfSome};
+ghost use Rattle.std.specs.Prelude.{◌≡◌, ◌<◌, pos, true, IfOk, IfSome, IsTrue};
 ghost use Rattle.std.specs.List.{All};
 ghost use Rattle.vx_base.specs.Integers.{Holds};
 ghost use Rattle.vx_base.specs.Kinds.{integer_type, is_plain_integers};
@@ -10,6 +10,7 @@ ghost use Rattle.vx_tree.specs.Formed.{IsCounts};
 ghost use Rattle.vx_tree.specs.Meaning.{tree_len, kind_of, row_at};
 ghost use Rattle.vx_tree.specs.Tree.{primitive, non_nullable};
 ghost use Rattle.vx_lists.specs.ListViews.CountBytes.{HoldCounts};
+ghost use Rattle.vx_lists.specs.ListViews.Faults.{AreRepeated};
 ghost use Rattle.vx_lists.specs.ListViews.{counts_in};
 
 use std::alloc::Global;
@@ -74,4 +75,14 @@ fn counts_by_row(alloc: Global, array: &ArrayRef) -> Result<Vec<usize>, VortexEr
         counts.push(count_at(array, i))?;
     }
     Ok(counts)
+}
+
+// Whether there are lists, of which each has the offset and the size of the first: those of
+// constants.
+pub(crate) fn are_repeated(offsets: &ArrayRef, sizes: &ArrayRef) -> bool
+    ensures { IsTrue result → AreRepeated offsets.now sizes.now }
+{
+    !offsets.is_empty()
+        && matches!(offsets.layout(), Layout::Constant { .. })
+        && matches!(sizes.layout(), Layout::Constant { .. })
 }

@@ -7,10 +7,11 @@ ghost use Rattle.vx_base.specs.Rows.{count_in};
 ghost use Rattle.vx_tree.specs.Formed.{IsCounts};
 ghost use Rattle.vx_tree.specs.Meaning.{tree_len, row_at};
 ghost use Rattle.vx_lists.specs.ListViews.References.{AreMarked, MarksReferenced, AreBlockRuns, IsCovered, AreBounds, BoundReferenced, bounds_fault};
+ghost use Rattle.vx_lists.specs.ListViews.Faults.{AreRepeated};
 ghost use Rattle.vx_lists.specs.ListViews.{elements_of};
 
 use crate::list_view::array::ListViewArray;
-use crate::list_view::counts::{count_at, counts_of};
+use crate::list_view::counts::{are_repeated, count_at, counts_of};
 use std::alloc::Global;
 use vx_base::{BitBuffer, BitBufferMut, Mask, VortexError};
 use vx_tree::{ArrayRef, TypedArray};
@@ -24,6 +25,9 @@ impl ListViewArray {
         ensures { Gives result (MarksReferenced self.now) }
     {
         let parts = self.parts();
+        if are_repeated(parts.offsets, parts.sizes) {
+            return mark_first(alloc, parts.offsets, parts.sizes, parts.elements.len());
+        }
         let offsets = counts_of(alloc, parts.offsets)?;
         let sizes = counts_of(alloc, parts.sizes)?;
         let referenced = mark_lists(alloc, &offsets, &sizes, parts.elements.len())?;
@@ -48,8 +52,34 @@ impl ListViewArray {
             let end = count_at(parts.offsets, len - 1) + count_at(parts.sizes, len - 1);
             return Ok((start, end));
         }
+        if are_repeated(parts.offsets, parts.sizes) {
+            let start = count_at(parts.offsets, 0);
+            return Ok((start, start + count_at(parts.sizes, 0)));
+        }
         Ok(bounds_of_lists(parts.offsets, parts.sizes))
     }
+}
+
+// The elements that lists lie in which all have the offset and the size of the first.
+fn mark_first(
+    alloc: Global,
+    offsets: &ArrayRef,
+    sizes: &ArrayRef,
+    count: usize,
+) -> Result<Mask, VortexError>
+    requires repeated { AreRepeated offsets.now sizes.now }
+    requires offsets { IsCounts offsets.now }
+    requires sizes { IsCounts sizes.now }
+    requires same_len { tree_len sizes.now ≡ tree_len offsets.now }
+    requires within { count_in (row_at offsets.now 0) + count_in (row_at sizes.now 0) ≤ count }
+    ensures { Gives result (λ m. AreMarked (λ i. count_in (row_at offsets.now i))
+        (λ i. count_in (row_at offsets.now i) + count_in (row_at sizes.now i)) (tree_len offsets.now) count m) }
+{
+    let start = count_at(offsets, 0);
+    let end = start + count_at(sizes, 0);
+    let mut marked = BitBufferMut::new_unset(alloc, count)?;
+    marked.fill_range(start, end, true);
+    Ok(Mask::from_buffer(alloc, marked.freeze()?)?)
 }
 
 // The elements that lists of these offsets and sizes lie in. Of a long list just the elements

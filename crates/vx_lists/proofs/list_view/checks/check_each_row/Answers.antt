@@ -5,7 +5,7 @@ use Rattle.vx_tree.specs.Meaning.{tree_len}
 use Rattle.vx_base.specs.Refusals.{Names}
 use Rattle.vx_lists.specs.ListViews.Faults.{list_row_fault}
 use Rattle.vx_lists.proofs.ListViews.Faults.{AreChecked-fault, found_passed}
-use Rattle.vx_lists.proofs.list_view.checks.check_list_rows.Goals as goal
+use Rattle.vx_lists.proofs.list_view.checks.check_each_row.Goals as goal
 
 pub returns-in_err-check_list_row-clause-tests : goal.returns-in_err-check_list_row-clause-tests
 returns-in_err-check_list_row-clause-tests c =
