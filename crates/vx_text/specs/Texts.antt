@@ -5,10 +5,11 @@ use Rattle.vx_base.specs.Kinds.{Kind}
 use Rattle.vx_views.specs.Views.{view_value, Resolves}
 use Rattle.vx_views.specs.Sound.{AreSoundViews}
 pub use Rattle.vx_views.specs.Emptied.{emptied_views}
-use Rattle.vx_tree.specs.Tree.{Tree, view_array, Valid, non_nullable}
+use Rattle.vx_tree.specs.Tree.{Tree, view_array, Valid}
 use Rattle.vx_tree.specs.Meaning.{row_at, is_valid_at, is_texts, nullable, valid_mask, value_row}
 use Rattle.vx_tree.specs.Formed.{ValidFits, value_kind}
 pub use Rattle.vx_tree.specs.Layouts.{is_view_array}
+pub use Rattle.vx_tree.specs.Slots.{validity_of}
 
 -- ---- the parts of an array of its layout
 
@@ -21,11 +22,6 @@ views_of _ = []
 abbrev pub buffers_of : Tree → List (List ℕ)
 buffers_of (view_array vs bs k v) = bs
 buffers_of _ = []
-
--- which rows are valid
-abbrev pub validity_of : Tree → Valid
-validity_of (view_array vs bs k v) = v
-validity_of _ = non_nullable
 
 -- ---- views and buffers by themselves
 
