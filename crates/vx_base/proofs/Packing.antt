@@ -1,16 +1,19 @@
 -- Booleans that are packed eight to a byte.
 use Rattle.std.proofs.Common.{ℕ, zero, suc, ◌+◌, ◌*◌, ◌/◌, ◌%◌, ◌^◌, ◌<◌, ◌≤◌, ◌≡◌, ◌≢◌, ◌⊎◌, ◌-◌, Bool, true, false, cond, eqb, List, [], ◌∷◌, ◌++◌, length, map, get_or, set, take, drop, refl, sym, ◌∙◌, ap, zero-add, inl, inr, arith}
 use Rattle.std.specs.Int.{bit_at, w64, from_le_bytes}
-use Rattle.std.specs.Prelude.{bit_and, bit_or, ◌&&◌, count_by, count_ones}
+use Rattle.std.specs.Prelude.{bit_and, bit_or, ◌&&◌, count_by, count_ones, slice_range}
 use lib.Count.{ones_cat}
 use Rattle.std.proofs.lemmas.Bool.{cases_lt}
 use Rattle.std.proofs.lemmas.Simd.{bit_mask_l}
 use Rattle.std.proofs.lemmas.List.{get_or-take, get_or-drop, get_or-map, get_or_append_left, get_or-append_right, take_all, length-take-le, length-drop, length-append, length-map, get_or_default, get_or-set_same, get_or-set_other, same_lists}
 use Rattle.std.proofs.lemmas.Slice.Zip.{length-zip, get_or-zip}
-use Rattle.std.specs.List.{zip}
+use Rattle.std.specs.List.{range_with_len, zip}
+use Rattle.std.specs.Simd.{first_chunks}
 use lib.Lanes.{mask_l}
 use mir.Val.{bool_byte}
 use Rattle.vx_base.specs.Bits.{bit_of, byte_from, unpacked, bool_at}
+use Rattle.vx_base.proofs.Chunks.{whole_chunk}
+use Rattle.vx_base.proofs.Runs.{part_by_places}
 use Rattle.vx_base.proofs.PackedBytes.{bit_of-and, bit_of-byte_from, byte_from-whole, byte_from-joined, count_more}
 use Rattle.vx_base.proofs.PackedBits.{get_unpacked, length_unpacked, unpacked_none, unpacked_part, unpacked-same}
 use Rattle.vx_base.proofs.SameBits.{byte_of_part, same_byte}
@@ -155,6 +158,28 @@ ones_word a b c d e f g h la lb lc ld le lf lg lh =
     let s6 = ones_of 48 g (a + b * 2 ^ 8 + c * 2 ^ 16 + d * 2 ^ 24 + e * 2 ^ 32 + f * 2 ^ 40) (a + b * 2 ^ 8 + c * 2 ^ 16 + d * 2 ^ 24 + e * 2 ^ 32 + f * 2 ^ 40 + g * 2 ^ 48) (omega arith) (omega arith) in
     let s7 = ones_of 56 h (a + b * 2 ^ 8 + c * 2 ^ 16 + d * 2 ^ 24 + e * 2 ^ 32 + f * 2 ^ 40 + g * 2 ^ 48) (from_le_bytes w64 (a ∷ b ∷ c ∷ d ∷ e ∷ f ∷ g ∷ h ∷ [])) (omega arith) (omega arith) in
     omega (arith, s1, s2, s3, s4, s5, s6, s7)
+
+-- eight bytes one after another
+bytes_from : (bs : List ℕ) (s : ℕ) → s + 8 ≤ length bs
+    → slice_range bs s (s + 8) ≡ get_or bs s 0 ∷ get_or bs (s + 1) 0 ∷ get_or bs (s + 2) 0 ∷ get_or bs (s + 3) 0 ∷ get_or bs (s + 4) 0 ∷ get_or bs (s + 5) 0 ∷ get_or bs (s + 6) 0 ∷ get_or bs (s + 7) 0 ∷ []
+bytes_from bs s room =
+    let size : s + 8 - s ≡ 8 = omega arith in
+    let p2 : s + 1 + 1 ≡ s + 2 = omega arith in
+    let p3 : s + 2 + 1 ≡ s + 3 = omega arith in
+    let p4 : s + 3 + 1 ≡ s + 4 = omega arith in
+    let p5 : s + 4 + 1 ≡ s + 5 = omega arith in
+    let p6 : s + 5 + 1 ≡ s + 6 = omega arith in
+    let p7 : s + 6 + 1 ≡ s + 7 = omega arith in
+    let each : map (λ k. get_or bs k 0) (range_with_len s 8)
+    ≡ get_or bs s 0 ∷ get_or bs (s + 1) 0 ∷ get_or bs (s + 2) 0 ∷ get_or bs (s + 3) 0 ∷ get_or bs (s + 4) 0 ∷ get_or bs (s + 5) 0 ∷ get_or bs (s + 6) 0 ∷ get_or bs (s + 7) 0 ∷ [] = rw (p2, p3, p4, p5, p6, p7) refl in
+    part_by_places bs 0 s (s + 8) (omega arith) room ∙ ap (λ n. map (λ k. get_or bs k 0) (range_with_len s n)) size ∙ each
+
+-- a chunk of eight bytes
+pub chunk_of_eight : (bs : List ℕ) (chunks : List (List ℕ)) (chunk d : List ℕ) (j : ℕ) → 8 * j + 8 ≤ length bs → chunks ≡ first_chunks 8 (length bs / 8) bs → chunk ≡ get_or chunks j d
+    → chunk ≡ get_or bs (8 * j) 0 ∷ get_or bs (8 * j + 1) 0 ∷ get_or bs (8 * j + 2) 0 ∷ get_or bs (8 * j + 3) 0 ∷ get_or bs (8 * j + 4) 0 ∷ get_or bs (8 * j + 5) 0 ∷ get_or bs (8 * j + 6) 0 ∷ get_or bs (8 * j + 7) 0 ∷ []
+chunk_of_eight bs chunks chunk d j room all read =
+    let place : j * 8 ≡ 8 * j = omega arith in
+    whole_chunk 8 j bs chunks chunk d (omega arith) (omega (arith, room)) all read ∙ ap (λ s. slice_range bs s (s + 8)) place ∙ bytes_from bs (8 * j) room
 
 -- one word more is counted
 pub count_word : (bs : List ℕ) (len j : ℕ) → 64 * j + 64 ≤ len → ((i : ℕ) → get_or bs i 0 < 256)

@@ -192,20 +192,10 @@ fn count_words(bytes: &[u8], words: usize) -> usize
     ensures value { result ≡ count_by (λ b. b) (unpacked bytes.now 0 (64 * words)) }
     ensures bound { result ≤ 64 * words }
 {
+    let (chunks, _) = bytes.as_chunks::<8>();
     let mut count = 0;
     for j in 0..words {
-        let at = 8 * j;
-        let word = u64::from_le_bytes([
-            bytes[at],
-            bytes[at + 1],
-            bytes[at + 2],
-            bytes[at + 3],
-            bytes[at + 4],
-            bytes[at + 5],
-            bytes[at + 6],
-            bytes[at + 7],
-        ]);
-        count += word.count_ones() as usize;
+        count += u64::from_le_bytes(chunks[j]).count_ones() as usize;
     }
     count
 }
