@@ -6,8 +6,8 @@ ghost use Rattle.std.specs.List.{All, range_with_len};
 ghost use Rattle.vx_base.specs.Refusals.{Gives, Refuses, Tests};
 ghost use Rattle.vx_base.specs.DTypes.{dtype_meaning};
 ghost use Rattle.vx_base.specs.Bytes.{AreBytes};
-ghost use Rattle.vx_base.specs.MaskRuns.{is_in_runs};
-ghost use Rattle.vx_views.specs.Views.{IsView, buffer_at, view_size, view_block};
+ghost use Rattle.vx_base.specs.MaskRuns.{is_in_run, is_in_runs, AreRuns};
+ghost use Rattle.vx_views.specs.Views.{IsView, buffer_at, view_of, view_size, view_block};
 ghost use Rattle.vx_views.specs.declared.view.TheConstants.{MAX_INLINED_SIZE};
 ghost use Rattle.vx_tree.specs.Tree.{view_array};
 ghost use Rattle.vx_tree.specs.Layouts.{is_view_array};
@@ -310,7 +310,8 @@ fn valid_views(
     Buffer::from_vec(alloc, valid)
 }
 
-// The same, by the runs of rows that are true.
+// The same: all views are copied at once, and those between the runs of rows that are true are made
+// empty.
 fn masked_views(
     alloc: Global,
     views: &[BinaryView],
@@ -319,23 +320,40 @@ fn masked_views(
     requires { length mask.now ≡ length views.now }
     ensures { Gives result (λ made. made.items ≡ map (valid_view views.now mask.now) (range_with_len 0 (length views.now))) }
 {
-    let mut made = vec![in alloc; BinaryView::empty_view(); views.len()]?;
-    copy_runs(views, mask.runs(), &mut made);
+    let mut made = Vec::with_capacity(alloc, views.len())?;
+    made.extend_from_slice(views)?;
+    empty_between(&mut made, mask.runs());
     Ok(made)
 }
 
-// Copies the views of the rows in these runs.
-fn copy_runs(views: &[BinaryView], runs: &[(usize, usize)], out: &mut [BinaryView])
-    requires filled { All (λ run. run.0 < run.1) runs.now }
-    requires within { All (λ run. run.1 ≤ length views.now) runs.now }
-    requires room { length out.old ≡ length views.now }
-    ensures len { length out.new ≡ length views.now }
-    ensures copied { (k : ℕ) → slice_index_or out.new k []
-        ≡ (if is_in_runs runs.now k then slice_index_or views.now k [] else slice_index_or out.old k []) }
+// Makes the views of the rows that lie in none of these runs empty.
+fn empty_between(views: &mut [BinaryView], runs: &[(usize, usize)])
+    requires { AreRuns (length views.old) runs.now }
+    ensures len { length views.new ≡ length views.old }
+    ensures emptied { (k : ℕ) → k < length views.old → slice_index_or views.new k []
+        ≡ (if is_in_runs runs.now k then slice_index_or views.old k [] else view_of [] 0 0) }
 {
+    let mut at = 0;
     for run in runs {
         let (start, end) = *run;
-        out[start..end].copy_from_slice(&views[start..end]);
+        empty_range(views, at, start);
+        at = end;
+    }
+    let len = views.len();
+    empty_range(views, at, len);
+}
+
+// Makes the views of the rows from `start` up to `end` empty.
+#[inline]
+fn empty_range(views: &mut [BinaryView], start: usize, end: usize)
+    requires ordered { start ≤ end }
+    requires within { end ≤ length views.old }
+    ensures len { length views.new ≡ length views.old }
+    ensures emptied { (k : ℕ) → k < length views.old → slice_index_or views.new k []
+        ≡ (if is_in_run (start, end) k then view_of [] 0 0 else slice_index_or views.old k []) }
+{
+    for k in start..end {
+        views[k] = BinaryView::empty_view();
     }
 }
 
