@@ -6,7 +6,7 @@ use crate::samples::{first_and_last, some_bools};
 use std::alloc::Global;
 use vx_base::{BitBuffer, VortexError};
 use vx_leaves::{BoolArray, BoolArrayExt};
-use vx_tree::{ArrayRef, TypedArray, Validity};
+use vx_tree::{ArrayRef, TypedArray, Validity, collect_items};
 
 // The truth values true, null, false.
 fn given(alloc: Global) -> Result<BoolArray, VortexError> {
@@ -52,7 +52,8 @@ fn truths_of_bits(rt: HostRuntime) -> Result<(), End> {
     judged(of_bits(rt.alloc()), true)
 }
 
-// `BoolArray::from_indices`, `BoolArray::from_iter` and `BoolArray::from_option_iter`.
+// `BoolArray::from_indices`, `BoolArray::from_iter`, `BoolArray::from_option_iter` and
+// `collect_items`.
 fn of_items(alloc: Global) -> Result<bool, VortexError> {
     let places = [2usize, 0];
     let valid = Validity::NonNullable;
@@ -60,8 +61,10 @@ fn of_items(alloc: Global) -> Result<bool, VortexError> {
     let items = BoolArray::from_iter(alloc, [false, true].iter().copied())?;
     let optional = [Some(true), None];
     let some = BoolArray::from_option_iter(alloc, optional.iter().copied())?;
+    let list = collect_items(alloc, places.iter().copied())?;
     Ok(
-        are_truths(alloc, at.as_array(), &[true, false, true])?
+        list.as_slice() == places.as_slice()
+            && are_truths(alloc, at.as_array(), &[true, false, true])?
             && are_truths(alloc, items.as_array(), &[false, true])?
             && are_truths(alloc, some.as_array(), &[true])?
             && !some.as_array().is_valid(alloc, 1)?,
