@@ -403,8 +403,11 @@ def concat(*arrays: Array) -> Array:
         flag=False,
         is_exact=buffers is not None,
     )
-    if kind in ("list", "fixed"):
+    if kind == "list":
         whole = whole._replace(elements=concat(*[array.elements for array in arrays]))
+    if kind == "fixed":
+        none = [slice_array(array.elements, 0, 0) for array in arrays]
+        whole = whole._replace(elements=concat(*none))
     if kind != "list":
         return made(whole)
     if not all(array.layout == "listview" and array.is_exact for array in arrays):

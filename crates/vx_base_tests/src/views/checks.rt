@@ -253,10 +253,9 @@ fn ascii_is_checked_whole(rt: HostRuntime) -> Result<(), Fail> {
 
 #[test]
 fn the_value_of_a_checked_view(rt: HostRuntime) -> Result<(), Fail> {
-    let buffers = [
-        ByteBuffer::copy_from(rt.alloc(), b"another buffer")?,
-        ByteBuffer::copy_from(rt.alloc(), b"abcdefghijklmnopqrstuvwxyz")?,
-    ];
+    let mut buffers = Vec::new(rt.alloc());
+    buffers.push(ByteBuffer::copy_from(rt.alloc(), b"another buffer")?)?;
+    buffers.push(ByteBuffer::copy_from(rt.alloc(), b"abcdefghijklmnopqrstuvwxyz")?)?;
     let views = [BinaryView::new_ref(13, *b"cdef", 1, 2)];
     let mask = Mask::new_true(1);
     check_views(rt.alloc(), &views, &mask, &buffers, true, 0)?;
