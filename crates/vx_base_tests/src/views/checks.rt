@@ -252,20 +252,6 @@ fn ascii_is_checked_whole(rt: HostRuntime) -> Result<(), Fail> {
 }
 
 #[test]
-fn the_value_of_a_checked_view(rt: HostRuntime) -> Result<(), Fail> {
-    let mut buffers = Vec::new(rt.alloc());
-    buffers.push(ByteBuffer::copy_from(rt.alloc(), b"another buffer")?)?;
-    buffers.push(ByteBuffer::copy_from(rt.alloc(), b"abcdefghijklmnopqrstuvwxyz")?)?;
-    let views = [BinaryView::new_ref(13, *b"cdef", 1, 2)];
-    let mask = Mask::new_true(1);
-    check_views(rt.alloc(), &views, &mask, &buffers, true, 0)?;
-    if mask.value(0) {
-        assert_eq!(rt; views[0].value_in(&buffers), b"cdefghijklmno".as_slice());
-    }
-    Ok(())
-}
-
-#[test]
 fn null_rows_are_emptied(rt: HostRuntime) -> Result<(), Fail> {
     let mut views = faulty_views();
     let buffers = faulty_buffer(rt.alloc())?;
