@@ -298,6 +298,16 @@ def slice_array(array: Array, start: int, end: int) -> Array:
     return array
 
 
+def without_rows(array: Array) -> Array:
+    """An array of no rows, of the same layout."""
+    return slice_array(array, 0, 0)
+
+
+def zero_codes(rows: Rows) -> Array:
+    """Codes that are 0 or null: a constant where they are all one."""
+    return Array("constant" if len(rows.runs) < 2 else "primitive", "u8", True, rows)
+
+
 def fits_usize(array: Array, count: int) -> bool:
     """Whether the elements of so many rows can be counted, of lists of one size at any depth."""
     if array.layout == "struct":
@@ -324,7 +334,7 @@ def take(array: Array, indices: Array) -> Array:
         return made(taken._replace(codes=take(array.codes, indices)))
     if array.layout == "constant" and indices.nullable:
         zeroes = indices.rows.changed(lambda index: None if index is None else 0)
-        return taken._replace(layout="dict", codes=Array("primitive", "u8", True, zeroes), count=1)
+        return taken._replace(layout="dict", codes=zero_codes(zeroes), count=1)
     return made(taken)
 
 
@@ -359,8 +369,7 @@ def mask_array(array: Array, mask: Array) -> Array:
         return nulled._replace(codes=codes)
     if array.layout == "constant":
         zeroes = masked(repeated(0, mask.rows.count), mask.rows)
-        codes = Array("primitive", "u8", True, zeroes)
-        return nulled._replace(layout="dict", codes=codes, count=1)
+        return nulled._replace(layout="dict", codes=zero_codes(zeroes), count=1)
     return nulled
 
 
@@ -398,7 +407,7 @@ def concat(*arrays: Array) -> Array:
     whole = arrays[0]._replace(
         layout=PLAIN_LAYOUTS.get(kind, "primitive"),
         rows=joined(array.rows for array in arrays),
-        columns=tuple(map(concat, *[array.columns for array in arrays])),
+        columns=tuple(map(concat, *[map(without_rows, array.columns) for array in arrays])),
         buffers=buffers,
         flag=False,
         is_exact=buffers is not None,
@@ -406,8 +415,7 @@ def concat(*arrays: Array) -> Array:
     if kind == "list":
         whole = whole._replace(elements=concat(*[array.elements for array in arrays]))
     if kind == "fixed":
-        none = [slice_array(array.elements, 0, 0) for array in arrays]
-        whole = whole._replace(elements=concat(*none))
+        whole = whole._replace(elements=concat(*[without_rows(array.elements) for array in arrays]))
     if kind != "list":
         return made(whole)
     if not all(array.layout == "listview" and array.is_exact for array in arrays):
