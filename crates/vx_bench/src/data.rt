@@ -6,13 +6,14 @@ use crate::fault::Fault;
 use std::alloc::Global;
 use std::rc::Rc;
 use vx_base::{
-    BitBuffer, Buffer, ByteBuffer, DType, FieldName, FieldNames, Mask, Nullability, PType, Scalar,
+    BitBuffer, Buffer, ByteBuffer, DType, FieldName, FieldNames, Nullability, PType, Scalar,
     ScalarValue, ScalarValues,
 };
 use vx_leaves::{BoolArray, ConstantArray, DictArray, PrimitiveArray};
 use vx_lists::{ListViewArray, StructArray};
+use vx_text::VarBinViewArray;
 use vx_tree::{ArrayRef, TypedArray, Validity};
-use vx_views::{BinaryView, MAX_BUFFER_LEN, build_views, check_views};
+use vx_views::{BinaryView, MAX_BUFFER_LEN, build_views};
 
 // How much data there is.
 #[derive(Clone, Copy)]
@@ -66,6 +67,11 @@ impl Random {
     pub(crate) fn below(&mut self, limit: u32) -> u32 {
         self.number() % limit.max(1)
     }
+}
+
+// A limit of random numbers that are places: all of them, or as many as an u32 can tell.
+pub(crate) fn limit_of(places: usize) -> u32 {
+    u32::try_from(places).unwrap_or(u32::MAX)
 }
 
 // So many numbers below `limit`.
@@ -229,7 +235,7 @@ pub(crate) fn lists_over(
     let offsets = if shape.in_order {
         multiples(alloc, rows, shape.size)?
     } else {
-        let limit = (elements.len() as u32).saturating_sub(shape.size);
+        let limit = limit_of(elements.len()).saturating_sub(shape.size);
         random_numbers(alloc, rows, limit, 2)?
     };
     let offsets = number_array(alloc, offsets)?;
@@ -334,10 +340,9 @@ pub(crate) fn text_views(
 // Texts of 8 or 24 bytes.
 pub(crate) fn text_array(alloc: Global, rows: usize) -> Result<ArrayRef, Fault> {
     let (buffers, views) = text_views(alloc, rows, short_texts(false))?;
-    let mask = Mask::new_true(views.len());
-    check_views(alloc, views.as_slice(), &mask, &buffers, true, usize::MAX)?;
     let dtype = DType::Utf8(Nullability::NonNullable);
-    Ok(ArrayRef::var_bin_view(alloc, views, buffers, dtype, Validity::NonNullable)?)
+    let none = Validity::NonNullable;
+    Ok(VarBinViewArray::try_new(alloc, views, buffers, dtype, none)?.into_array())
 }
 
 // Lists of four numbers each.
@@ -412,7 +417,7 @@ pub(crate) fn constant_list(alloc: Global, rows: usize) -> Result<ArrayRef, Faul
 pub(crate) fn lists_of_one_size(alloc: Global, scale: Scale) -> Result<ArrayRef, Fault> {
     let rows = scale.rows();
     let count = 4 * rows;
-    let limit = (count as u32).saturating_sub(4);
+    let limit = limit_of(count).saturating_sub(4);
     let elements = number_array(alloc, random_numbers(alloc, count, u32::MAX, 1)?)?;
     let offsets = number_array(alloc, random_numbers(alloc, rows, limit, 2)?)?;
     let sizes = constant_number(alloc, 4, rows)?;

@@ -4,7 +4,7 @@ ghost use Rattle.std.specs.Prelude.{IfOk};
 ghost use Rattle.std.specs.List.{All};
 ghost use Rattle.vx_tree.specs.Runs.{IsRunWithin};
 
-use crate::data::{number_array, random_numbers};
+use crate::data::{limit_of, number_array, random_numbers};
 use crate::fault::Fault;
 use crate::made::Made;
 use crate::operation::{Bench, Operation};
@@ -41,7 +41,7 @@ fn check_runs(runs: &[(usize, usize)], len: usize) -> Result<(), Fault>
 // Runs of so many rows each that start anywhere, and have in all at most `rows` rows.
 fn runs_of(alloc: Global, rows: usize, size: usize) -> Result<Vec<(usize, usize)>, Fault> {
     let count = rows / size.max(1);
-    let limit = rows.saturating_sub(size) as u32;
+    let limit = limit_of(rows.saturating_sub(size));
     let mut runs = Vec::with_capacity(alloc, count)?;
     for start in random_numbers(alloc, count, limit, 5)? {
         let start = start as usize;

@@ -1,6 +1,6 @@
 // A list of eight steps, and the same calls made directly.
 
-use crate::data::{bool_array, number_array, random_bits, random_numbers};
+use crate::data::{bool_array, limit_of, number_array, random_bits, random_numbers};
 use crate::fault::Fault;
 use crate::made::Made;
 use crate::operation::{Bench, Operation};
@@ -129,7 +129,7 @@ fn steps_on(alloc: Global, rows: usize) -> Result<Vec<Step>, Fault> {
 fn ready_inputs(alloc: Global, rows: usize) -> Result<Inputs, Fault> {
     let half = rows / 2;
     let numbers = number_array(alloc, random_numbers(alloc, rows, 60000, 10)?)?;
-    let indices = number_array(alloc, random_numbers(alloc, half, half as u32, 5)?)?;
+    let indices = number_array(alloc, random_numbers(alloc, half, limit_of(half), 5)?)?;
     let truths = bool_array(alloc, random_bits(alloc, rows, 4, 8)?)?;
     Ok(Inputs {
         numbers,
