@@ -106,12 +106,12 @@ fn single_rows(rt: HostRuntime) -> Result<(), End> {
     judged(rows(rt.alloc(), &given), deep().is_same_row(&given, &copy))
 }
 
-// `Scalar::default_value` and `Scalar::default_that_fits`.
+// `Scalar::default_value`.
 fn defaults(alloc: Global) -> Result<bool, VortexError> {
     let plain = Nullability::NonNullable;
     let items = Rc::new(alloc, DType::Primitive(PType::U8, plain))?;
     let pair = Scalar::default_value(alloc, DType::FixedSizeList(items, 2, plain))?;
-    let zero = Scalar::default_that_fits(alloc, DType::Primitive(PType::U8, plain))?;
+    let zero = Scalar::default_value(alloc, DType::Primitive(PType::U8, plain))?;
     let Some(ScalarValue::List(rows)) = pair.value() else {
         return Ok(false);
     };
