@@ -35,13 +35,13 @@ pub(crate) struct Level<D> {
 // Compares as deep as the samples are.
 pub(crate) type Deep = Level<Level<Level<Level<Level<Level<Floor>>>>>>;
 
-fn level<D>(below: D) -> Level<D> {
+fn above<D>(below: D) -> Level<D> {
     Level { below }
 }
 
 // Compares as deep as the samples are.
 pub(crate) fn deep() -> Deep {
-    level(level(level(level(level(level(Floor))))))
+    above(above(above(above(above(above(Floor))))))
 }
 
 impl<D: Compare> Compare for Level<D> {
