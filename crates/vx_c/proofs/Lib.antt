@@ -1,0 +1,4 @@
+pub mod Nodes
+pub mod TableFaults
+pub mod LayoutParts
+pub mod Records
