@@ -77,6 +77,7 @@ fn truth_values(
 
 // A copy of the bits of a node. Refuses `Overflow` where they end at a place that no `usize`
 // counts, then `LengthMismatch` where they end past the bytes.
+#[tactic(auto, using(vx_base::proofs::PackedBits::length_unpacked))]
 fn bits_of(alloc: Global, node: &CodraskNode<'_>) -> Result<BitBuffer, VortexError>
     ensures ok { IfOk result (λ b. b.bits ≡ unpacked node.now.bytes.now node.now.offset node.now.length) }
     ensures len { IfOk result (λ b. length b.bits ≡ node.now.length) }
@@ -93,7 +94,8 @@ fn bits_of(alloc: Global, node: &CodraskNode<'_>) -> Result<BitBuffer, VortexErr
         });
     }
     let bytes = ByteBuffer::copy_from(alloc, node.bytes)?;
-    BitBuffer::new_with_offset(alloc, bytes, node.length, node.offset)
+    let bits = BitBuffer::new_with_offset(alloc, bytes, node.length, node.offset)?;
+    Ok(bits)
 }
 
 // The numbers of a node.
@@ -131,8 +133,14 @@ fn values(
 fn views_of(alloc: Global, views: &[CodraskView]) -> Result<Buffer<BinaryView>, VortexError>
     ensures { Gives result (λ copies. copies ≡ map view_bytes views.now) }
 {
-    let views = views.iter().map(|view| view_of(view)).collect(alloc)?;
+    let views = view_list(alloc, views)?;
     Buffer::from_vec(alloc, views)
+}
+
+fn view_list(alloc: Global, views: &[CodraskView]) -> Result<Vec<BinaryView>, VortexError>
+    ensures { Gives result (λ copies. copies.items ≡ map view_bytes views.now) }
+{
+    Ok(views.iter().map(|view| view_of(view)).collect(alloc)?)
 }
 
 fn view_of(view: &CodraskView) -> BinaryView
@@ -272,6 +280,7 @@ fn records_of(
 }
 
 // So many arrays on top, the topmost first. Refuses `MissingNodes` where they are fewer.
+#[tactic(auto, using(std::proofs::lemmas::Grind::common_steps, crate::proofs::Names::columns_taken))]
 fn columns_of(alloc: Global, count: usize, stack: &mut Stack) -> Result<Vec<ArrayRef>, NodeError>
     ensures ok { IfOk result (λ columns. (take count stack.old ≡ columns.items) × (drop count stack.old ≡ stack.new)) }
     ensures enough { IfOk result (λ _. count ≤ length stack.old) }
@@ -281,7 +290,7 @@ fn columns_of(alloc: Global, count: usize, stack: &mut Stack) -> Result<Vec<Arra
         return Err(NodeError::MissingNodes);
     }
     let mut columns = Vec::with_capacity(alloc, count)?;
-    for _place in 0..count {
+    for place in 0..count {
         columns.push(stack.pop()?)?;
     }
     Ok(columns)
@@ -300,9 +309,13 @@ fn names_of(alloc: Global, buffers: &[CodraskBytes<'_>]) -> Result<FieldNames, V
 }
 
 // The name that a buffer holds. Refuses `NotUtf8` with its place.
+#[tactic(auto, using(crate::proofs::Names::utf8_good, crate::proofs::Names::utf8_bad))]
 fn name_of<'a>(buffer: &CodraskBytes<'a>, place: usize) -> Result<&'a str, VortexError>
     ensures ok { IfOk result (λ text. text.now ≡ buffer.now.bytes.now) }
     ensures tests { Tests result (utf8_fault buffer.now.bytes.now place) }
 {
-    std::str::from_utf8(buffer.bytes).map_err(|_| VortexError::NotUtf8 { row: place })
+    match std::str::from_utf8(buffer.bytes) {
+        Ok(text) => Ok(text),
+        Err(_) => Err(VortexError::NotUtf8 { row: place }),
+    }
 }
