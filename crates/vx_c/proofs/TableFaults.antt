@@ -12,18 +12,13 @@ use Rattle.vx_c.specs.Answers.{fault_of, IsFaultOf, IsTableFault, IsRead, with_n
 use Rattle.vx_c.proofs.Nodes.{memory_alone}
 
 -- the node at a place, read after those behind it
-at_place : (nodes : List CodraskNode) (j i : ℕ) (node : CodraskNode) (ts : List Tree) → j ≡ i + 1 → i < length nodes → node ≡ get_or nodes i node
+at_place : (nodes : List CodraskNode) (j i : ℕ) (other node : CodraskNode) (ts : List Tree) → j ≡ i + 1 → i < length nodes → node ≡ get_or nodes i other
     → arrays_from j (drop j nodes) ≡ Ok ts → arrays_from i (drop i nodes) ≡ at_node i (node_made node ts)
-at_place nodes j i node ts next inside is before =
-    let here : drop i nodes ≡ node ∷ drop (suc i) nodes = drop-cons nodes i node inside ∙ ap (λ x. x ∷ drop (suc i) nodes) (sym is) in
+at_place nodes j i other node ts next inside is before =
+    let here : drop i nodes ≡ node ∷ drop (suc i) nodes = drop-cons nodes i other inside ∙ ap (λ x. x ∷ drop (suc i) nodes) (sym is) in
     let same : suc i ≡ j = omega (arith, next) in
     let behind : arrays_from (suc i) (drop (suc i) nodes) ≡ Ok ts = ap (λ x. arrays_from x (drop x nodes)) same ∙ before in
     ap (arrays_from i) here ∙ ap (then_node i node) behind
-
-pub arrays-next : (nodes : List CodraskNode) (j i k : ℕ) (node : CodraskNode) (ts us : List Tree) → j ≡ i + 1 → k ≡ i → i < length nodes
-    → node ≡ get_or nodes i node → arrays_from j (drop j nodes) ≡ Ok ts → node_made node ts ≡ Ok us → arrays_from k (drop k nodes) ≡ Ok us
-arrays-next nodes j i k node ts us next same inside is before made =
-    ap (λ x. arrays_from x (drop x nodes)) same ∙ at_place nodes j i node ts next inside is before ∙ ap (at_node i) made
 
 -- the fault of the nodes from a place on is that of all
 faulty-all : (i k m : ℕ) (nodes : List CodraskNode) (p : ℕ × NodeFault) → m ≡ k + i → arrays_from m (drop i nodes) ≡ Err p → arrays_from k nodes ≡ Err p
@@ -37,11 +32,12 @@ told-of_all i e r all up (inl m) = inl m
 told-of_all i e (Ok ts) all up (inr is) = inl (memory_alone e (sym is))
 told-of_all i e (Err f) all up (inr is) = inr (ap fault_in (up (i, f) refl) ∙ ap (with_node i) is)
 
-pub arrays-faulty : (nodes : List CodraskNode) (j i : ℕ) (node : CodraskNode) (ts : List Tree) (e : NodeError) → j ≡ i + 1 → i < length nodes
-    → node ≡ get_or nodes i node → arrays_from j (drop j nodes) ≡ Ok ts → IsFaultOf e (node_made node ts) → IsTableFault (i, e) (arrays_from 0 nodes)
-arrays-faulty nodes j i node ts e next inside is before fault =
+pub arrays-faulty : (nodes : List CodraskNode) (j i : ℕ) (other : CodraskNode) (ts : List Tree) (e : NodeError) → j ≡ i + 1 → i < length nodes
+    → arrays_from j (drop j nodes) ≡ Ok ts → IsFaultOf e (node_made (get_or nodes i other) ts) → IsTableFault (i, e) (arrays_from 0 nodes)
+arrays-faulty nodes j i other ts e next inside before fault =
+    let node : CodraskNode = get_or nodes i other in
     told-of_all i e (node_made node ts) (arrays_from 0 nodes)
-    (λ p h. faulty-all i 0 i nodes p (omega arith) (at_place nodes j i node ts next inside is before ∙ h)) fault
+    (λ p h. faulty-all i 0 i nodes p (omega arith) (at_place nodes j i other node ts next inside refl before ∙ h)) fault
 
 -- ---- the only array
 
@@ -61,19 +57,21 @@ faulty-only p (Err f) (inr is) = inr is
 
 -- ---- what C is told
 
+abbrev node_in : ℕ → Option (ℕ × NodeFault) → ℕ
+node_in other None = other
+node_in other (Some p) = p.0
+
+abbrev named_in : NodeFault → Option (ℕ × NodeFault) → NodeFault
+named_in other None = other
+named_in other (Some p) = p.1
+
 told-one : (i j : ℕ) (e : NodeError) (f : NodeFault) (o : Option NodeFault) → o ≡ fault_of e → Some (j, f) ≡ with_node i o
     → IsAnswer (told_of {A = Unit {0}} (Err (i, e))) (Some (j, f))
 told-one i j e f None is same = absurd (cc)
-told-one i j e f (Some g) is same = inr (e, sym is ∙ ap Some named, ap (λ k. told_of {A = Unit {0}} (Err (k, e))) place)
-  where
-    parts : (i, g) ≡ (j, f)
-    parts = cc
-
-    named : g ≡ f
-    named = ap (λ p. p.1) parts
-
-    place : i ≡ j
-    place = ap (λ p. p.0) parts
+told-one i j e f (Some g) is same =
+    let named : g ≡ f = sym (ap (named_in f) same) in
+    let place : i ≡ j = sym (ap (node_in j) same) in
+    inr (e, sym is ∙ ap Some named, ap (λ k. told_of {A = Unit {0}} (Err (k, e))) place)
 
 told-memory : (i : ℕ) (e : NodeError) (fault : Option (ℕ × NodeFault)) → e ≡ Refused Memory → IsAnswer (told_of {A = Unit {0}} (Err (i, e))) fault
 told-memory i e None m = inl (ap node_error_number m)

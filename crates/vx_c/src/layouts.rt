@@ -129,7 +129,7 @@ fn values(
     Ok(VarBinViewArray::try_new(alloc, views, buffers, dtype, validity)?.into_array())
 }
 
-// Copies of views.
+// A buffer of copies of views.
 fn views_of(alloc: Global, views: &[CodraskView]) -> Result<Buffer<BinaryView>, VortexError>
     ensures { Gives result (λ copies. copies ≡ map view_bytes views.now) }
 {
@@ -137,12 +137,14 @@ fn views_of(alloc: Global, views: &[CodraskView]) -> Result<Buffer<BinaryView>, 
     Buffer::from_vec(alloc, views)
 }
 
+// Copies of views.
 fn view_list(alloc: Global, views: &[CodraskView]) -> Result<Vec<BinaryView>, VortexError>
     ensures { Gives result (λ copies. copies.items ≡ map view_bytes views.now) }
 {
     Ok(views.iter().map(|view| view_of(view)).collect(alloc)?)
 }
 
+// A copy of a view.
 fn view_of(view: &CodraskView) -> BinaryView
     ensures { result ≡ view_bytes view.now }
 {
