@@ -8,8 +8,8 @@ use Rattle.vx_tree.specs.Tree.{Tree, Valid, non_nullable, dictionary, fixed_list
 use Rattle.vx_tree.specs.Meaning.{trees_from}
 use Rattle.vx_leaves.specs.Dictionaries.{dictionary_fault}
 use Rattle.vx_lists.specs.FixedSizeLists.{fixed_list_fault}
-use Rattle.vx_lists.specs.ListViewFaults.{list_view_fault}
-use Rattle.vx_lists.specs.StructFaults.{struct_fault}
+use Rattle.vx_lists.specs.ListViews.Faults.{list_view_fault}
+use Rattle.vx_lists.specs.Structs.Faults.{struct_fault}
 use Rattle.vx_c.specs.declared.table.CodraskNode.{CodraskNode}
 use Rattle.vx_c.specs.declared.table.NodeKind.TheVariants.{Dictionary, FixedSizeList, ListView}
 use Rattle.vx_c.specs.declared.faults.NodeError.{NodeError}

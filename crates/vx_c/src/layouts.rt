@@ -11,7 +11,7 @@ ghost use Rattle.vx_base.specs.Integers.{numbers};
 ghost use Rattle.vx_base.specs.Kinds.{texts, binaries};
 ghost use Rattle.vx_base.specs.Refusals.{Gives, Refuses, Tests, or_else};
 ghost use Rattle.vx_leaves.specs.Spread.{whole_fault};
-ghost use Rattle.vx_lists.specs.StructFaults.{struct_fault};
+ghost use Rattle.vx_lists.specs.Structs.Faults.{struct_fault};
 ghost use Rattle.vx_lists.specs.Structs.{records_by};
 ghost use Rattle.vx_text.specs.TextFaults.{view_array_fault};
 ghost use Rattle.vx_text.specs.Texts.{array_of_views};
