@@ -1,3 +1,0 @@
-pub mod NodeKinds
-pub mod Tables
-pub mod Answers
