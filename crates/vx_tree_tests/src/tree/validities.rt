@@ -190,6 +190,11 @@ fn zero_and_null(alloc: Global) -> Result<ArrayRef, VortexError> {
     zero_and_one(alloc)?.mask(alloc, &booleans(alloc, &[true, false])?)
 }
 
+// Two numbers that are null.
+fn two_nulls(alloc: Global) -> Result<ArrayRef, VortexError> {
+    zero_and_one(alloc)?.mask(alloc, &booleans(alloc, &[false, false])?)
+}
+
 // Stops unless the rows at these places are valid where this is true, and can be null.
 fn expect_taken(
     rt: &impl Abort,
@@ -214,7 +219,7 @@ fn rows_at_indices_with_null(rt: HostRuntime) -> Result<(), VortexError> {
 #[test]
 fn rows_at_indices_that_are_all_null(rt: HostRuntime) -> Result<(), VortexError> {
     let alloc = rt.alloc();
-    let places = numbers(alloc, PType::U8, &[0, 1], Validity::AllInvalid)?;
+    let places = two_nulls(alloc)?;
     expect_taken(&rt, alloc, Validity::AllValid, &places, &[false, false])?;
     expect_taken(&rt, alloc, Validity::NonNullable, &places, &[false, false])?;
     let rows = valid(alloc, &[true, true])?;
