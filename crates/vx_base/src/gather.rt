@@ -508,7 +508,8 @@ fn bits_of_lists_at_numbers<T: NativePType>(
     size: usize,
     capacity: usize,
 ) -> Result<BitBuffer, VortexError>
-    requires within { All (λ k. k < length bits.now.bits) (flat_map (list_positions size) (map unsigned_abs (numbers T.PTYPE places.now))) }
+    requires within { All (λ k. k < length bits.now.bits)
+        (flat_map (list_positions size) (map unsigned_abs (numbers T.PTYPE places.now))) }
     requires countable { length (flat_map (list_positions size) (map unsigned_abs (numbers T.PTYPE places.now))) < 2 ^ 64 }
     ensures bits { Gives result (λ b. b.bits ≡ map (bool_at bits.now.bits)
         (flat_map (list_positions size) (map unsigned_abs (numbers T.PTYPE places.now)))) }
