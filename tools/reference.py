@@ -38,7 +38,7 @@ class Array(NamedTuple):
     sizes: Optional["Array"] = None
     codes: Optional["Array"] = None
     count: int = 0  # of a dictionary's values
-    buffers: Optional[int] = 0  # that its texts have in plain layout; None where no rule says it
+    buffers: int = 0  # that its texts have in plain layout
     flag: bool = False
     is_exact: bool = True  # whether a rule fixes each number that `parts` prints
 
@@ -200,8 +200,7 @@ def selected(array: Array, indices: Array) -> Rows:
 def dictionary(codes: Array, values: Array) -> Array:
     want(codes.kind in RANGES, "MismatchedTypes")
     rows = selected(values, codes)
-    kept = values.buffers if values.rows.count or values.buffers == 0 else None
-    parts = {"codes": codes, "count": values.rows.count, "buffers": kept, "is_exact": True}
+    parts = {"codes": codes, "count": values.rows.count, "is_exact": True}
     nullable = values.nullable or codes.nullable
     return values._replace(layout="dict", nullable=nullable, rows=rows, flag=False, **parts)
 
@@ -290,7 +289,7 @@ def rebuild(array: Array, mode: str) -> Array:
 def slice_array(array: Array, start: int, end: int) -> Array:
     want(end <= array.rows.count and start <= end, "OutOfBounds")
     array = array._replace(rows=array.rows.between(start, end))
-    if array.layout == "listview":
+    if array.layout == "listview" and array.is_exact:
         offsets = slice_array(array.offsets, start, end)
         return array._replace(offsets=offsets, sizes=slice_array(array.sizes, start, end))
     if array.layout == "dict":
@@ -317,10 +316,27 @@ def fits_usize(array: Array, count: int) -> bool:
     return count * array.size < 2**64 and fits_usize(array.elements, count * array.size)
 
 
+def default_part(array: Array) -> Array:
+    """Default rows of the type of an array: a constant."""
+    return array._replace(layout="constant", elements=array.elements and without_rows(array.elements))
+
+
+def default_parts(array: Array) -> Array:
+    """An array of no rows, whose parts are those that rows of null have: constants."""
+    if array.layout == "listview":
+        return array._replace(offsets=default_part(array.offsets), sizes=default_part(array.sizes))
+    if array.layout == "fixed":
+        return array._replace(elements=default_part(array.elements))
+    if array.layout == "dict":
+        return array._replace(codes=default_part(array.codes))
+    return array._replace(columns=tuple(map(default_part, array.columns)))
+
+
 def take(array: Array, indices: Array) -> Array:
     want(indices.kind in RANGES, "MismatchedTypes")
     rows = selected(array, indices)
     want(fits_usize(array, indices.rows.count), "Overflow")
+    array = array if array.rows.count > 0 else default_parts(array)
     taken = array._replace(rows=rows, nullable=array.nullable or indices.nullable)
     if array.layout == "listview":
         is_exact = array.is_exact and None not in indices.rows
@@ -402,15 +418,13 @@ def concat(*arrays: Array) -> Array:
     want(all(same_type(arrays[0], array) for array in arrays), "DifferingDtypes")
     want(fit_together(arrays, [array.rows.count for array in arrays]), "Overflow")
     kind = arrays[0].kind
-    counts = [array.buffers for array in arrays]
-    buffers = None if None in counts else sum(counts)
     whole = arrays[0]._replace(
         layout=PLAIN_LAYOUTS.get(kind, "primitive"),
         rows=joined(array.rows for array in arrays),
         columns=tuple(map(concat, *[map(without_rows, array.columns) for array in arrays])),
-        buffers=buffers,
+        buffers=sum(array.buffers for array in arrays),
         flag=False,
-        is_exact=buffers is not None,
+        is_exact=True,
     )
     if kind == "list":
         whole = whole._replace(elements=concat(*[array.elements for array in arrays]))

@@ -1,11 +1,11 @@
 -- The elements of lists of one size.
-use Rattle.std.proofs.Common.{ℕ, zero, suc, ◌+◌, ◌-◌, ◌*◌, ◌^◌, ◌<◌, ◌≤◌, ◌≡◌, List, [], ◌∷◌, ◌++◌, length, get_or, take, sym, ◌∙◌, ap, subst, refl, append-nil, arith}
+use Rattle.std.proofs.Common.{ℕ, zero, suc, ◌+◌, ◌-◌, ◌*◌, ◌^◌, ◌<◌, ◌≤◌, ◌≡◌, List, [], ◌∷◌, ◌++◌, length, get_or, sym, ◌∙◌, ap, subst, refl, arith}
 use Rattle.std.specs.Prelude.{slice_range}
 use Rattle.std.specs.List.{All, flat_map, range_with_len}
 use Rattle.std.proofs.lemmas.List.{length-append}
 use Rattle.std.proofs.lemmas.List.FromFn.{length-range_with_len}
 use Rattle.std.proofs.lemmas.Grind.{flat_map-append}
-use Rattle.vx_base.proofs.Runs.{All-run, in_run, runs_more, bytes_of_run, list_positions_of_run}
+use Rattle.vx_base.proofs.Runs.{All-run, in_run, bytes_of_run, list_positions_of_run}
 use Rattle.vx_base.specs.Selections.{run_positions, list_positions, bytes_of_position}
 
 -- how many there are
@@ -23,17 +23,6 @@ pub list_is_run : (n k : ℕ) → run_positions (k * n, k * n + n) ≡ list_posi
 list_is_run n k =
     let size : k * n + n - k * n ≡ n = omega arith in
     ap (range_with_len (k * n)) size
-
--- the run of one more list
-pub run_of_next : (size : ℕ) (ps : List ℕ) (i k : ℕ) (before after : List (ℕ × ℕ)) → i < length ps → k ≡ get_or ps i 0
-    → flat_map run_positions before ≡ flat_map (list_positions size) (take i ps) → after ≡ before ++ (k * size, k * size + size) ∷ []
-    → flat_map run_positions after ≡ flat_map (list_positions size) (take (i + 1) ps)
-run_of_next size ps i k before after l at was pushed =
-    let one : run_positions (k * size, k * size + size) ++ [] ≡ list_positions size (get_or ps i 0) =
-    append-nil (run_positions (k * size, k * size + size)) ∙ list_is_run size k ∙ ap (list_positions size) at in
-    ap (flat_map run_positions) pushed ∙ flat_map-append run_positions before ((k * size, k * size + size) ∷ [])
-    ∙ ap (λ ks. flat_map run_positions before ++ ks) one ∙ ap (λ ks. ks ++ list_positions size (get_or ps i 0)) was
-    ∙ sym (runs_more (list_positions size) ps i 0 l)
 
 -- ---- what is picked of each list is one part
 

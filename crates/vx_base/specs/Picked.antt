@@ -12,5 +12,6 @@ positions_of (picks.Numbers t bs) = map unsigned_abs (numbers t bs.now)
 positions_of (picks.Repeated k n) = replicate n k
 positions_of (picks.Runs rs) = flat_map run_positions rs.now
 positions_of (picks.OwnRuns rs) = flat_map run_positions rs.items
+positions_of (picks.ListRepeated k n size) = flat_map (list_positions size) (replicate n k)
 positions_of (picks.ListsAt ps n) = flat_map (list_positions n) ps.now
 positions_of (picks.ListsAtNumbers t bs n) = flat_map (list_positions n) (map unsigned_abs (numbers t bs.now))

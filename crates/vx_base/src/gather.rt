@@ -16,7 +16,7 @@ use crate::call_native;
 use crate::errors::VortexError;
 use crate::native::NativePType;
 use crate::numbers::int_at;
-use crate::places::{Listed, Numbered, Places};
+use crate::places::{Listed, Numbered, Places, Same};
 use crate::ptypes::PType;
 use crate::selection::{Picks, Selection};
 use std::alloc::Global;
@@ -45,8 +45,7 @@ pub fn gather_numbers(
     if picks_zeroes(ptype, bytes, selection) {
         return zero_numbers(alloc, ptype, selection.len());
     }
-    let mut picked = Vec::new(alloc);
-    extend_with_numbers(&mut picked, ptype, bytes, selection)?;
+    let picked = extend_with_numbers(Vec::new(alloc), ptype, bytes, selection)?;
     ByteBuffer::from_vec(alloc, picked)
 }
 
@@ -61,9 +60,26 @@ fn picks_zeroes(ptype: PType, bytes: &[u8], selection: &Selection) -> bool
     }
 }
 
-/// Appends the bytes of the numbers that are picked, in their order. Asks that each position has a
-/// number. Fails only for want of memory; how many numbers were appended by then is not told.
+/// The bytes, and after them those of the numbers that are picked, in their order. Asks that each
+/// position has a number. Fails only for want of memory, and drops the bytes then: so nobody keeps
+/// bytes to which some of the numbers were appended.
 pub fn extend_with_numbers(
+    before: Vec<u8>,
+    ptype: PType,
+    bytes: &[u8],
+    selection: &Selection,
+) -> Result<Vec<u8>, VortexError>
+    requires { All (λ k. k < length bytes.now / byte_width ptype) selection.now }
+    ensures { Gives result (λ all. all.items ≡ before.items
+        ++ flat_map (bytes_of_position (byte_width ptype) bytes.now) selection.now) }
+{
+    let mut all = before;
+    extend_numbers(&mut all, ptype, bytes, selection)?;
+    Ok(all)
+}
+
+// Appends the bytes of the numbers that are picked. Room for all of them is asked for once.
+fn extend_numbers(
     picked: &mut Vec<u8>,
     ptype: PType,
     bytes: &[u8],
@@ -106,6 +122,9 @@ fn extend_width<const WIDTH: usize>(
         }
         Picks::Runs(runs) => extend_runs::<WIDTH>(picked, bytes, runs),
         Picks::OwnRuns(runs) => extend_runs::<WIDTH>(picked, bytes, runs),
+        Picks::ListRepeated(position, len, size) => {
+            extend_lists::<WIDTH, Same>(picked, bytes, Same::new(*position, *len), *size)
+        }
         Picks::ListsAt(lists, size) => {
             extend_lists::<WIDTH, Listed>(picked, bytes, Listed(lists), *size)
         }
@@ -386,6 +405,9 @@ pub fn gather_bits(
         Picks::Repeated(position, len) => bits_repeated(alloc, bits, *position, *len),
         Picks::Runs(runs) => bits_of_runs(alloc, bits, runs, len),
         Picks::OwnRuns(runs) => bits_of_runs(alloc, bits, runs, len),
+        Picks::ListRepeated(position, times, size) => {
+            bits_of_lists::<Same>(alloc, bits, Same::new(*position, *times), *size, len)
+        }
         Picks::ListsAt(lists, size) => {
             bits_of_lists::<Listed>(alloc, bits, Listed(lists), *size, len)
         }
@@ -589,6 +611,9 @@ fn picked_items<T: Copy>(
         Picks::Repeated(position, len) => items_repeated(alloc, items, *position, *len),
         Picks::Runs(runs) => items_of_runs(alloc, items, runs, len),
         Picks::OwnRuns(runs) => items_of_runs(alloc, items, runs, len),
+        Picks::ListRepeated(position, times, size) => {
+            items_of_lists::<T, Same>(alloc, items, Same::new(*position, *times), *size, len)
+        }
         Picks::ListsAt(lists, size) => {
             items_of_lists::<T, Listed>(alloc, items, Listed(lists), *size, len)
         }

@@ -37,8 +37,8 @@ pub(crate) struct Numbered<'a, T> {
 /// One position, `len` times.
 #[derive(Clone, Copy)]
 pub(crate) struct Same {
-    pub position: usize,
-    pub len: usize,
+    position: usize,
+    len: usize,
 }
 
 impl<'a, T: NativePType> Numbered<'a, T> {
@@ -50,6 +50,16 @@ impl<'a, T: NativePType> Numbered<'a, T> {
             bytes,
             number: PhantomData,
         }
+    }
+}
+
+impl Same {
+    /// This position, so many times.
+    pub(crate) fn new(position: usize, len: usize) -> Self
+        ensures position { result.position ≡ position }
+        ensures len { result.len ≡ len }
+    {
+        Same { position, len }
     }
 }
 

@@ -9,14 +9,14 @@ ghost use Rattle.vx_base.specs.Selections.{run_positions, list_positions};
 
 use crate::errors::VortexError;
 use crate::numbers::number_count;
-use crate::places::{Places, Same};
 use crate::ptypes::PType;
 use std::alloc::Global;
 use std::marker::Model;
 
 /// Which rows are picked, in their order: at positions, which may lie in bytes as numbers of a
 /// type, one row again and again, in runs, each from its start up to its end, or as the elements of
-/// lists of one size. What is picked is the list of all their positions, in each form.
+/// lists of one size, which may be one list again and again. What is picked is the list of all their
+/// positions, in each form.
 #[derive(Drop)]
 pub struct Selection<'a> {
     picks: Picks<'a>,
@@ -31,6 +31,7 @@ pub(crate) enum Picks<'a> {
     Repeated(usize, usize),
     Runs(&'a [(usize, usize)]),
     OwnRuns(Vec<(usize, usize)>),
+    ListRepeated(usize, usize, usize),
     ListsAt(&'a [usize], usize),
     ListsAtNumbers(PType, &'a [u8], usize),
 }
@@ -140,36 +141,17 @@ fn lists_of<'a>(alloc: Global, picks: &Picks<'a>, size: usize) -> Result<Picks<'
     Ok(match picks {
         Picks::Positions(positions) => Picks::ListsAt(*positions, size),
         Picks::Numbers(ptype, bytes) => Picks::ListsAtNumbers(*ptype, *bytes, size),
-        Picks::Repeated(position, len) => {
-            let (position, len) = (*position, *len);
-            Picks::OwnRuns(runs_at::<Same>(alloc, Same { position, len }, size)?)
-        }
+        Picks::Repeated(position, len) => Picks::ListRepeated(*position, *len, size),
         Picks::Runs(runs) => Picks::OwnRuns(runs_of_runs(alloc, *runs, size)?),
         Picks::OwnRuns(runs) => Picks::OwnRuns(runs_of_runs(alloc, runs, size)?),
+        Picks::ListRepeated(position, len, whole) => {
+            Picks::ListRepeated(*position, *len, *whole * size)
+        }
         Picks::ListsAt(positions, whole) => Picks::ListsAt(*positions, *whole * size),
         Picks::ListsAtNumbers(ptype, bytes, whole) => {
             Picks::ListsAtNumbers(*ptype, *bytes, *whole * size)
         }
     })
-}
-
-// The run of each list.
-fn runs_at<P: Places>(
-    alloc: Global,
-    places: P,
-    size: usize,
-) -> Result<Vec<(usize, usize)>, VortexError>
-    requires { All (λ k. k * size + size < 2 ^ 64) (P.positions places) }
-    ensures { Gives result (λ runs.
-        flat_map run_positions runs.items ≡ flat_map (list_positions size) (P.positions places)) }
-{
-    let len = places.count();
-    let mut runs = Vec::with_capacity(alloc, len)?;
-    for i in 0..len {
-        let start = places.at(i) * size;
-        runs.push((start, start + size))?;
-    }
-    Ok(runs)
 }
 
 // The run of each run of lists.

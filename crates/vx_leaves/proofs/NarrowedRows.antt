@@ -17,7 +17,7 @@ use Rattle.vx_base.proofs.Zeroes.{holds-zero}
 use Rattle.vx_tree.specs.Tree.{Tree, primitive, Valid}
 use Rattle.vx_tree.specs.Meaning.{tree_len, kind_of, row_at, rows, valid_mask, nullable}
 use Rattle.vx_tree.specs.Operations.{masked}
-use Rattle.vx_leaves.specs.Leaves.{type_in, validity_in, numbers_in}
+use Rattle.vx_leaves.specs.Leaves.{type_in, validity_of, numbers_in}
 use Rattle.vx_leaves.specs.Narrow.{numbers_among, valid_numbers, kept, zeroed, narrowed_type, IsLeastWidth, IsNarrowed}
 use Rattle.vx_leaves.proofs.MaskedRows.{IsPrimitive-masked}
 use Rattle.vx_leaves.proofs.NarrowedTypes.{narrowed_held, narrowed_least, narrowed_width}
@@ -197,7 +197,7 @@ module _ (t : Tree) (p : PType) (bs : List ℕ) (v : Valid) (mask : List Bool) (
         ∙ masked_zeroed mask zs ∙ sym rows_are in
         record {
           same_rows = same_rows;
-          validity = ap validity_in is ∙ sym (ap validity_in same);
+          validity = ap validity_of is ∙ sym (ap validity_of same);
           ptype = ap type_in is ∙ type_is;
           least_width = subst (λ u. IsLeastWidth u (valid_numbers r)) (sym (ap type_in is)) (subst (IsLeastWidth q) (sym (ap numbers_among same_rows ∙ valid_are)) least);
           zeroes = λ none. ap numbers_in is ∙ written ∙ zeroed_none mask zs mask_long (sym valid_are ∙ none) ∙ ap (λ m. replicate m (pos 0)) (sym len_is ∙ len);
@@ -207,7 +207,7 @@ module _ (t : Tree) (p : PType) (bs : List ℕ) (v : Valid) (mask : List Bool) (
     pub narrowed_stays : (r : Tree) → q ≡ p → (count_by (λ b. b) mask ≡ 0 → ⊥) → r ≡ t → IsNarrowed t r
     narrowed_stays r stays some is = record {
       same_rows = ap rows is;
-      validity = ap validity_in is;
+      validity = ap validity_of is;
       ptype = ap type_in is ∙ ap type_in same ∙ sym stays ∙ type_is;
       least_width = subst (λ u. IsLeastWidth u (valid_numbers r)) (stays ∙ sym (ap type_in is ∙ ap type_in same)) (subst (IsLeastWidth q) (sym (ap valid_numbers is ∙ valid_are)) least);
       zeroes = λ none. absurd (some (kept_none mask zs mask_long (sym valid_are ∙ none)));

@@ -10,7 +10,7 @@ use Rattle.vx_base.specs.Rows.{position_in}
 use Rattle.vx_tree.specs.Tree.{Tree, dictionary}
 use Rattle.vx_tree.specs.Meaning.{tree_len, kind_of, row_at}
 use Rattle.vx_tree.specs.Faults.{indices_fault}
-pub use Rattle.vx_tree.specs.Layouts.{is_dictionary}
+pub use Rattle.vx_tree.specs.Layouts.{is_dictionary, values_in}
 
 -- ---- the parts of an array of its layout
 
@@ -18,11 +18,6 @@ pub use Rattle.vx_tree.specs.Layouts.{is_dictionary}
 abbrev pub codes_in : Tree → Tree
 codes_in (dictionary c v f) = c
 codes_in t = t
-
--- the values that the codes name
-abbrev pub values_in : Tree → Tree
-values_in (dictionary c v f) = v
-values_in t = t
 
 -- whether it is known that every value is referenced
 abbrev pub referenced_flag : Tree → Bool

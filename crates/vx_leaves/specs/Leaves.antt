@@ -13,6 +13,7 @@ use Rattle.vx_tree.specs.Meaning.{kind_of, row_at}
 use Rattle.vx_tree.specs.Validities.{has_no_nulls}
 pub use Rattle.vx_tree.specs.Layouts.{is_bools, is_primitive, is_constant}
 pub use Rattle.vx_tree.specs.Faults.{validity_fault}
+pub use Rattle.vx_tree.specs.Slots.{validity_of}
 
 -- an array of these numbers, in their bytes
 pub record IsPrimitive (t : PType) (zs : List ℤ) (v : Valid) (a : Tree) : Type 0 where
@@ -36,12 +37,6 @@ type_in _ = U8
 abbrev pub bytes_in : Tree → List ℕ
 bytes_in (primitive t bs v) = bs
 bytes_in _ = []
-
--- the state of the rows
-abbrev pub validity_in : Tree → Valid
-validity_in (bools bits v) = v
-validity_in (primitive t bs v) = v
-validity_in _ = non_nullable
 
 -- the row of a constant, with its data type
 abbrev pub scalar_in : Tree → TypedRow

@@ -8,7 +8,7 @@ use Rattle.vx_base.specs.Integers.{byte_width, least, greatest, Holds}
 use Rattle.vx_base.specs.Rows.{Row, whole}
 use Rattle.vx_tree.specs.Tree.{Tree}
 use Rattle.vx_tree.specs.Meaning.{tree_len, rows}
-use Rattle.vx_leaves.specs.Leaves.{type_in, validity_in, numbers_in}
+use Rattle.vx_leaves.specs.Leaves.{type_in, validity_of, numbers_in}
 
 -- the numbers among rows, in order
 abbrev pub numbers_among : List Row → List ℤ
@@ -67,7 +67,7 @@ NarrowedTypes = (t : PType) (zs : List ℤ) → All (Holds t) zs → IsNarrowedT
 -- no row is valid each number is 0
 pub record IsNarrowed (t r : Tree) : Type 0 where
   pub same_rows : rows r ≡ rows t
-  pub validity : validity_in r ≡ validity_in t
+  pub validity : validity_of r ≡ validity_of t
   pub ptype : type_in r ≡ narrowed_type (type_in t) (valid_numbers t)
   pub least_width : IsLeastWidth (type_in r) (valid_numbers r)
   pub zeroes : valid_numbers t ≡ [] → numbers_in r ≡ replicate (tree_len t) (pos 0)

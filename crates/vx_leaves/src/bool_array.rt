@@ -6,7 +6,7 @@ ghost use Rattle.vx_tree.specs.Formed.{ValidFits};
 ghost use Rattle.vx_tree.specs.Meaning.{tree_len};
 ghost use Rattle.vx_tree.specs.Tree.{bools, non_nullable};
 ghost use Rattle.vx_tree.specs.Parts.{valid_of};
-ghost use Rattle.vx_leaves.specs.Leaves.{is_bools, bits_in, validity_in, validity_fault};
+ghost use Rattle.vx_leaves.specs.Leaves.{is_bools, bits_in, validity_of, validity_fault};
 
 use std::alloc::Global;
 use std::marker::Model;
@@ -92,7 +92,7 @@ impl BoolArray {
     pub(crate) fn parts(&self) -> BoolParts<'_>
         ensures same { self.now ≡ bools result.bits.now.bits (valid_of result.validity.now) }
         ensures bits { result.bits.now.bits ≡ bits_in self.now }
-        ensures validity { valid_of result.validity.now ≡ validity_in self.now }
+        ensures validity { valid_of result.validity.now ≡ validity_of self.now }
         ensures len { length result.bits.now.bits ≡ tree_len self.now }
         ensures formed { ValidFits (valid_of result.validity.now) (length result.bits.now.bits) }
     {

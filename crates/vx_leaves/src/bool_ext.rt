@@ -9,7 +9,7 @@ ghost use Rattle.vx_tree.specs.Meaning.{tree_len, nullable, valid_mask};
 ghost use Rattle.vx_tree.specs.Parts.{valid_of};
 ghost use Rattle.vx_tree.specs.Slots.{validity_slot};
 ghost use Rattle.vx_tree.specs.Validities.{has_no_nulls};
-ghost use Rattle.vx_leaves.specs.Leaves.{bits_in, validity_in, null_fault};
+ghost use Rattle.vx_leaves.specs.Leaves.{bits_in, validity_of, null_fault};
 
 use crate::bool_array::BoolArray;
 use std::alloc::Global;
@@ -28,11 +28,11 @@ pub struct BoolSlots {
 pub trait BoolArrayExt: TypedArray {
     /// Whether null may stand.
     fn nullability(&self) -> Nullability
-        ensures { is_nullable result ≡ nullable (validity_in (Self.as_tree self.now)) };
+        ensures { is_nullable result ≡ nullable (validity_of (Self.as_tree self.now)) };
 
     /// Which rows are valid, an array shared. Fails only for want of memory.
     fn validity(&self, alloc: Global) -> Result<Validity, VortexError>
-        ensures { Gives result (λ v. valid_of v ≡ validity_in (Self.as_tree self.now)) };
+        ensures { Gives result (λ v. valid_of v ≡ validity_of (Self.as_tree self.now)) };
 
     /// The truth values, valid or not, shared. Fails only for want of memory.
     fn to_bit_buffer(&self, alloc: Global) -> Result<BitBuffer, VortexError>
@@ -46,19 +46,19 @@ pub trait BoolArrayExt: TypedArray {
     /// memory.
     fn maybe_execute_mask(&self, alloc: Global) -> Result<Option<Mask>, VortexError>
         ensures { Gives result (λ o. MatchOption o
-            (has_no_nulls (validity_in (Self.as_tree self.now)) (tree_len (Self.as_tree self.now)) ≡ false)
+            (has_no_nulls (validity_of (Self.as_tree self.now)) (tree_len (Self.as_tree self.now)) ≡ false)
             (λ m. (m ≡ bits_in (Self.as_tree self.now))
-            × (has_no_nulls (validity_in (Self.as_tree self.now)) (tree_len (Self.as_tree self.now)) ≡ true))) };
+            × (has_no_nulls (validity_of (Self.as_tree self.now)) (tree_len (Self.as_tree self.now)) ≡ true))) };
 
     /// The truth values as a mask. Refuses `HasNulls` where a row is null.
     fn execute_mask(&self, alloc: Global) -> Result<Mask, VortexError>
         ensures mask { IfOk result (λ m. m ≡ bits_in (Self.as_tree self.now)) }
-        ensures refuses { Refuses result (null_fault (validity_in (Self.as_tree self.now)) (tree_len (Self.as_tree self.now))) };
+        ensures refuses { Refuses result (null_fault (validity_of (Self.as_tree self.now)) (tree_len (Self.as_tree self.now))) };
 
     /// The mask that is true where the row is valid and true. Fails only for want of memory.
     fn to_mask_fill_null_false(&self, alloc: Global) -> Result<Mask, VortexError>
         ensures { Gives result (λ m. m ≡ both (bits_in (Self.as_tree self.now))
-            (valid_mask (validity_in (Self.as_tree self.now)) (tree_len (Self.as_tree self.now)))) };
+            (valid_mask (validity_of (Self.as_tree self.now)) (tree_len (Self.as_tree self.now)))) };
 }
 
 impl BoolArrayExt for BoolArray {
@@ -105,7 +105,7 @@ impl BoolArray {
     /// The children. Fails only for want of memory.
     pub fn slots(&self, alloc: Global) -> Result<BoolSlots, VortexError>
         ensures { Gives result (λ s. s.validity
-            ≡ validity_slot (validity_in self.now) (tree_len self.now)) }
+            ≡ validity_slot (validity_of self.now) (tree_len self.now)) }
     {
         let validity = self.parts().validity.to_slot(alloc, self.len())?;
         Ok(BoolSlots { validity })

@@ -13,10 +13,10 @@ ghost use Rattle.vx_leaves.specs.Leaves.{validity_fault};
 ghost use Rattle.vx_leaves.specs.Iterated.{AreMarked, AllBelow, IsFirstPast};
 
 use crate::bool_array::BoolArray;
-use crate::collect::{collect_items, collect_options};
+use crate::collect::collect_options;
 use std::alloc::Global;
 use vx_base::{BitBuffer, BitBufferMut, VortexError};
-use vx_tree::Validity;
+use vx_tree::{Validity, collect_items};
 
 impl BoolArray {
     /// The array of `length` rows that is true just at these indices, null where the validity is

@@ -1,27 +1,12 @@
-// The items of iterators, in lists that grow with what comes: no size hint is looked at.
+// The items of iterators that may be none, in lists that grow with what comes: no size hint is
+// looked at.
 
-ghost use Rattle.std.specs.Iterator.{IsFinite, Drains};
+ghost use Rattle.std.specs.Iterator.{IsFinite};
 ghost use Rattle.vx_base.specs.Refusals.{Gives};
 ghost use Rattle.vx_leaves.specs.Iterated.{AreOptions};
 
 use std::alloc::Global;
 use vx_base::VortexError;
-
-// The items, in order.
-pub(crate) fn collect_items<T: Drop, I: Iterator<Item = T> + Drop>(
-    alloc: Global,
-    items: I,
-) -> Result<Vec<T>, VortexError>
-    requires can { I.can_next items }
-    requires ends { IsFinite (I.remaining items) }
-    ensures { Gives result (λ list. Drains I.next_gives items list.items) }
-{
-    let mut list = Vec::new(alloc);
-    for item in items {
-        list.push(item)?;
-    }
-    Ok(list)
-}
 
 // The items that may be none, in order: what they are, and whether they are there.
 #[derive(Drop)]

@@ -8,7 +8,7 @@ ghost use Rattle.vx_tree.specs.Meaning.{tree_len, nullable};
 ghost use Rattle.vx_tree.specs.Parts.{valid_of};
 ghost use Rattle.vx_tree.specs.Slots.{validity_slot};
 ghost use Rattle.vx_tree.specs.Tree.{primitive};
-ghost use Rattle.vx_leaves.specs.Leaves.{type_in, bytes_in, validity_in};
+ghost use Rattle.vx_leaves.specs.Leaves.{type_in, bytes_in, validity_of};
 ghost use Rattle.vx_leaves.specs.Narrow.{IsNarrowed};
 
 use crate::narrow::narrowed_array;
@@ -44,17 +44,17 @@ pub trait PrimitiveArrayExt: TypedArray {
 
     /// Whether null may stand.
     fn nullability(&self) -> Nullability
-        ensures { is_nullable result ≡ nullable (validity_in (Self.as_tree self.now)) };
+        ensures { is_nullable result ≡ nullable (validity_of (Self.as_tree self.now)) };
 
     /// The validity among the children: none where no row is null by the state alone, a constant
     /// false where every row is, else the array that tells, shared. Fails only for want of memory.
     fn validity_child(&self, alloc: Global) -> Result<Option<ArrayRef>, VortexError>
         ensures { Gives result (λ child. child
-            ≡ validity_slot (validity_in (Self.as_tree self.now)) (tree_len (Self.as_tree self.now))) };
+            ≡ validity_slot (validity_of (Self.as_tree self.now)) (tree_len (Self.as_tree self.now))) };
 
     /// Which rows are valid, an array shared. Fails only for want of memory.
     fn validity(&self, alloc: Global) -> Result<Validity, VortexError>
-        ensures { Gives result (λ v. valid_of v ≡ validity_in (Self.as_tree self.now)) };
+        ensures { Gives result (λ v. valid_of v ≡ validity_of (Self.as_tree self.now)) };
 
     /// The bytes of the numbers, valid or not.
     fn buffer_handle(&self) -> &ByteBuffer
@@ -65,7 +65,7 @@ pub trait PrimitiveArrayExt: TypedArray {
     fn reinterpret_cast(&self, alloc: Global, ptype: PType) -> Result<PrimitiveArray, VortexError>
         requires { byte_width ptype ≡ byte_width (type_in (Self.as_tree self.now)) }
         ensures { Gives result (λ a. a ≡ primitive ptype (bytes_in (Self.as_tree self.now))
-            (validity_in (Self.as_tree self.now))) };
+            (validity_of (Self.as_tree self.now))) };
 
     /// The same rows in the narrowest type that has the numbers of the valid ones: u8, u16 or u32
     /// where none is negative, else i8, i16 or i32, and the type itself where none of these has
@@ -115,7 +115,7 @@ impl PrimitiveArray {
     /// The children. Fails only for want of memory.
     pub fn slots(&self, alloc: Global) -> Result<PrimitiveSlots, VortexError>
         ensures { Gives result (λ s. s.validity
-            ≡ validity_slot (validity_in self.now) (tree_len self.now)) }
+            ≡ validity_slot (validity_of self.now) (tree_len self.now)) }
     {
         let validity = self.validity_child(alloc)?;
         Ok(PrimitiveSlots { validity })

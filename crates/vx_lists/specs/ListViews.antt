@@ -99,7 +99,8 @@ total_of t = valid_total (counts_in (sizes_of t)) (mask_of t)
 
 -- what a list view is rebuilt from: its offsets, as bytes of their type, the sizes of its valid rows, as bytes of the rebuilt
 -- type, and the total of these sizes
-pub record IsRebuildPlan (t : Tree) (offset_type : PType) (offsets : List ℕ) (size_type : PType) (sizes : List ℕ) (count : ℕ) : Type 0 where
+pub record IsRebuildPlan (t : Tree) (offset_type : PType) (offsets : List ℕ) (size_type : PType) (sizes : List ℕ)
+    (count : ℕ) : Type 0 where
   pub offset_type_is : offset_type ≡ integer_type (kind_of (offsets_of t))
   pub offsets_are : HoldCounts offset_type offsets (counts_in (offsets_of t))
   pub size_type_is : size_type ≡ rebuilt_ptype (integer_type (kind_of (sizes_of t)))

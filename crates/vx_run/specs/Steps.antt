@@ -126,7 +126,8 @@ HasLayout (Take array indices) arrays r =
     × (is_constant (array_at arrays array) ≡ true → HasOneValue r)
 HasLayout (Filter array mask) arrays r = shape_of r ≡ selected_shape (shape_of (array_at arrays array))
 HasLayout (Mask array mask) arrays r =
-    (shape_of r ≡ nulled_shape (shape_of (array_at arrays array)) told) × (is_constant (array_at arrays array) ≡ true → HasOneValue r)
+    (shape_of r ≡ nulled_shape (shape_of (array_at arrays array)) told)
+    × (is_constant (array_at arrays array) ≡ true → HasOneValue r)
 HasLayout (Concat is) arrays r =
     IsPlain r × (tree_state r ≡ joined_state (arrays_at arrays is.items)) × (is_flagged r ≡ false)
 HasLayout (Canonical array) arrays r = IsCanonical (array_at arrays array) r
@@ -209,4 +210,5 @@ pub record HasRun (steps : List Step) (arrays results : List Tree) : Type 0 wher
 -- room for the results was refused before the first step; or a step that finds these arrays is refused, by its first fault
 -- or for want of memory
 abbrev pub IsStop : List Step → ℕ → List Tree → VortexError → Type 0
-IsStop steps k arrays error = ((k ≡ 0) × (error ≡ Memory)) ⊎ IsSomeAnd (slice_get steps k) (λ s. IsMemoryOr (step_fault s arrays) error)
+IsStop steps k arrays error =
+    ((k ≡ 0) × (error ≡ Memory)) ⊎ IsSomeAnd (slice_get steps k) (λ s. IsMemoryOr (step_fault s arrays) error)

@@ -34,13 +34,15 @@ pub record IsCollected {S A : Type 0} (steps : S → Option A → S → Type 0) 
   pub is : IsArrayOf k (map item all) a
 
 -- all items, none of them faulty, and the views and buffers of an array of them
-pub record IsCollectedData {S A : Type 0} (steps : S → Option A → S → Type 0) (s : S) (item : A → Item) (k : Kind) (d : ViewData) : Type 0 where
+pub record IsCollectedData {S A : Type 0} (steps : S → Option A → S → Type 0) (s : S) (item : A → Item) (k : Kind) (d : ViewData)
+    : Type 0 where
   pub array : Tree
   pub made : IsCollected steps s item k array
   pub parts : d ≡ view_data_of array
 
 -- an error names the fault of the first faulty item
-pub record IsFirstFaulty {S A : Type 0} (steps : S → Option A → S → Type 0) (s : S) (item : A → Item) (k : Kind) (e : VortexError) : Type 0 where
+pub record IsFirstFaulty {S A : Type 0} (steps : S → Option A → S → Type 0) (s : S) (item : A → Item) (k : Kind) (e : VortexError)
+    : Type 0 where
   pub before : List A
   pub first : A
   pub rest : S
@@ -49,7 +51,8 @@ pub record IsFirstFaulty {S A : Type 0} (steps : S → Option A → S → Type 0
   pub here : Names (item_fault (is_texts k) (is_nullable_kind k) (length before) (item first)) e
 
 -- an error names that no item is faulty, but there are more buffers than can be numbered
-pub record AreTooMany {S A : Type 0} (steps : S → Option A → S → Type 0) (s : S) (item : A → Item) (k : Kind) (e : VortexError) : Type 0 where
+pub record AreTooMany {S A : Type 0} (steps : S → Option A → S → Type 0) (s : S) (item : A → Item) (k : Kind) (e : VortexError)
+    : Type 0 where
   pub all : List A
   pub came : Drains steps s all
   pub faultless : items_fault (is_texts k) (is_nullable_kind k) (map item all) ≡ None

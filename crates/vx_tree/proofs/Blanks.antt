@@ -1,114 +1,136 @@
 -- Rows in plain layout of which only the validity is given.
-use Rattle.std.proofs.Common.{ℕ, suc, ◌<◌, ◌≡◌, Bool, true, false, List, [], ◌∷◌, length, map, replicate, refl, sym, ◌∙◌, ap, subst, arith}
-use Rattle.std.specs.Prelude.{pos, slice_index_or}
+use Rattle.std.proofs.Common.{ℕ, suc, ◌*◌, ◌^◌, ◌<◌, ◌≡◌, Bool, true, false, List, [], ◌∷◌, length, map, replicate, None, refl, sym, ◌∙◌, ap, subst, arith}
+use Rattle.std.specs.Prelude.{pos, nat_lt, slice_index_or, ◌||◌}
+use Rattle.std.proofs.Math.Bool.{or_self}
+use Rattle.std.proofs.lemmas.Bool.{lt-ltb}
 use Rattle.std.proofs.lemmas.List.{length-map, length-replicate, get_or-replicate}
-use Rattle.vx_base.specs.declared.dtypes.DType.{DType}
 use Rattle.vx_base.specs.declared.ptypes.PType.{PType}
-use Rattle.vx_base.specs.DTypes.{kinds_of as dtype_kinds}
 use Rattle.vx_base.specs.Integers.{numbers}
-use Rattle.vx_base.specs.Kinds.{Kind, booleans, integers, lists, fixed_lists, records, kind, is_nullable_kind, Fits}
+use Rattle.vx_base.specs.Kinds.{Kind, booleans, integers, lists, fixed_lists, texts, binaries, records, Kinds, no_kinds, kind, is_nullable_kind, or_nullable, Fits}
 use Rattle.vx_base.specs.Rows.{Row, null}
 use Rattle.vx_views.specs.Views.{number_le, view_of}
 use Rattle.vx_views.specs.Sound.{IsSoundView}
 use Rattle.vx_tree.specs.Tree.{Tree, bools, primitive, constant, fixed_list, list_view, structure, view_array, Valid, all_invalid}
-use Rattle.vx_tree.specs.Meaning.{kinds_of, is_valid_at, nullable, trees_from, is_texts}
+use Rattle.vx_tree.specs.Meaning.{kind_of, kinds_of, is_valid_at, nullable, trees_from, is_texts}
 use Rattle.vx_tree.specs.Formed.{ValidFits, AllLen, IsStruct, WellFormed, column_count, value_kind}
-use Rattle.vx_tree.specs.Plain.{ArePlain, IsPlainValid}
-use Rattle.vx_tree.specs.Operations.{IsZeroes}
-use Rattle.vx_tree.specs.Canonical.{IsCanonical, IsBlank, IsBlankPart, AreBlankParts}
-use Rattle.vx_tree.specs.Extents.{extents_of, rows_extent, fields_extents, extent, view_extent, list_extent, fixed_list_extent, struct_extent}
+use Rattle.vx_tree.specs.Plain.{IsPlain, ArePlain, IsPlainValid}
+use Rattle.vx_tree.specs.Shapes.{state_of, tree_state, taken_state}
+use Rattle.vx_tree.specs.Operations.{IsZeroes, IsValidityOf, IsValidNulls}
+use Rattle.vx_tree.specs.Canonical.{IsCanonical, IsCanonicalValid, IsBlank, IsBlankPart, AreBlankParts, IsPlainNulls}
+use Rattle.vx_tree.specs.PlainValues.{ArePlainValues, rows_fault, fields_fault}
+use Rattle.vx_tree.specs.Extents.{extent_of, extents_of, rows_extent, extent, fixed_list_extent, struct_extent}
 use Rattle.vx_tree.proofs.RowNames.{rows_extent-nulls}
-use Rattle.vx_tree.proofs.Nulled.{null_row}
+use Rattle.vx_tree.proofs.Canonical.{same_nullable}
+use Rattle.vx_tree.proofs.Nulled.{null_row, nullable_nulled}
 use Rattle.vx_tree.proofs.Worked.{are_below, are_text}
-use Rattle.vx_tree.proofs.ViewArrays.{empty_is_zeroes}
+use Rattle.vx_tree.proofs.ViewArrays.{empty_is_zeroes, kind_nulled}
 
-pub bools_blank : (t : Tree) (k : Kind) (m : Bool) (bits : List Bool) (v : Valid) (n : ℕ) → k ≡ booleans m → nullable v ≡ is_nullable_kind k → IsPlainValid v → t ≡ bools bits v → length bits ≡ n → IsBlank k n v t
-bools_blank t k m bits v n e may p a long =
-    rw a (record { len = long; kind = ap booleans (may ∙ ap is_nullable_kind e) ∙ sym e; plain = p; state = refl; extent = ap (λ c. rows_extent c []) (sym e); flag = refl; nulls = λ i l. null_row (is_valid_at v i) _ })
+-- null may stand here where it may there
+abbrev pub MayHaveNulls : Tree → Valid → Type 0
+MayHaveNulls t w = is_nullable_kind (kind_of t) ≡ true → nullable w ≡ true
 
-pub numbers_blank : (t : Tree) (k : Kind) (p : PType) (m : Bool) (bs : List ℕ) (v : Valid) (n : ℕ) → k ≡ integers p m → nullable v ≡ is_nullable_kind k → IsPlainValid v → t ≡ primitive p bs v
-    → numbers p bs ≡ map pos (replicate n 0) → IsBlank k n v t
-numbers_blank t k p m bs v n e may plain a zeroes =
-    rw a (record {
+covers : (a b : Bool) → (b ≡ true → a ≡ true) → a ≡ (a || b)
+covers true b h = refl
+covers false true h = h refl
+covers false false h = refl
+
+pub bools_blank : (t r : Tree) (bits zeroes : List Bool) (v w : Valid) (n : ℕ) → t ≡ bools bits v → r ≡ bools zeroes w → MayHaveNulls t w → IsPlainValid w → length zeroes ≡ n → IsBlank (or_nullable (nullable w) (kind_of t)) (extent_of t) n w r
+bools_blank t r bits zeroes v w n a b may p long =
+    let c : nullable w ≡ (nullable w || nullable v) = covers (nullable w) (nullable v) (rw a at may) in
+    rw (a, b) (record { len = long; kind = ap booleans c; plain = p; state = refl; extent = refl; flag = refl; nulls = λ i l. null_row (is_valid_at w i) _ })
+
+pub numbers_blank : (t r : Tree) (p : PType) (bs zs : List ℕ) (v w : Valid) (n : ℕ) → t ≡ primitive p bs v → r ≡ primitive p zs w → MayHaveNulls t w → IsPlainValid w → numbers p zs ≡ map pos (replicate n 0)
+    → IsBlank (or_nullable (nullable w) (kind_of t)) (extent_of t) n w r
+numbers_blank t r p bs zs v w n a b may plain zeroes =
+    let c : nullable w ≡ (nullable w || nullable v) = covers (nullable w) (nullable v) (rw a at may) in
+    rw (a, b) (record {
       len = ap length zeroes ∙ length-map (replicate n 0) pos ∙ length-replicate {A = ℕ} n 0;
-      kind = ap (integers p) (may ∙ ap is_nullable_kind e) ∙ sym e;
+      kind = ap (integers p) c;
       plain = plain;
       state = refl;
-      extent = ap (λ c. rows_extent c []) (sym e);
+      extent = refl;
       flag = refl;
-      nulls = λ i l. null_row (is_valid_at v i) _;
+      nulls = λ i l. null_row (is_valid_at w i) _;
     })
 
-pub lists_blank : (t e o s : Tree) (k j : Kind) (m : Bool) (p q : PType) (v : Valid) (n : ℕ) → k ≡ lists j m → nullable v ≡ is_nullable_kind k → IsPlainValid v → t ≡ list_view e o s v false → IsBlankPart j 0 e → IsZeroes p n o → IsZeroes q n s → IsBlank k n v t
-lists_blank t e o s k j m p q v n same may plain a x y z =
-    rw a (record {
-      len = y.len;
-      kind = (λ i. lists (x.kind i) (may i)) ∙ ap (λ c. lists j (is_nullable_kind c)) same ∙ sym same;
-      plain = (x.plain, y.plain, z.plain, plain);
+pub lists_blank : (t r e o s y z : Tree) (p q : PType) (f : Bool) (v w : Valid) (n : ℕ) → t ≡ list_view e o s v f → r ≡ list_view e y z w false → MayHaveNulls t w → IsPlain t → IsPlainValid w → IsZeroes p n y → IsZeroes q n z
+    → IsBlank (or_nullable (nullable w) (kind_of t)) (extent_of t) n w r
+lists_blank t r e o s y z p q f v w n a b may whole plain os ss =
+    let c : nullable w ≡ (nullable w || nullable v) = covers (nullable w) (nullable v) (rw a at may) in
+    let parts : IsPlain (list_view e o s v f) = rw a at whole in
+    rw (a, b) (record {
+      len = os.len;
+      kind = ap (lists (kind_of e)) c;
+      plain = (parts.0, os.plain, ss.plain, plain);
       state = refl;
-      extent = (λ i. list_extent (x.len i) (x.extent i)) ∙ ap (λ c. rows_extent c []) (sym same);
+      extent = refl;
       flag = refl;
-      nulls = λ i l. null_row (is_valid_at v i) _;
+      nulls = λ i l. null_row (is_valid_at w i) _;
     })
 
-pub fixed_lists_blank : (t e : Tree) (k j : Kind) (m : Bool) (size h : ℕ) (v : Valid) (n : ℕ) → k ≡ fixed_lists j size m → nullable v ≡ is_nullable_kind k → IsPlainValid v → t ≡ fixed_list e size v n → IsBlankPart j h e → IsBlank k n v t
-fixed_lists_blank t e k j m size h v n same may plain a x =
-    rw a (record {
+pub fixed_lists_blank : (t r e d : Tree) (size m h : ℕ) (v w : Valid) (n : ℕ) → t ≡ fixed_list e size v m → r ≡ fixed_list d size w n → MayHaveNulls t w → IsPlainValid w → IsBlankPart (kind_of e) (extent_of e) h d
+    → IsBlank (or_nullable (nullable w) (kind_of t)) (extent_of t) n w r
+fixed_lists_blank t r e d size m h v w n a b may plain x =
+    let c : nullable w ≡ (nullable w || nullable v) = covers (nullable w) (nullable v) (rw a at may) in
+    rw (a, b) (record {
       len = refl;
-      kind = (λ i. fixed_lists (x.kind i) size (may i)) ∙ ap (λ c. fixed_lists j size (is_nullable_kind c)) same ∙ sym same;
+      kind = λ i. fixed_lists (x.kind i) size (c i);
       plain = (x.plain, plain);
       state = refl;
-      extent = ap fixed_list_extent x.extent ∙ ap (λ c. rows_extent c []) (sym same);
+      extent = ap fixed_list_extent x.extent;
       flag = refl;
-      nulls = λ i l. null_row (is_valid_at v i) _;
+      nulls = λ i l. null_row (is_valid_at w i) _;
     })
+
+pub ruleset blanks = (bools_blank, numbers_blank, lists_blank, fixed_lists_blank)
 
 -- ---- records
 
-pub blank_kinds : (ds : List DType) (n : ℕ) (rs : List Tree) → AreBlankParts ds n rs → kinds_of (trees_from rs) ≡ dtype_kinds ds
+blank_kinds : (ts : List Tree) (n : ℕ) (rs : List Tree) → AreBlankParts ts n rs → kinds_of (trees_from rs) ≡ kinds_of (trees_from ts)
 blank_kinds [] n [] h = refl
 blank_kinds [] n (r ∷ rs) h = absurd h
-blank_kinds (d ∷ ds) n [] h = absurd h
-blank_kinds (d ∷ ds) n (r ∷ rs) h = λ i. kind (h.0.kind i) (blank_kinds ds n rs h.1 i)
+blank_kinds (t ∷ ts) n [] h = absurd h
+blank_kinds (t ∷ ts) n (r ∷ rs) h = λ i. kind (h.0.kind i) (blank_kinds ts n rs h.1 i)
 
-blank_plain : (ds : List DType) (n : ℕ) (rs : List Tree) → AreBlankParts ds n rs → ArePlain (trees_from rs)
+blank_plain : (ts : List Tree) (n : ℕ) (rs : List Tree) → AreBlankParts ts n rs → ArePlain (trees_from rs)
 blank_plain [] n [] h = tt
 blank_plain [] n (r ∷ rs) h = absurd h
-blank_plain (d ∷ ds) n [] h = absurd h
-blank_plain (d ∷ ds) n (r ∷ rs) h = (h.0.plain, blank_plain ds n rs h.1)
+blank_plain (t ∷ ts) n [] h = absurd h
+blank_plain (t ∷ ts) n (r ∷ rs) h = (h.0.plain, blank_plain ts n rs h.1)
 
-blank_extents : (c : ℕ) (ds : List DType) (n : ℕ) (rs : List Tree) → AreBlankParts ds n rs → extents_of (trees_from rs) ≡ fields_extents (dtype_kinds ds) c []
-blank_extents c [] n [] h = refl
-blank_extents c [] n (r ∷ rs) h = absurd h
-blank_extents c (d ∷ ds) n [] h = absurd h
-blank_extents c (d ∷ ds) n (r ∷ rs) h = λ i. extent (h.0.extent i) (blank_extents (suc c) ds n rs h.1 i)
+blank_extents : (ts : List Tree) (n : ℕ) (rs : List Tree) → AreBlankParts ts n rs → extents_of (trees_from rs) ≡ extents_of (trees_from ts)
+blank_extents [] n [] h = refl
+blank_extents [] n (r ∷ rs) h = absurd h
+blank_extents (t ∷ ts) n [] h = absurd h
+blank_extents (t ∷ ts) n (r ∷ rs) h = λ i. extent (h.0.extent i) (blank_extents ts n rs h.1 i)
 
-blank_lens : (ds : List DType) (n : ℕ) (rs : List Tree) → AreBlankParts ds n rs → AllLen n (trees_from rs)
+blank_lens : (ts : List Tree) (n : ℕ) (rs : List Tree) → AreBlankParts ts n rs → AllLen n (trees_from rs)
 blank_lens [] n [] h = tt
 blank_lens [] n (r ∷ rs) h = absurd h
-blank_lens (d ∷ ds) n [] h = absurd h
-blank_lens (d ∷ ds) n (r ∷ rs) h = (h.0.len, blank_lens ds n rs h.1)
+blank_lens (t ∷ ts) n [] h = absurd h
+blank_lens (t ∷ ts) n (r ∷ rs) h = (h.0.len, blank_lens ts n rs h.1)
 
-blank_count : (ds : List DType) (n : ℕ) (rs : List Tree) → AreBlankParts ds n rs → length ds ≡ column_count (trees_from rs)
+blank_count : (ts : List Tree) (n : ℕ) (rs : List Tree) → AreBlankParts ts n rs → column_count (trees_from ts) ≡ column_count (trees_from rs)
 blank_count [] n [] h = refl
 blank_count [] n (r ∷ rs) h = absurd h
-blank_count (d ∷ ds) n [] h = absurd h
-blank_count (d ∷ ds) n (r ∷ rs) h = omega (arith, blank_count ds n rs h.1)
+blank_count (t ∷ ts) n [] h = absurd h
+blank_count (t ∷ ts) n (r ∷ rs) h = omega (arith, blank_count ts n rs h.1)
 
-pub blank_columns_fit : (names : List (List ℕ)) (ds : List DType) (n : ℕ) (rs : List Tree) → length names ≡ length ds → AreBlankParts ds n rs → IsStruct names (trees_from rs) n
-blank_columns_fit names ds n rs same h = record { named = same ∙ blank_count ds n rs h; lens = blank_lens ds n rs h }
+pub blank_columns_fit : (names : List (List ℕ)) (ts : List Tree) (m n : ℕ) (rs : List Tree) → IsStruct names (trees_from ts) m → AreBlankParts ts n rs → IsStruct names (trees_from rs) n
+blank_columns_fit names ts m n rs s h = record { named = s.named ∙ blank_count ts n rs h; lens = blank_lens ts n rs h }
 
-pub struct_blank : (t : Tree) (k : Kind) (names : List (List ℕ)) (ds : List DType) (rs : List Tree) (m : Bool) (v : Valid) (n : ℕ) → k ≡ records names (dtype_kinds ds) m → nullable v ≡ is_nullable_kind k → IsPlainValid v
-    → t ≡ structure names (trees_from rs) v n → AreBlankParts ds n rs → IsBlank k n v t
-struct_blank t k names ds rs m v n same may plain a x =
-    rw a (record {
+pub struct_blank : (t r : Tree) (names : List (List ℕ)) (ts rs : List Tree) (v w : Valid) (m n : ℕ) → t ≡ structure names (trees_from ts) v m → r ≡ structure names (trees_from rs) w n → MayHaveNulls t w → IsPlainValid w
+    → AreBlankParts ts n rs → IsBlank (or_nullable (nullable w) (kind_of t)) (extent_of t) n w r
+struct_blank t r names ts rs v w m n a b may plain x =
+    let c : nullable w ≡ (nullable w || nullable v) = covers (nullable w) (nullable v) (rw a at may) in
+    rw (a, b) (record {
       len = refl;
-      kind = (λ i. records names (blank_kinds ds n rs x i) (may i)) ∙ ap (λ c. records names (dtype_kinds ds) (is_nullable_kind c)) same ∙ sym same;
-      plain = (blank_plain ds n rs x, plain);
+      kind = λ i. records names (blank_kinds ts n rs x i) (c i);
+      plain = (blank_plain ts n rs x, plain);
       state = refl;
-      extent = ap struct_extent (blank_extents 0 ds n rs x) ∙ ap (λ c. rows_extent c []) (sym same);
+      extent = ap struct_extent (blank_extents ts n rs x);
       flag = refl;
-      nulls = λ i l. null_row (is_valid_at v i) _;
+      nulls = λ i l. null_row (is_valid_at w i) _;
     })
 
 -- ---- texts and byte lists
@@ -121,44 +143,124 @@ empty_sound buffers u = record {
   utf8 = λ on. are_text [] refl;
 }
 
-pub views_blank_formed : (ws : List (List ℕ)) (k : Kind) (v : Valid) (n : ℕ) → k ≡ value_kind (is_texts k) (nullable v) → ValidFits v n → ws ≡ replicate n (view_of [] 0 0) → WellFormed (view_array ws [] k v)
-views_blank_formed ws k v n same fits e =
-    let long : length ws ≡ n = ap length e ∙ length-replicate {A = List ℕ} n (view_of [] 0 0) in
-    let each : (i : ℕ) → i < length ws → slice_index_or ws i [] ≡ replicate 16 0 = λ i l. ap (λ (xs : List (List ℕ)). slice_index_or xs i []) e ∙ get_or-replicate n i (view_of [] 0 0) [] (rw long at l) ∙ empty_is_zeroes in (
+value_nullable : (u m : Bool) → is_nullable_kind (value_kind u m) ≡ m
+value_nullable true m = refl
+value_nullable false m = refl
+
+pub views_blank_formed : (t : Tree) (vs bs : List (List ℕ)) (k : Kind) (v w : Valid) (n : ℕ) → t ≡ view_array vs bs k v → WellFormed (view_array vs bs k v) → MayHaveNulls t w → ValidFits w n
+    → WellFormed (view_array (replicate n (view_of [] 0 0)) bs (or_nullable (nullable w) k) w)
+views_blank_formed t vs bs k v w n a formed may fits =
+    let ws = replicate n (view_of [] 0 0) in
+    let j = or_nullable (nullable w) k in
+    let long : length ws ≡ n = length-replicate {A = List ℕ} n (view_of [] 0 0) in
+    let each : (i : ℕ) → i < length ws → slice_index_or ws i [] ≡ replicate 16 0 = λ i l. get_or-replicate n i (view_of [] 0 0) [] (rw long at l) ∙ empty_is_zeroes in
+    let mine : is_nullable_kind k ≡ nullable v = ap is_nullable_kind formed.1.kind ∙ value_nullable (is_texts k) (nullable v) in
+    let c : nullable w ≡ (nullable w || nullable v) = covers (nullable w) (nullable v) (λ h. may (ap (λ x. is_nullable_kind (kind_of x)) a ∙ mine ∙ h)) in (
       rw long fits,
       record {
-        kind = same;
-        sound = λ i l valid. subst (IsSoundView [] (is_texts k)) (sym (each i l)) (empty_sound [] (is_texts k));
+        kind = kind_nulled k (nullable w) (nullable v) (nullable w) formed.1.kind c;
+        sound = λ i l valid. subst (IsSoundView bs (is_texts j)) (sym (each i l)) (empty_sound bs (is_texts j));
         zeroes = λ i l none. each i l;
       },
     )
 
-none_buffered : (u m : Bool) → view_extent 0 ≡ rows_extent (value_kind u m) []
-none_buffered true m = refl
-none_buffered false m = refl
-
-pub views_blank : (t : Tree) (ws : List (List ℕ)) (k : Kind) (v : Valid) (n : ℕ) → k ≡ value_kind (is_texts k) (nullable v) → IsPlainValid v → t ≡ view_array ws [] k v → ws ≡ replicate n (view_of [] 0 0) → IsBlank k n v t
-views_blank t ws k v n same plain a e =
-    rw a (record {
-      len = ap length e ∙ length-replicate {A = List ℕ} n (view_of [] 0 0);
+pub views_blank : (t r : Tree) (vs bs : List (List ℕ)) (k : Kind) (v w : Valid) (n : ℕ) → t ≡ view_array vs bs k v → r ≡ view_array (replicate n (view_of [] 0 0)) bs (or_nullable (nullable w) k) w → IsPlainValid w
+    → IsBlank (or_nullable (nullable w) (kind_of t)) (extent_of t) n w r
+views_blank t r vs bs k v w n a b plain =
+    rw (a, b) (record {
+      len = length-replicate {A = List ℕ} n (view_of [] 0 0);
       kind = refl;
       plain = plain;
       state = refl;
-      extent = none_buffered (is_texts k) (nullable v) ∙ ap (λ c. rows_extent c []) (sym same);
+      extent = refl;
       flag = refl;
-      nulls = λ i l. null_row (is_valid_at v i) _;
+      nulls = λ i l. null_row (is_valid_at w i) _;
     })
 
-pub ruleset blanks = (bools_blank, numbers_blank, lists_blank, fixed_lists_blank)
+-- ---- of a data type
+
+or_nullable-own : (k : Kind) → or_nullable (is_nullable_kind k) k ≡ k
+or_nullable-own (booleans m) = ap booleans (or_self m)
+or_nullable-own (integers t m) = ap (integers t) (or_self m)
+or_nullable-own (texts m) = ap texts (or_self m)
+or_nullable-own (binaries m) = ap binaries (or_self m)
+or_nullable-own (lists k m) = ap (lists k) (or_self m)
+or_nullable-own (fixed_lists k size m) = ap (fixed_lists k size) (or_self m)
+or_nullable-own (records names ks m) = ap (records names ks) (or_self m)
+
+-- no values have no fault
+mutual
+  pub rows_fault-none : (k : Kind) → rows_fault k [] ≡ None
+  rows_fault-none (booleans m) = refl
+  rows_fault-none (integers t m) = refl
+  rows_fault-none (texts m) = refl
+  rows_fault-none (binaries m) = refl
+  rows_fault-none (lists k m) = rows_fault-none k
+  rows_fault-none (fixed_lists k size m) = let few : nat_lt (0 * size) (2 ^ 64) ≡ true = lt-ltb (0 * size) (2 ^ 64) (omega arith) in rw few (rows_fault-none k)
+  rows_fault-none (records names ks m) = fields_fault-none ks 0
+
+  fields_fault-none : (ks : Kinds) (c : ℕ) → fields_fault ks c [] ≡ None
+  fields_fault-none no_kinds c = refl
+  fields_fault-none (kind k ks) c = rw (rows_fault-none k) (fields_fault-none ks (suc c))
+
+-- rows like no values
+pub blank_of_none : (k : Kind) (t r : Tree) (v : Valid) (n : ℕ) → nullable v ≡ is_nullable_kind k → ArePlainValues k [] t → IsBlank (or_nullable (nullable v) (kind_of t)) (extent_of t) n v r → IsBlank k (rows_extent k []) n v r
+blank_of_none k t r v n may x h =
+    record {
+      len = h.len;
+      kind = h.kind ∙ ap (or_nullable (nullable v)) x.kind ∙ ap (λ b. or_nullable b k) may ∙ or_nullable-own k;
+      plain = h.plain;
+      state = h.state;
+      extent = h.extent ∙ x.extent;
+      flag = h.flag;
+      nulls = h.nulls;
+    }
 
 -- ---- rows of null
+
+or_twice : (b m : Bool) → ((b || m) || m) ≡ (b || m)
+or_twice true m = refl
+or_twice false m = or_self m
+
+or_nullable-either : (b : Bool) (k : Kind) → or_nullable (b || is_nullable_kind k) k ≡ or_nullable b k
+or_nullable-either b (booleans m) = ap booleans (or_twice b m)
+or_nullable-either b (integers t m) = ap (integers t) (or_twice b m)
+or_nullable-either b (texts m) = ap texts (or_twice b m)
+or_nullable-either b (binaries m) = ap binaries (or_twice b m)
+or_nullable-either b (lists k m) = ap (lists k) (or_twice b m)
+or_nullable-either b (fixed_lists k size m) = ap (fixed_lists k size) (or_twice b m)
+or_nullable-either b (records names ks m) = ap (records names ks) (or_twice b m)
+
+-- null may stand where it may among the indices or in the array
+nulls_nullable : (t : Tree) (x u w y : Valid) (n : ℕ) → IsValidityOf t x → IsValidNulls x u n w → IsCanonicalValid w n y → nullable y ≡ (nullable u || is_nullable_kind (kind_of t))
+nulls_nullable t x u w y n valid nulls plain = same_nullable w y plain.state ∙ nullable_nulled x u w nulls.state ∙ ap (λ b. nullable u || b) valid.kind
+
+pub nulls_may : (t : Tree) (x u w y : Valid) (n : ℕ) → IsValidityOf t x → IsValidNulls x u n w → IsCanonicalValid w n y → MayHaveNulls t y
+nulls_may t x u w y n valid nulls plain may = nulls_nullable t x u w y n valid nulls plain ∙ ap (λ b. nullable u || b) may ∙ either_true (nullable u)
+  where
+    either_true : (b : Bool) → (b || true) ≡ true
+    either_true true = refl
+    either_true false = refl
+
+pub nulls_made : (t r : Tree) (x u w y : Valid) (n : ℕ) → IsValidityOf t x → IsValidNulls x u n w → IsCanonicalValid w n y → IsBlank (or_nullable (nullable y) (kind_of t)) (extent_of t) n y r
+    → IsPlainNulls (or_nullable (nullable u) (kind_of t)) (extent_of t) n (taken_state (tree_state t) (state_of u)) r
+nulls_made t r x u w y n valid nulls plain h =
+    record {
+      len = h.len;
+      kind = h.kind ∙ ap (λ b. or_nullable b (kind_of t)) (nulls_nullable t x u w y n valid nulls plain) ∙ or_nullable-either (nullable u) (kind_of t);
+      plain = h.plain;
+      state = h.state ∙ plain.state ∙ nulls.state ∙ ap (λ s. taken_state s (state_of u)) valid.state;
+      extent = h.extent;
+      flag = h.flag;
+      rows = λ i l. h.nulls i l (plain.bits i l ∙ nulls.bits i l);
+    }
 
 -- where null fits a kind, it may stand
 pub null_fits : (k : Kind) (r : Row) → Fits k r → r ≡ null → is_nullable_kind k ≡ true
 null_fits k r fits e = subst (Fits k) e fits
 
 -- rows of null made of zeroes are a constant of null in plain layout
-pub null_canonical : (k : Kind) (n : ℕ) (r : Tree) → is_nullable_kind k ≡ true → IsBlank k n all_invalid r → IsCanonical (constant k null n) r
+pub null_canonical : (k : Kind) (n : ℕ) (r : Tree) → is_nullable_kind k ≡ true → IsBlank k (rows_extent k []) n all_invalid r → IsCanonical (constant k null n) r
 null_canonical k n r may h =
     record {
       same = record { len = h.len; kind = h.kind; rows = λ i l. h.nulls i l refl };

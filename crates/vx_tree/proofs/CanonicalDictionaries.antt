@@ -1,7 +1,6 @@
 -- Values in plain layout, taken by codes.
-use Rattle.std.proofs.Common.{ℕ, ◌<◌, ◌≡◌, Bool, false, List, [], length, Option, Some, None, refl, sym, ◌∙◌, ap}
-use Rattle.std.proofs.lemmas.Bool.{lt-ltb}
-use Rattle.std.specs.Prelude.{pos, negsuc, nat_lt, is_some, slice_index, if◌then◌else◌}
+use Rattle.std.proofs.Common.{ℕ, ◌<◌, ◌≡◌, Bool, false, List, length, Option, Some, None, refl, sym, ◌∙◌, ap}
+use Rattle.std.specs.Prelude.{pos, negsuc, is_some, IfSome, slice_index, if◌then◌else◌}
 use Rattle.vx_base.specs.Rows.{Row, null, boolean, whole, bytes, text, items, record_of, position_in}
 use Rattle.vx_base.specs.Kinds.{is_nullable_kind, or_nullable}
 use Rattle.vx_tree.specs.Tree.{Tree, dictionary, Valid}
@@ -9,20 +8,20 @@ use Rattle.vx_tree.specs.Meaning.{tree_len, kind_of, row_at, is_valid_at, picked
 use Rattle.vx_tree.specs.Shapes.{tree_state, taken_state}
 use Rattle.vx_tree.specs.Formed.{IsCode, IsDictionary}
 use Rattle.vx_tree.specs.Plain.{IsPlain}
-use Rattle.vx_tree.specs.Operations.{IsSelected, IsNulled, IsValidityOf, ArePositions, or_zero}
-use Rattle.vx_tree.specs.Extents.{extent_of, rows_extent}
+use Rattle.vx_tree.specs.Named.{AreIndices}
+use Rattle.vx_tree.specs.Operations.{IsSelected, IsNulled, IsValidityOf}
 use Rattle.vx_tree.specs.Canonical.{IsCanonical, IsCanonicalValid}
 use Rattle.vx_tree.proofs.Canonical.{same_nullable}
 use Rattle.vx_tree.proofs.Dictionaries.{state_of_nulled, state_of_selected}
 use Rattle.vx_tree.proofs.Flags.{flag_of_nulled, flag_of_selected}
 
-picked_row : (f : ℕ → Row) (k : ℕ) (b : Bool) (p : Option ℕ) → b ≡ is_some p → k ≡ or_zero p → (if b then f k else null) ≡ picked f p
+picked_row : (f : ℕ → Row) (k : ℕ) (b : Bool) (p : Option ℕ) → b ≡ is_some p → IfSome p (λ n. k ≡ n) → (if b then f k else null) ≡ picked f p
 picked_row f k b None e same = rw e refl
 picked_row f k b (Some n) e same = rw (e, same) refl
 
 -- the values at the positions that codes name, null where a code is null
-pub named_values : (c v s r : Tree) (ps : List ℕ) (x w : Valid) → IsPlain v → 0 < tree_len v → IsValidityOf c x → IsCanonicalValid x (tree_len c) w → ArePositions c (tree_len v) ps → IsSelected v ps s → IsNulled s w r → IsCanonical (dictionary c v false) r
-named_values c v s r ps x w plain some codes h are selected nulled =
+pub named_values : (c v s r : Tree) (ps : List ℕ) (x w : Valid) → IsPlain v → IsValidityOf c x → IsCanonicalValid x (tree_len c) w → AreIndices c (tree_len v) ps → IsSelected v ps s → IsNulled s w r → IsCanonical (dictionary c v false) r
+named_values c v s r ps x w plain codes h are selected nulled =
     record {
       same = record {
         len = nulled.len ∙ selected.len ∙ are.len;
@@ -35,7 +34,7 @@ named_values c v s r ps x w plain some codes h are selected nulled =
       };
       plain = nulled.plain (selected.plain plain) h.plain;
       state = state_of_nulled s r w nulled ∙ (λ i. taken_state (state_of_selected v s ps selected i) ((h.state ∙ codes.state) i));
-      extent = nulled.extent (selected.plain plain) ∙ selected.extent plain ∙ ap (λ b. if b then extent_of v else rows_extent (kind_of v) []) (sym (lt-ltb 0 (tree_len v) some));
+      extent = nulled.extent (selected.plain plain) ∙ selected.extent plain;
       flag = flag_of_nulled s r w nulled (flag_of_selected v s ps selected);
       kept = tt;
     }
@@ -61,7 +60,7 @@ dictionary_canonical t r c v w f a d x h =
       };
       plain = h.plain;
       state = h.state ∙ ap (λ s. taken_state s (tree_state c)) x.state;
-      extent = h.extent ∙ (λ i. if nat_lt 0 (x.same.len i) then x.extent i else rows_extent (x.same.kind i) []);
+      extent = h.extent ∙ x.extent;
       flag = h.flag;
       kept = tt;
     })

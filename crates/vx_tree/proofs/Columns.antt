@@ -13,9 +13,8 @@ use Rattle.vx_base.specs.declared.scalar_value.ScalarValue.TheVariants as value
 use Rattle.vx_base.specs.ValueRows.{row_under, fields_named, unnamed, option_row}
 use Rattle.vx_base.specs.declared.dtypes.DType.{DType}
 use Rattle.vx_base.specs.DTypes.{dtype_meaning}
-use Rattle.vx_base.specs.Defaults.{default_row}
 use Rattle.vx_tree.specs.declared.array.ArrayRef.TheDeep.{size-ArrayRef}
-use Rattle.vx_tree.specs.Tree.{Tree, Trees, no_trees, tree, constant, structure, Valid, depth, trees_depth}
+use Rattle.vx_tree.specs.Tree.{Tree, Trees, no_trees, tree, structure, Valid, depth, trees_depth}
 use Rattle.vx_tree.specs.Meaning.{tree_len, kind_of, kinds_of, row_at, fields_at, is_valid_at, nullable, trees_from}
 use Rattle.vx_tree.specs.Shapes.{struct_shape}
 use Rattle.vx_tree.specs.Formed.{AllLen, column_count}
@@ -24,6 +23,7 @@ use Rattle.vx_tree.specs.Faults.{take_overflow, columns_overflow}
 use Rattle.vx_tree.specs.Operations.{IsSlice, IsSelected, IsValidSelected, AreBelow, IsValidSlice}
 use Rattle.vx_tree.specs.Plain.{ArePlain}
 use Rattle.vx_tree.specs.Extents.{struct_extent, extent, extents_of}
+use Rattle.vx_tree.specs.DefaultRows.{AreDefaults}
 use Rattle.vx_tree.specs.Columns.{AllReach, AllHave, AreAlike, AreRowsAt, AreSelected, AreSlices, AreFields}
 
 -- ---- one of the columns
@@ -103,8 +103,8 @@ pub record IsRowsAt (t : Tree) (f : ℕ → ℕ) (n : ℕ) (u : Tree) : Type 0 w
   pub kind : kind_of u ≡ kind_of t
   pub rows : (i : ℕ) → i < n → row_at u i ≡ row_at t (f i)
 
-pub IsAlike-constant : (t u : Tree) (n : ℕ) → u ≡ constant (kind_of t) (default_row (kind_of t)) n → IsAlike t n u
-IsAlike-constant t u n e = rw e (record { len = refl; kind = refl })
+pub IsAlike-defaults : (t u : Tree) (n : ℕ) → AreDefaults (kind_of t) n u → IsAlike t n u
+IsAlike-defaults t u n h = record { len = h.len; kind = h.kind }
 
 -- one more column, made of the next one
 pub AllZip-next : (R : Tree → Tree → Type 0) (ts us vs : List Tree) (i : ℕ) (t u : Tree) → AllZip R (take i ts) us → i < length ts → t ≡ get_or ts i t → R t u → vs ≡ us ++ u ∷ []

@@ -1,11 +1,11 @@
 -- Dictionaries: what becomes of them by what becomes of their codes.
 use Rattle.std.proofs.Common.{ℕ, zero, suc, ◌+◌, ◌<◌, ◌≤◌, ◌≡◌, Bool, true, false, List, length, Option, Some, None, Result, Ok, Err, refl, sym, ◌∙◌, ap, subst, inl, inr, arith}
-use Rattle.std.specs.Prelude.{pos, negsuc, ◌||◌, ◌&&◌, ◌==◌, IfOk, IsSome, slice_index, if◌then◌else◌}
+use Rattle.std.specs.Prelude.{pos, negsuc, ◌||◌, ◌&&◌, ◌==◌, IfOk, IsSome, IfSome, slice_index, if◌then◌else◌}
 use Rattle.std.proofs.lemmas.Int.{ints}
 use Rattle.std.proofs.lemmas.Bool.{lt-ltb}
 use Rattle.vx_base.specs.Rows.{Row, null, boolean, whole, bytes, text, items, record_of, is_present, position_in, truth_of}
 use Rattle.vx_base.specs.Kinds.{Kind, booleans, integers, texts, binaries, lists, fixed_lists, records, is_nullable_kind, or_nullable, is_integers, is_integers-or_nullable}
-use Rattle.vx_base.specs.Refusals.{Refusal, refusal_of, IsMemoryOr, Gives, Tests}
+use Rattle.vx_base.specs.Refusals.{Refusal, refusal_of, IsMemoryOr, Gives, Refuses, Tests}
 use Rattle.vx_base.specs.declared.errors.VortexError.{VortexError}
 use Rattle.vx_base.specs.declared.errors.VortexError.TheVariants.{Memory}
 use Rattle.vx_base.proofs.FirstFaults.{first_fault-of_none}
@@ -13,9 +13,9 @@ use Rattle.vx_tree.specs.Tree.{Tree, bools, primitive, constant, dictionary, fix
 use Rattle.vx_tree.specs.Meaning.{row_at, tree_len, kind_of, is_valid_at, nullable, picked}
 use Rattle.vx_tree.specs.Shapes.{State, never_null, none_null, every_null, told, Shape, bool_shape, primitive_shape, constant_shape, dictionary_shape, fixed_list_shape, list_view_shape, struct_shape, view_shape, state_of, taken_state, row_state, tree_state, shape_of, sliced_shape, selected_shape, nulled_constant, nulled_shape}
 use Rattle.vx_tree.specs.Formed.{IsCode, IsDictionary, ValidFits}
-use Rattle.vx_tree.specs.Named.{IsRepeated, IsValidNamed}
+use Rattle.vx_tree.specs.Named.{IsRepeated, IsValidNamed, AreIndices}
 use Rattle.vx_tree.specs.Faults.{index_fault, indices_fault, take_overflow}
-use Rattle.vx_tree.specs.Operations.{IsSlice, IsSelected, IsNulled, IsNulls, IsZeroCodes, IsValidityOf, IsValidSelected, IsValidNulled, ArePositions, AreBelow, or_zero}
+use Rattle.vx_tree.specs.Operations.{IsSlice, IsSelected, IsNulled, IsNulls, IsZeroCodes, IsValidityOf, IsValidSelected, IsValidNulled, AreBelow}
 use Rattle.vx_tree.proofs.Nulled.{nullable_nulled}
 
 -- ---- kinds
@@ -42,7 +42,7 @@ nullable_either c (lists k n) = refl
 nullable_either c (fixed_lists k size n) = refl
 nullable_either c (records names ks n) = refl
 
-same_kind : (k : Kind) → or_nullable false k ≡ k
+pub same_kind : (k : Kind) → or_nullable false k ≡ k
 same_kind (booleans n) = refl
 same_kind (integers t n) = refl
 same_kind (texts n) = refl
@@ -76,8 +76,8 @@ taken_never told = refl
 shape_state : Shape → State
 shape_state (bool_shape s) = s
 shape_state (primitive_shape s) = s
-shape_state (constant_shape s) = s
-shape_state (dictionary_shape s f) = s
+shape_state (constant_shape k r) = row_state k r
+shape_state (dictionary_shape v s f) = s
 shape_state (fixed_list_shape s) = s
 shape_state (list_view_shape e s f) = s
 shape_state (struct_shape s) = s
@@ -98,8 +98,8 @@ sliced_state : (x : Shape) → shape_state (sliced_shape x) ≡ shape_state x
 unfolding shape_state
 sliced_state (bool_shape s) = refl
 sliced_state (primitive_shape s) = refl
-sliced_state (constant_shape s) = refl
-sliced_state (dictionary_shape s f) = refl
+sliced_state (constant_shape k r) = refl
+sliced_state (dictionary_shape v s f) = refl
 sliced_state (fixed_list_shape s) = refl
 sliced_state (list_view_shape e s f) = refl
 sliced_state (struct_shape s) = refl
@@ -109,26 +109,26 @@ selected_state : (x : Shape) → shape_state (selected_shape x) ≡ shape_state 
 unfolding shape_state
 selected_state (bool_shape s) = refl
 selected_state (primitive_shape s) = refl
-selected_state (constant_shape s) = refl
-selected_state (dictionary_shape s f) = refl
+selected_state (constant_shape k r) = refl
+selected_state (dictionary_shape v s f) = refl
 selected_state (fixed_list_shape s) = refl
 selected_state (list_view_shape e s f) = refl
 selected_state (struct_shape s) = refl
 selected_state (view_shape bs s) = refl
 
-nulled_constant_state : (s index : State) → shape_state (nulled_constant s index) ≡ taken_state s index
+nulled_constant_state : (k : Kind) (r : Row) (index : State) → shape_state (nulled_constant k r index) ≡ taken_state (row_state k r) index
 unfolding shape_state
-nulled_constant_state s never_null = taken_never s
-nulled_constant_state s none_null = refl
-nulled_constant_state s every_null = refl
-nulled_constant_state s told = refl
+nulled_constant_state k r never_null = taken_never (row_state k r)
+nulled_constant_state k r none_null = refl
+nulled_constant_state k r every_null = refl
+nulled_constant_state k r told = refl
 
 nulled_state : (x : Shape) (index : State) → shape_state (nulled_shape x index) ≡ taken_state (shape_state x) index
 unfolding shape_state
 nulled_state (bool_shape s) index = refl
 nulled_state (primitive_shape s) index = refl
-nulled_state (constant_shape s) index = nulled_constant_state s index
-nulled_state (dictionary_shape s f) index = refl
+nulled_state (constant_shape k r) index = nulled_constant_state k r index
+nulled_state (dictionary_shape v s f) index = refl
 nulled_state (fixed_list_shape s) index = refl
 nulled_state (list_view_shape e s f) index = refl
 nulled_state (struct_shape s) index = refl
@@ -177,7 +177,7 @@ dictionary_sliced t r c v d f start n a b h =
     rw (a, b) (record {
       len = h.len;
       kind = ap (λ k. or_nullable (is_nullable_kind k) (kind_of v)) h.kind;
-      shape = ap (λ s. dictionary_shape (taken_state (tree_state v) s) false) (state_by_shape c d (sliced_shape (shape_of c)) (tree_state c) h.shape (sliced_state (shape_of c) ∙ sym (state_told c)));
+      shape = ap (λ s. dictionary_shape v (taken_state (tree_state v) s) false) (state_by_shape c d (sliced_shape (shape_of c)) (tree_state c) h.shape (sliced_state (shape_of c) ∙ sym (state_told c)));
       plain = λ p. absurd p;
       extent = λ p. absurd p;
       rows = λ i l. ap (λ x. picked (row_at v) (position_in x)) (h.rows i l);
@@ -206,7 +206,7 @@ dictionary_selected t r c v d f ps a b h =
     rw (a, b) (record {
       len = h.len;
       kind = ap (λ k. or_nullable (is_nullable_kind k) (kind_of v)) h.kind;
-      shape = ap (λ s. dictionary_shape (taken_state (tree_state v) s) false) (state_by_shape c d (selected_shape (shape_of c)) (tree_state c) h.shape (selected_state (shape_of c) ∙ sym (state_told c)));
+      shape = ap (λ s. dictionary_shape v (taken_state (tree_state v) s) false) (state_by_shape c d (selected_shape (shape_of c)) (tree_state c) h.shape (selected_state (shape_of c) ∙ sym (state_told c)));
       plain = λ p. absurd p;
       extent = λ p. absurd p;
       rows = λ i l. ap (λ x. picked (row_at v) (position_in x)) (h.rows i l);
@@ -228,7 +228,7 @@ dictionary_nulled t r c v d f u a b h =
     rw (a, b) (record {
       len = h.len;
       kind = nulled_kind (kind_of c) (kind_of d) (kind_of v) (nullable u) h.kind;
-      shape = ap (λ s. dictionary_shape s false) (ap (taken_state (tree_state v)) (state_nulled c d (shape_of c) (state_of u) h.shape (sym (state_told c))) ∙ taken_twice (tree_state v) (tree_state c) (state_of u));
+      shape = ap (λ s. dictionary_shape v s false) (ap (taken_state (tree_state v)) (state_nulled c d (shape_of c) (state_of u) h.shape (sym (state_told c))) ∙ taken_twice (tree_state v) (tree_state c) (state_of u));
       plain = λ p q. absurd p;
       extent = λ p. absurd p;
       rows = λ i l. ap (λ x. picked (row_at v) (position_in x)) (h.rows i l) ∙ picked_or_null (row_at v) (is_valid_at u i) (row_at c i);
@@ -245,17 +245,17 @@ dictionary_nulls t r c v d f n u a b h =
     rw (a, b) (record {
       len = h.len;
       kind = nulled_kind (kind_of c) (kind_of d) (kind_of v) (nullable u) h.kind;
-      shape = ap (λ s. dictionary_shape s false) (ap (taken_state (tree_state v)) (state_nulled c d (selected_shape (shape_of c)) (state_of u) h.shape (selected_state (shape_of c) ∙ sym (state_told c))) ∙ taken_twice (tree_state v) (tree_state c) (state_of u));
+      shape = ap (λ s. dictionary_shape v s false) (ap (taken_state (tree_state v)) (state_nulled c d (selected_shape (shape_of c)) (state_of u) h.shape (selected_state (shape_of c) ∙ sym (state_told c))) ∙ taken_twice (tree_state v) (tree_state c) (state_of u));
       rows = λ i l. ap (λ x. picked (row_at v) (position_in x)) (h.rows i l);
     })
 
 -- ---- constants
 
-nulled_constant-dictionary : (s : State) (u : Valid) → nullable u ≡ true → dictionary_shape (taken_state s (state_of u)) false ≡ nulled_constant s (state_of u)
-nulled_constant-dictionary s non_nullable e = absurd (cc)
-nulled_constant-dictionary s all_valid e = refl
-nulled_constant-dictionary s all_invalid e = refl
-nulled_constant-dictionary s (by_array m) e = refl
+nulled_constant-dictionary : (k : Kind) (r : Row) (u : Valid) → nullable u ≡ true → dictionary_shape (constant k r 1) (taken_state (row_state k r) (state_of u)) false ≡ nulled_constant k r (state_of u)
+nulled_constant-dictionary k r non_nullable e = absurd (cc)
+nulled_constant-dictionary k r all_valid e = refl
+nulled_constant-dictionary k r all_invalid e = refl
+nulled_constant-dictionary k r (by_array m) e = refl
 
 -- codes of one value
 pub zero_codes : (c v : Tree) (n : ℕ) (u : Valid) → IsZeroCodes n u c → tree_len v ≡ 1 → IsDictionary c v false
@@ -269,7 +269,7 @@ constant_with_nulls t c v k r n u e a b h =
     rw (b, a) (record {
       len = h.len;
       kind = ap (λ x. or_nullable (is_nullable_kind x) k) h.kind;
-      shape = ap (λ s. dictionary_shape (taken_state (row_state k r) s) false) h.state ∙ nulled_constant-dictionary (row_state k r) u e;
+      shape = ap (λ s. dictionary_shape (constant k r 1) (taken_state (row_state k r) s) false) h.state ∙ nulled_constant-dictionary k r u e;
       plain = λ p q. absurd p;
       extent = λ p. absurd p;
       rows = λ i l. ap (λ x. picked (λ j. r) (position_in x)) (h.rows i l) ∙ picked_or_null (λ j. r) (is_valid_at u i) (whole (pos 0));
@@ -314,6 +314,10 @@ pub test_passed : {A : Type 0} (r : Result A VortexError) (P : A → Type 0) (fa
 test_passed (Ok x) P fault none ok tests = ok
 test_passed (Err e) P fault none ok tests = let some = subst IsSome (sym tests.1 ∙ none) tests.0 in cc
 
+pub call_passed : {A : Type 0} (r : Result A VortexError) (P : A → Type 0) (fault : Option Refusal) → fault ≡ None → IfOk r P → Refuses r fault → Gives r P
+call_passed (Ok x) P fault none ok refuses = ok
+call_passed (Err e) P fault none ok refuses = memory_only fault e none refuses
+
 pub not_empty : (b : Bool) (n : ℕ) → b ≡ (n == 0) → b ≡ false → 0 < n
 not_empty b zero e f = absurd (cc)
 not_empty b (suc n) e f = omega arith
@@ -344,13 +348,13 @@ pub state_named : (v : Valid) (c : Tree) (w : Valid) → w ≡ v → ((n : ℕ) 
 state_named v c w e fits alike = rw e (record { fits = fits (tree_len c); kind = refl; state = refl; bits = λ i k l named. alike i k })
 
 -- and so is an array that is taken at their positions
-pub taken_named : (v : Valid) (c : Tree) (len : ℕ) (ps : List ℕ) (w : Valid) → ArePositions c len ps → IsValidSelected v ps w → IsValidNamed v c w
+pub taken_named : (v : Valid) (c : Tree) (len : ℕ) (ps : List ℕ) (w : Valid) → AreIndices c len ps → IsValidSelected v ps w → IsValidNamed v c w
 taken_named v c len ps w h s =
     record {
       fits = rw (sym h.len) s.fits;
       kind = s.kind;
       state = s.state;
-      bits = λ i k l named. s.bits i (rw h.len l) ∙ ap (is_valid_at v) ((h.each i l).told ∙ ap or_zero named);
+      bits = λ i k l named. s.bits i (rw h.len l) ∙ ap (is_valid_at v) (subst (λ o. IfSome o (λ p. slice_index ps i ≡ p)) named (h.each i l).told);
     }
 
 -- and one truth value of rows that are all one

@@ -18,7 +18,7 @@ use Rattle.vx_base.proofs.Repeated.{map_repeated}
 use Rattle.vx_tree.specs.Tree.{Tree, bools, primitive, constant, dictionary, fixed_list, list_view, structure, view_array, Valid}
 use Rattle.vx_tree.specs.Meaning.{tree_len, kind_of, row_at, is_valid_at, picked, trees_from}
 use Rattle.vx_tree.specs.Formed.{IsCode, IsDictionary, WellFormed}
-use Rattle.vx_tree.specs.Operations.{ArePositions, or_zero}
+use Rattle.vx_tree.specs.Named.{AreIndices}
 use Rattle.vx_tree.specs.Canonical.{HasRowsOf, plain_overflow, constant_fault, canonical_fault, columns_fault}
 use Rattle.vx_tree.specs.Joined.{joined_len, joined_row, bytes_in, AreNumbers, IsJoined, IsValidJoined}
 use Rattle.vx_tree.specs.JoinedNumbers.{AreOfType, HoldNumbers, ArePicked, AreRepeated, AreAppended}
@@ -190,12 +190,12 @@ repeated_picked p z n bs ps cs holds e same h =
     }
 
 -- values that codes name
-named_row : (f g : ℕ → Row) (len : ℕ) (o : Option ℕ) (k : ℕ) (x : Row) → k ≡ or_zero o → IfSome o (λ j. j < len) → ((j : ℕ) → j < len → f j ≡ (if is_present (f j) then g j else null)) → x ≡ g k
+named_row : (f g : ℕ → Row) (len : ℕ) (o : Option ℕ) (k : ℕ) (x : Row) → IfSome o (λ j. k ≡ j) → IfSome o (λ j. j < len) → ((j : ℕ) → j < len → f j ≡ (if is_present (f j) then g j else null)) → x ≡ g k
     → picked f o ≡ (if is_present (picked f o) then x else null)
 named_row f g len None k x told within content e = refl
 named_row f g len (Some j) k x told within content e = shown_same (f j) (f j) x (g j) refl (e ∙ ap g told) (content j within)
 
-pub named_held : (p : PType) (c v w : Tree) (bs ps cs : List ℕ) → HasRowsOf v w → AreNumbers p w → bs ≡ bytes_in w → ArePositions c (tree_len v) ps → ArePicked p bs ps cs
+pub named_held : (p : PType) (c v w : Tree) (bs ps cs : List ℕ) → HasRowsOf v w → AreNumbers p w → bs ≡ bytes_in w → AreIndices c (tree_len v) ps → ArePicked p bs ps cs
     → HoldNumbers p (tree_len c) (row_at (dictionary c v false)) cs
 named_held p c v w bs ps cs h are e at_codes here =
     record {

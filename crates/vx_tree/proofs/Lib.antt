@@ -6,6 +6,7 @@ pub mod Sliced
 pub mod Selected
 pub mod Nulled
 pub mod Columns
+pub mod DefaultRows
 pub mod Taken
 pub mod Dictionaries
 pub mod FixedLists
@@ -30,6 +31,7 @@ pub mod CanonicalDictionaries
 pub mod Filtered
 pub mod Runs
 pub mod Validities
+pub mod Turned
 pub mod Patched
 pub mod Joins
 pub mod JoinedRows

@@ -192,3 +192,25 @@ repeated_second m o b w h e a =
     }
 
 pub ruleset repeated_and = (and_of_true, and_of_false)
+
+-- ---- where all are null
+
+pub never_true : (m : Tree) (w : Valid) (n : ℕ) → IsRepeated m → w ≡ by_array (constant (booleans false) (boolean false) n) → IsValidNulled (by_array m) all_invalid n w
+never_true m w n h a =
+    rw a (record {
+      fits = record { len = refl; kind = refl };
+      state = refl;
+      plain = λ p q. absurd (h.worked p);
+      bits = λ i l. sym (swapped (truth_of (row_at m i)) false);
+    })
+
+pub unset_bits : (m : Tree) (w : Valid) (n : ℕ) → w ≡ by_array (bools (replicate n false) non_nullable) → IsValidNulled (by_array m) all_invalid n w
+unset_bits m w n a =
+    rw a (record {
+      fits = record { len = length-replicate {A = Bool} n false; kind = refl };
+      state = refl;
+      plain = λ p q. tt;
+      bits = λ i l. get_or-replicate n i false false l ∙ sym (swapped (truth_of (row_at m i)) false);
+    })
+
+pub ruleset no_truths = (never_true, unset_bits)

@@ -1,19 +1,23 @@
 -- Booleans that are overwritten at positions.
-use Rattle.std.proofs.Common.{ℕ, ◌+◌, ◌-◌, ◌<◌, ◌≡◌, Bool, false, List, [], ◌∷◌, ◌++◌, length, map, take, get_or, set, Option, None, refl, sym, ◌∙◌, ap, subst, arith, length-set}
+use Rattle.std.proofs.Common.{ℕ, zero, suc, ◌+◌, ◌-◌, ◌<◌, ◌≡◌, Bool, false, List, [], ◌∷◌, ◌++◌, length, map, take, drop, replicate, get_or, set, Option, None, refl, sym, ◌∙◌, ap, subst, arith, length-set}
 use Rattle.std.specs.Prelude.{IsSome, slice_index}
 use Rattle.std.specs.List.{All, range_with_len}
 use borrow.Author.Count.{below_more}
-use Rattle.std.proofs.lemmas.List.{get_or-set_same, get_or-set_other, get_or_default, take_more, take_all, length-take-le, same_lists}
+use Rattle.std.proofs.lemmas.List.{append_assoc, get_or-set_same, get_or-set_other, get_or_default, take_more, take_all, length-take-le, take-set, drop-set, take-append-drop}
 use Rattle.std.proofs.lemmas.List.FromFn.{fill_by_all, length-map-range_with_len}
 use Rattle.vx_base.specs.Bits.{bool_at}
 use Rattle.vx_base.specs.Refusals.{Refusal, first_fault}
-use Rattle.vx_base.specs.Rows.{count_in}
+use Rattle.vx_base.specs.Rows.{boolean, count_in}
+use Rattle.vx_base.specs.Kinds.{booleans}
+use Rattle.vx_base.proofs.ListParts.{map_range_same}
 use Rattle.vx_base.proofs.FirstFaults.{first_fault-next, first_fault-found, Names-or_else_first, Names-or_else_second, or_else-none}
-use Rattle.vx_tree.specs.Tree.{Tree, bools, Valid, non_nullable, all_valid, all_invalid, by_array}
-use Rattle.vx_tree.specs.Meaning.{tree_len, row_at, valid_mask}
+use Rattle.vx_tree.specs.Tree.{Tree, bools, constant, Valid, non_nullable, all_valid, all_invalid, by_array}
+use Rattle.vx_tree.specs.Meaning.{tree_len, row_at, is_valid_at, valid_mask}
 use Rattle.vx_tree.specs.Formed.{ValidFits, IsLenOf}
+use Rattle.vx_tree.specs.Validities.{array_of}
+use Rattle.vx_tree.proofs.Masks.{mask_of_constant}
 use Rattle.vx_tree.proofs.Positions.{mask_long}
-use Rattle.vx_tree.specs.Patches.{overwritten, patch_positions, patch_row_fault, patch_positions_fault, IsPatched}
+use Rattle.vx_tree.specs.Patches.{overwritten, patch_positions, patch_row_fault, patch_positions_fault, IsPatched, IsWrittenOver}
 
 -- ---- positions that are read one after another
 
@@ -68,35 +72,98 @@ overwritten_more bits ps values i d e l =
 pub overwritten_all : (bits : List Bool) (ps : List ℕ) (values : List Bool) (i : ℕ) → length values ≡ length ps → i ≡ length ps → overwritten bits (take i ps) (take i values) ≡ overwritten bits ps values
 overwritten_all bits ps values i e n = rw (take_all i ps (omega arith), take_all i values (omega arith)) refl
 
--- a mask that is copied
-pub copied : (mask out : List Bool) → length out ≡ length mask → ((i : ℕ) → i < length mask → get_or out i false ≡ bool_at mask i) → out ≡ mask
-copied mask out long each =
-    same_lists out mask long (λ k d l. get_or_default out k d false l ∙ each k (rw long at l) ∙ sym (get_or_default mask k d false (rw long at l)))
+-- a range of one
+only_one : (n : ℕ) (b : Bool) → n ≡ 1 → replicate n b ≡ b ∷ []
+only_one zero b e = absurd (omega (arith, e))
+only_one (suc zero) b e = refl
+only_one (suc (suc n)) b e = absurd (omega (arith, e))
 
--- ---- the validity that is patched
+-- one boolean is written as a range of one
+set_by_parts : (bits : List Bool) (p : ℕ) (b : Bool) → p < length bits → take p bits ++ replicate (p + 1 - p) b ++ drop (p + 1) bits ≡ set bits p b
+set_by_parts bits p b l =
+    let one : p + 1 - p ≡ 1 = omega arith in
+    ap (λ xs. take p bits ++ xs ++ drop (p + 1) bits) (only_one (p + 1 - p) b one) ∙ append_assoc (take p bits) (b ∷ []) (drop (p + 1) bits)
+    ∙ sym (ap (λ ys. ys ++ b ∷ drop (p + 1) bits) (take-set bits p b)) ∙ sym (ap (λ zs. take p (set bits p b) ++ zs) (drop-set bits p b l)) ∙ take-append-drop p (set bits p b)
 
-length-overwritten : (bits : List Bool) (ps : List ℕ) (values : List Bool) → length (overwritten bits ps values) ≡ length bits
+pub length-overwritten : (bits : List Bool) (ps : List ℕ) (values : List Bool) → length (overwritten bits ps values) ≡ length bits
 length-overwritten bits [] values = refl
 length-overwritten bits (p ∷ ps) [] = refl
 length-overwritten bits (p ∷ ps) (b ∷ values) = length-overwritten (set bits p b) ps values ∙ length-set bits p b
 
+-- the next boolean is written
+pub overwritten_next : (bits out now : List Bool) (ps : List ℕ) (values : List Bool) (i p : ℕ) (b : Bool) → length values ≡ length ps → i < length ps → p ≡ slice_index ps i → b ≡ bool_at values i → p < length bits
+    → out ≡ overwritten bits (take i ps) (take i values) → now ≡ take p out ++ replicate (p + 1 - p) b ++ drop (p + 1) out → now ≡ overwritten bits (take (i + 1) ps) (take (i + 1) values)
+overwritten_next bits out now ps values i p b e l place value below before after =
+    let long : length out ≡ length bits = ap length before ∙ length-overwritten bits (take i ps) (take i values) in
+    after ∙ set_by_parts out p b (rw long below) ∙ ap (λ ys. set ys p b) before
+    ∙ (λ j. set (overwritten bits (take i ps) (take i values)) (place j) (value j)) ∙ sym (overwritten_more bits ps values i 0 e l)
+
+-- one value that is written over itself stays
+set_alike : (n p : ℕ) (b : Bool) → set (replicate n b) p b ≡ replicate n b
+set_alike zero p b = refl
+set_alike (suc n) zero b = refl
+set_alike (suc n) (suc p) b = ap (λ bs. b ∷ bs) (set_alike n p b)
+
+overwritten_alike : (n : ℕ) (ps : List ℕ) (b : Bool) → overwritten (replicate n b) ps (replicate (length ps) b) ≡ replicate n b
+overwritten_alike n [] b = refl
+overwritten_alike n (p ∷ ps) b = ap (λ bs. overwritten bs ps (replicate (length ps) b)) (set_alike n p b) ∙ overwritten_alike n ps b
+
+-- ---- the validity that is patched
+
 pub length-patch_positions : (offset : ℕ) (indices : Tree) → length (patch_positions offset indices) ≡ tree_len indices
 length-patch_positions offset indices = length-map-range_with_len (λ i. count_in (row_at indices i) - offset) 0 (tree_len indices)
 
-pub patched_by : (v u w : Valid) (n offset : ℕ) (indices : Tree) (ps : List ℕ) → w ≡ by_array (bools (overwritten (valid_mask v n) ps (valid_mask u (length ps))) non_nullable) → ps ≡ patch_positions offset indices
-    → IsPatched v n offset indices u w
-patched_by v u w n offset indices ps a p =
+-- what is written, as bits
+pub written_bits : (v u w : Valid) (n : ℕ) (ps : List ℕ) → w ≡ by_array (bools (overwritten (valid_mask v n) ps (valid_mask u (length ps))) non_nullable) → IsWrittenOver v n ps u w
+written_bits v u w n ps a =
     let mask = valid_mask v n in
-    let values = valid_mask u (length ps) in
-    let bits = overwritten mask ps values in
-    let long : length bits ≡ n = length-overwritten mask ps values ∙ mask_long v mask n refl in
+    let bits = overwritten mask ps (valid_mask u (length ps)) in
+    let long : length bits ≡ n = length-overwritten mask ps (valid_mask u (length ps)) ∙ mask_long v mask n refl in
     let same : bits ≡ map (bool_at bits) (range_with_len 0 n) = fill_by_all (bool_at bits) bits n false long (λ i l. refl) in
-    let as_many : length ps ≡ tree_len indices = ap length p ∙ length-patch_positions offset indices in
+    rw a (record { fits = record { len = long; kind = refl }; state = refl; mask = sym same })
+
+-- where nothing is written, the array of the validity
+array_fits : (v : Valid) (n : ℕ) → ValidFits v n → ValidFits (by_array (array_of v n)) n
+array_fits non_nullable n h = record { len = refl; kind = refl }
+array_fits all_valid n h = record { len = refl; kind = refl }
+array_fits all_invalid n h = record { len = refl; kind = refl }
+array_fits (by_array t) n h = h
+
+array_tells : (v : Valid) (n i : ℕ) → is_valid_at (by_array (array_of v n)) i ≡ is_valid_at v i
+array_tells non_nullable n i = refl
+array_tells all_valid n i = refl
+array_tells all_invalid n i = refl
+array_tells (by_array t) n i = refl
+
+pub none_written : (v u w : Valid) (n : ℕ) (ps : List ℕ) → ValidFits v n → length ps ≡ 0 → w ≡ by_array (array_of v n) → IsWrittenOver v n ps u w
+none_written v u w n [] h none a =
     rw a (record {
-      fits = record { len = long; kind = refl };
+      fits = array_fits v n h;
       state = refl;
-      mask = sym same ∙ ap (λ qs. overwritten mask qs values) p ∙ ap (λ m. overwritten mask (patch_positions offset indices) (valid_mask u m)) as_many;
+      mask = map_range_same (is_valid_at (by_array (array_of v n))) (is_valid_at v) 0 0 n (λ j l. array_tells v n (0 + j));
     })
+none_written v u w n (p ∷ ps) h none a = absurd (omega (arith, none))
+
+-- where all are one value and stay it, a constant
+pub value_written : (v u w : Valid) (n : ℕ) (ps : List ℕ) (b : Bool) → ((i : ℕ) → is_valid_at v i ≡ b) → ((i : ℕ) → is_valid_at u i ≡ b) → w ≡ by_array (constant (booleans false) (boolean b) n) → IsWrittenOver v n ps u w
+value_written v u w n ps b mine theirs a =
+    let before : valid_mask v n ≡ replicate n b = sym (mask_of_constant v n b mine) in
+    let values : valid_mask u (length ps) ≡ replicate (length ps) b = sym (mask_of_constant u (length ps) b theirs) in
+    rw a (record {
+      fits = record { len = refl; kind = refl };
+      state = refl;
+      mask = sym (mask_of_constant (by_array (constant (booleans false) (boolean b) n)) n b (λ i. refl)) ∙ sym (overwritten_alike n ps b) ∙ sym (λ j. overwritten (before j) ps (values j));
+    })
+
+-- at the positions of indices
+pub patched_by : (v u w : Valid) (n offset : ℕ) (indices : Tree) (ps : List ℕ) → IsWrittenOver v n ps u w → ps ≡ patch_positions offset indices → IsPatched v n offset indices u w
+patched_by v u w n offset indices ps h p =
+    let as_many : length ps ≡ tree_len indices = ap length p ∙ length-patch_positions offset indices in
+    record {
+      fits = h.fits;
+      state = h.state;
+      mask = h.mask ∙ (λ i. overwritten (valid_mask v n) (p i) (valid_mask u (as_many i)));
+    }
 
 pub len_of_fits : (v : Valid) (n : ℕ) → ValidFits v n → IsLenOf v n
 len_of_fits non_nullable n h = tt
@@ -108,4 +175,4 @@ pub ruleset patches = (len_of_fits, Names-or_else_first, Names-or_else_second, o
 
 pub ruleset found = (AreFound-more, AreFound-all, AreFound-below, AreFound-faultless)
 
-pub ruleset written = (overwritten_more, overwritten_all)
+pub ruleset written = (overwritten_next, overwritten_all)

@@ -9,9 +9,9 @@ use Rattle.vx_base.specs.declared.struct_fields.StructFields.{StructFields}
 use Rattle.vx_base.proofs.StructKinds.{from_place, struct_kind}
 use Rattle.vx_base.specs.DTypes.{dtype_meaning, field_kinds, kinds_of as dtype_kinds}
 use Rattle.vx_base.specs.Refusals.{Refusal, overflow, or_else}
-use Rattle.vx_base.specs.Kinds.{Kind, booleans, integers, texts, binaries, lists, fixed_lists, records, Kinds, no_kinds, kind, or_nullable}
+use Rattle.vx_base.specs.Kinds.{Kind, booleans, integers, texts, binaries, lists, fixed_lists, records, or_nullable}
 use Rattle.vx_tree.specs.Tree.{Tree, bools, primitive, constant, dictionary, fixed_list, list_view, structure, view_array, Trees, no_trees, tree}
-use Rattle.vx_tree.specs.Meaning.{kind_of, kinds_of, nullable, is_texts}
+use Rattle.vx_tree.specs.Meaning.{kind_of, kinds_of, trees_from, nullable, is_texts}
 use Rattle.vx_tree.specs.Formed.{value_kind}
 use Rattle.vx_tree.specs.Fitting.{AllFormed, ColumnsFormed}
 use Rattle.vx_tree.specs.Faults.{take_overflow, columns_overflow}
@@ -58,21 +58,6 @@ or_none : (a b : Option Refusal) → or_else a b ≡ None → (a ≡ None) × (b
 or_none None b h = (refl, h)
 or_none (Some r) b h = cc
 
--- no rows need none
-mutual
-  pub plain_overflow-none : (k : Kind) → plain_overflow k 0 ≡ None
-  plain_overflow-none (booleans m) = refl
-  plain_overflow-none (integers t m) = refl
-  plain_overflow-none (texts m) = refl
-  plain_overflow-none (binaries m) = refl
-  plain_overflow-none (lists k m) = refl
-  plain_overflow-none (fixed_lists k size m) = let none : 0 * size ≡ 0 = omega arith in rw none (plain_overflow-none k)
-  plain_overflow-none (records names ks m) = fields_overflow-none ks
-
-  fields_overflow-none : (ks : Kinds) → fields_overflow ks 0 ≡ None
-  fields_overflow-none no_kinds = refl
-  fields_overflow-none (kind k ks) = rw (plain_overflow-none k) (fields_overflow-none ks)
-
 -- where the elements of n lists can be counted, there are fewer than 2^64, and theirs can be counted too
 pub lists_countable : (k : Kind) (size n : ℕ) (m : Bool) → plain_overflow (fixed_lists k size m) n ≡ None → (n * size < 2 ^ 64) × (plain_overflow k (n * size) ≡ None)
 lists_countable k size n m none = few (ltb (n * size) (2 ^ 64)) refl none
@@ -81,12 +66,12 @@ lists_countable k size n m none = few (ltb (n * size) (2 ^ 64)) refl none
     few true p h = (ltb-true (n * size) (2 ^ 64) p, h)
     few false p h = absurd (cc)
 
--- and so can those of each field
-pub fields_countable : (ds : List DType) (n : ℕ) → fields_overflow (dtype_kinds ds) n ≡ None → All (λ d. plain_overflow (dtype_meaning d) n ≡ None) ds
-fields_countable [] n h = λ i d l. absurd (omega arith)
-fields_countable (e ∷ ds) n h =
-    let both = or_none (plain_overflow (dtype_meaning e) n) (fields_overflow (dtype_kinds ds) n) h in
-    All-cons (λ d. plain_overflow (dtype_meaning d) n ≡ None) e ds both.0 (fields_countable ds n both.1)
+-- and so can those of each column
+pub columns_countable : (ts : List Tree) (n : ℕ) → fields_overflow (kinds_of (trees_from ts)) n ≡ None → All (λ t. plain_overflow (kind_of t) n ≡ None) ts
+columns_countable [] n h = λ i d l. absurd (omega arith)
+columns_countable (t ∷ ts) n h =
+    let both = or_none (plain_overflow (kind_of t) n) (fields_overflow (kinds_of (trees_from ts)) n) h in
+    All-cons (λ u. plain_overflow (kind_of u) n ≡ None) t ts both.0 (columns_countable ts n both.1)
 
 -- the kinds from a place on are that of the place, then those from the next on
 pub fields_overflow-from : (ds : List DType) (n i : ℕ) (d : DType) → i < length ds → d ≡ slice_index_or ds i d

@@ -8,31 +8,26 @@ use Rattle.vx_base.specs.Kinds.{is_integers}
 use Rattle.vx_tree.specs.Tree.{Tree, Valid}
 use Rattle.vx_tree.specs.Meaning.{row_at, rows, tree_len, kind_of, is_valid_at, picked}
 use Rattle.vx_tree.specs.Faults.{take_fault, indices_fault, take_overflow}
-use Rattle.vx_tree.specs.Operations.{IsTakenAt, IsValidityOf, ArePositions, AreBelow, or_zero, positions, picks}
+use Rattle.vx_tree.specs.Named.{AreIndices}
+use Rattle.vx_tree.specs.Operations.{IsTakenAt, IsValidityOf, AreBelow, positions, picks}
 
 -- ---- at positions
 
 -- ---- by indices
 
-below_or_zero : (n : ℕ) (p : Option ℕ) → 0 < n → IfSome p (λ k. k < n) → or_zero p < n
-below_or_zero n None some h = some
-below_or_zero n (Some k) some h = h
-
 -- positions within are below, where there are rows
-pub positions_below : (indices : Tree) (n : ℕ) (qs : List ℕ) → ArePositions indices n qs → 0 < n → AreBelow n qs
+pub positions_below : (indices : Tree) (n : ℕ) (qs : List ℕ) → AreIndices indices n qs → 0 < n → AreBelow n qs
 positions_below indices n qs h some = λ i d l.
     let P : ℕ → Type 0 = λ k. k < n in
     let inside : i < tree_len indices = rw h.len at l in
-    let p = h.each i inside in
-    let same : get_or qs i d ≡ or_zero (position_in (row_at indices i)) = get_or_default qs i d 0 l ∙ p.told in
-    subst P (sym same) (below_or_zero n (position_in (row_at indices i)) some p.within)
+    subst P (sym (get_or_default qs i d 0 l)) ((h.each i inside).below some)
 
 not_some : (p : Option ℕ) → IfSome p (λ k. k < 0) → is_some p ≡ false
 not_some None h = refl
 not_some (Some k) h = absurd (omega arith)
 
 -- and there is none, where there are none
-pub positions_none : (indices : Tree) (n : ℕ) (qs : List ℕ) (v : Valid) → n ≡ 0 → ArePositions indices n qs → IsValidityOf indices v → (i : ℕ) → i < length qs → is_valid_at v i ≡ false
+pub positions_none : (indices : Tree) (n : ℕ) (qs : List ℕ) (v : Valid) → n ≡ 0 → AreIndices indices n qs → IsValidityOf indices v → (i : ℕ) → i < length qs → is_valid_at v i ≡ false
 positions_none indices n qs v e h valid i l =
     let inside : i < tree_len indices = rw h.len at l in
     let p = h.each i inside in
@@ -40,7 +35,7 @@ positions_none indices n qs v e h valid i l =
     valid.bits i inside ∙ sym p.present ∙ not_some (position_in (row_at indices i)) (subst P e p.within)
 
 -- the row of one index
-taken_row : (t : Tree) (k : ℕ) (b : Bool) (p : Option ℕ) → b ≡ is_some p → k ≡ or_zero p → IfSome p (λ n. n < tree_len t) → (if b then row_at t k else null) ≡ picked (λ j. slice_index_or (rows t) j null) p
+taken_row : (t : Tree) (k : ℕ) (b : Bool) (p : Option ℕ) → b ≡ is_some p → IfSome p (λ n. k ≡ n) → IfSome p (λ n. n < tree_len t) → (if b then row_at t k else null) ≡ picked (λ j. slice_index_or (rows t) j null) p
 taken_row t k b None e same w = rw e refl
 taken_row t k b (Some n) e same w = rw (e, same) (sym (get_or-map-range_with_len (row_at t) 0 (tree_len t) n n null w (zero-add n)))
 
@@ -53,7 +48,7 @@ position_of_row t i l =
     get_or-map position_in (rows t) i null None (rw (long_rows t) l) ∙ ap position_in (get_or-map-range_with_len (row_at t) 0 (tree_len t) i i null l (zero-add i))
 
 -- the rows at positions
-pub rows_taken : (t r indices : Tree) (n : ℕ) (qs : List ℕ) (v : Valid) → n ≡ tree_len t → ArePositions indices n qs → IsValidityOf indices v → IsTakenAt t qs v r → rows r ≡ picks (rows t) (positions (rows indices))
+pub rows_taken : (t r indices : Tree) (n : ℕ) (qs : List ℕ) (v : Valid) → n ≡ tree_len t → AreIndices indices n qs → IsValidityOf indices v → IsTakenAt t qs v r → rows r ≡ picks (rows t) (positions (rows indices))
 rows_taken t r indices n qs v e h valid taken =
     let ps = positions (rows indices) in
     let many : length ps ≡ tree_len indices = length-map (rows indices) position_in ∙ long_rows indices in

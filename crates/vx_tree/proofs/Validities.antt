@@ -1,6 +1,6 @@
 -- What the calls of a validity give.
-use Rattle.std.proofs.Common.{ℕ, ◌+◌, ◌<◌, ◌≡◌, ◌↔◌, Bool, true, false, eqb, List, [], ◌∷◌, length, map, replicate, get_or, Some, refl, sym, ◌∙◌, ap, subst, zero-add, inl, inr, arith}
-use Rattle.std.specs.Prelude.{◌&&◌, ◌||◌, IfSome, IsTrue, count_by, pos, negsuc}
+use Rattle.std.proofs.Common.{ℕ, ◌+◌, ◌<◌, ◌≡◌, ◌↔◌, Bool, true, false, eqb, List, [], ◌∷◌, length, map, replicate, Some, refl, sym, ◌∙◌, ap, subst, zero-add, inl, inr}
+use Rattle.std.specs.Prelude.{◌&&◌, ◌||◌, IfSome, IsTrue, is_some, slice_index, count_by, pos, negsuc}
 use Rattle.std.specs.List.{range_with_len}
 use Rattle.std.proofs.lemmas.Bool.{eq-eqb}
 use Rattle.std.proofs.lemmas.Bool.Decides.{eqb_tells}
@@ -14,8 +14,8 @@ use Rattle.vx_tree.specs.Tree.{Tree, bools, constant, Valid, non_nullable, all_v
 use Rattle.vx_tree.specs.Meaning.{tree_len, row_at, is_valid_at, nullable, valid_mask}
 use Rattle.vx_tree.specs.Shapes.{State, never_null, none_null, every_null, told, state_of, taken_state, tree_state}
 use Rattle.vx_tree.specs.Formed.{ValidFits}
-use Rattle.vx_tree.specs.Named.{IsRepeated}
-use Rattle.vx_tree.specs.Operations.{IsSelected, IsValidityOf, IsValidNulled, ArePositions, or_zero}
+use Rattle.vx_tree.specs.Named.{IsRepeated, AreIndices}
+use Rattle.vx_tree.specs.Operations.{IsSelected, IsValidityOf, IsValidNulled}
 use Rattle.vx_tree.specs.Validities.{pair_of, both_pairs, opposite, has_no_nulls, kept_array, made_nullable, full_valid, valid_from, IsOpposite, IsValidTaken, nullable_state, IsTrivialCast, BothCommutes, BothAssociates, BothRepeats, BothHasUnit, TrivialCasts}
 use Rattle.vx_tree.proofs.Masks.{all_true_mask, all_valid_mask, all_invalid_mask}
 use Rattle.vx_tree.proofs.Positions.{mask_long}
@@ -102,14 +102,6 @@ arrays_joined m o w n joined long = pair_joined (by_array m) (by_array o) w n (n
 
 -- ---- the other way
 
--- the first n booleans are turned
-pub record AreTurned (xs : List Bool) (n : ℕ) (out : List Bool) : Type 0 where
-  pub long : length out ≡ length xs
-  pub each : (i : ℕ) → i < n → get_or out i false ≡ opposite (bool_at xs i)
-
-pub AreTurned-all : (xs out : List Bool) (n : ℕ) → n ≡ length out → AreTurned xs n out → out ≡ map (λ i. opposite (bool_at xs i)) (range_with_len 0 (length xs))
-AreTurned-all xs out n e h = fill_by_all (λ i. opposite (bool_at xs i)) out (length xs) false h.long (λ i l. h.each i (omega (arith, h.long)))
-
 pub array_turned : (t : Tree) (w : Valid) (xs bits : List Bool) (n : ℕ) → w ≡ by_array (bools bits non_nullable) → bits ≡ map (λ i. opposite (bool_at xs i)) (range_with_len 0 (length xs))
     → xs ≡ map (λ i. truth_of (row_at t i)) (range_with_len 0 (tree_len t)) → ValidFits (by_array t) n → IsOpposite (by_array t) n w
 array_turned t w xs bits n a b c h =
@@ -131,17 +123,18 @@ told_taken none_null = refl
 told_taken every_null = refl
 told_taken told = refl
 
-count-or_zero : (r : Row) → or_zero (position_in r) ≡ count_in r
-count-or_zero null = refl
-count-or_zero (boolean b) = refl
-count-or_zero (whole (pos k)) = refl
-count-or_zero (whole (negsuc k)) = refl
-count-or_zero (bytes b) = refl
-count-or_zero (text b) = refl
-count-or_zero (items rs) = refl
-count-or_zero (record_of fs) = refl
+-- of a row that is null any value will do
+truth_named : (f : ℕ → Bool) (r : Row) (k : ℕ) → IfSome (position_in r) (λ p. k ≡ p) → is_some (position_in r) ≡ is_present r → (f k && is_present r) ≡ (f (count_in r) && is_present r)
+truth_named f null k same present = sym (and_false (f k)) ∙ and_false (f 0)
+truth_named f (whole (pos n)) k same present = ap (λ j. f j && true) same
+truth_named f (whole (negsuc n)) k same present = absurd (cc)
+truth_named f (boolean b) k same present = absurd (cc)
+truth_named f (bytes b) k same present = absurd (cc)
+truth_named f (text b) k same present = absurd (cc)
+truth_named f (items rs) k same present = absurd (cc)
+truth_named f (record_of fs) k same present = absurd (cc)
 
-pub truths_taken : (t indices s : Tree) (x w : Valid) (ps : List ℕ) → IsValidityOf indices x → ArePositions indices (tree_len t) ps → IsSelected t ps s → IsValidNulled (by_array s) x (tree_len indices) w → IsValidTaken (by_array t) indices w
+pub truths_taken : (t indices s : Tree) (x w : Valid) (ps : List ℕ) → IsValidityOf indices x → AreIndices indices (tree_len t) ps → IsSelected t ps s → IsValidNulled (by_array s) x (tree_len indices) w → IsValidTaken (by_array t) indices w
 truths_taken t indices s x w ps valid are selected n =
     record {
       fits = n.fits;
@@ -150,7 +143,8 @@ truths_taken t indices s x w ps valid are selected n =
           let inside : i < length ps = rw are.len l in
           let p = are.each i l in
           n.bits i l ∙ ap (λ b. truth_of (row_at s i) && b) (valid.bits i l)
-          ∙ ap (λ r. truth_of r && is_present (row_at indices i)) (selected.rows i inside ∙ ap (row_at t) (p.told ∙ count-or_zero (row_at indices i)));
+          ∙ ap (λ r. truth_of r && is_present (row_at indices i)) (selected.rows i inside)
+          ∙ truth_named (λ k. truth_of (row_at t k)) (row_at indices i) (slice_index ps i) p.told p.present;
     }
 
 -- ---- laws

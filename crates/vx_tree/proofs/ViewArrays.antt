@@ -41,7 +41,7 @@ or_nullable-value_kind : (c u n : Bool) → or_nullable c (value_kind u n) ≡ v
 or_nullable-value_kind c true n = refl
 or_nullable-value_kind c false n = refl
 
-kind_nulled : (k : Kind) (c n m : Bool) → k ≡ value_kind (is_texts k) n → m ≡ (c || n) → or_nullable c k ≡ value_kind (is_texts (or_nullable c k)) m
+pub kind_nulled : (k : Kind) (c n m : Bool) → k ≡ value_kind (is_texts k) n → m ≡ (c || n) → or_nullable c k ≡ value_kind (is_texts (or_nullable c k)) m
 kind_nulled k c n m e h =
     ap (or_nullable c) e ∙ or_nullable-value_kind c (is_texts k) n ∙ ap (value_kind (is_texts k)) (sym h) ∙ ap (λ b. value_kind b m) (sym (is_texts-or_nullable c k))
 

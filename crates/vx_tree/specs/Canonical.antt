@@ -1,8 +1,6 @@
 -- The same rows in plain layout.
 use Rattle.std.specs.Prelude.{◌≡◌, ◌<◌, ◌*◌, ◌^◌, ℕ, false, List, [], ◌∷◌, Option, Some, None, nat_lt, if◌then◌else◌}
 use Rattle.std.specs.List.{AllZip}
-use Rattle.vx_base.specs.DTypes.{dtype_meaning}
-use Rattle.vx_base.specs.declared.dtypes.DType.{DType}
 use Rattle.vx_base.specs.Rows.{Row, null, is_present}
 use Rattle.vx_base.specs.Refusals.{Refusal, overflow, or_else}
 use Rattle.vx_base.specs.Kinds.{Kind, fixed_lists, records, Kinds, no_kinds, kind}
@@ -15,7 +13,7 @@ use Rattle.vx_tree.specs.Formed.{ValidFits}
 use Rattle.vx_tree.specs.Plain.{IsPlain, ArePlain, IsPlainValid}
 use Rattle.vx_tree.specs.Columns.{AreRowsAt}
 use Rattle.vx_tree.specs.PlainValues.{rows_fault}
-use Rattle.vx_tree.specs.Extents.{extent_of, extents_of, rows_extent}
+use Rattle.vx_tree.specs.Extents.{Extent, extent_of, extents_of}
 
 -- the same rows, of the same kind
 pub record HasRowsOf (t r : Tree) : Type 0 where
@@ -88,33 +86,33 @@ abbrev mutual
   columns_fault no_trees = None
   columns_fault (tree t ts) = or_else (canonical_fault t) (columns_fault ts)
 
--- n rows of a kind in plain layout, of which a validity is known: no list has elements, no text a buffer, no flag is set
-pub record IsBlank (k : Kind) (n : ℕ) (v : Valid) (r : Tree) : Type 0 where
+-- n rows in plain layout, of a kind and an extent, of which a validity is known: no flag is set
+pub record IsBlank (k : Kind) (x : Extent) (n : ℕ) (v : Valid) (r : Tree) : Type 0 where
   pub len : tree_len r ≡ n
   pub kind : kind_of r ≡ k
   pub plain : IsPlain r
   pub state : tree_state r ≡ state_of v
-  pub extent : extent_of r ≡ rows_extent k []
+  pub extent : extent_of r ≡ x
   pub flag : is_flagged r ≡ false
   pub nulls : (i : ℕ) → i < n → is_valid_at v i ≡ false → row_at r i ≡ null
 
--- n rows of a kind in plain layout
-pub record IsBlankPart (k : Kind) (n : ℕ) (r : Tree) : Type 0 where
+-- n rows in plain layout, of a kind and an extent
+pub record IsBlankPart (k : Kind) (x : Extent) (n : ℕ) (r : Tree) : Type 0 where
   pub len : tree_len r ≡ n
   pub kind : kind_of r ≡ k
   pub plain : IsPlain r
-  pub extent : extent_of r ≡ rows_extent k []
+  pub extent : extent_of r ≡ x
 
--- n rows of the kind of each data type, in plain layout
-abbrev pub AreBlankParts : List DType → ℕ → List Tree → Type 0
-AreBlankParts ds n rs = AllZip (λ d r. IsBlankPart (dtype_meaning d) n r) ds rs
+-- n rows in plain layout for each array, of its kind and its extent
+abbrev pub AreBlankParts : List Tree → ℕ → List Tree → Type 0
+AreBlankParts ts n rs = AllZip (λ t r. IsBlankPart (kind_of t) (extent_of t) n r) ts rs
 
--- n rows of null of a kind in plain layout, in a state
-pub record IsPlainNulls (k : Kind) (n : ℕ) (s : State) (r : Tree) : Type 0 where
+-- n rows of null in plain layout, of a kind and an extent, in a state
+pub record IsPlainNulls (k : Kind) (x : Extent) (n : ℕ) (s : State) (r : Tree) : Type 0 where
   pub len : tree_len r ≡ n
   pub kind : kind_of r ≡ k
   pub plain : IsPlain r
   pub state : tree_state r ≡ s
-  pub extent : extent_of r ≡ rows_extent k []
+  pub extent : extent_of r ≡ x
   pub flag : is_flagged r ≡ false
   pub rows : (i : ℕ) → i < n → row_at r i ≡ null

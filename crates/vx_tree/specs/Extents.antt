@@ -1,11 +1,11 @@
 -- How many elements the lists of an array have, and how many buffers its views, in plain layout.
-use Rattle.std.specs.Prelude.{ℕ, zero, suc, List, [], ◌∷◌, length, map, count_by, nat_lt, if◌then◌else◌}
+use Rattle.std.specs.Prelude.{ℕ, zero, suc, List, [], ◌∷◌, length, map, count_by}
 use Rattle.std.specs.List.{flat_map}
 use Rattle.vx_base.specs.Rows.{Row}
 use Rattle.vx_base.specs.Kinds.{Kind, texts, binaries, lists, fixed_lists, records, Kinds, no_kinds, kind}
 use Rattle.vx_tree.specs.Tree.{Tree, bools, primitive, constant, dictionary, fixed_list, list_view, structure}
 use Rattle.vx_tree.specs.Tree.{view_array, Trees, no_trees, tree}
-use Rattle.vx_tree.specs.Meaning.{tree_len, kind_of}
+use Rattle.vx_tree.specs.Meaning.{tree_len}
 use Rattle.vx_tree.specs.RowParts.{field_in, is_long_row, items_in, items_or_nulls}
 
 mutual
@@ -41,14 +41,14 @@ abbrev mutual
   fields_extents no_kinds c rs = no_extents
   fields_extents (kind k ks) c rs = extent (rows_extent k (map (field_in c) rs)) (fields_extents ks (suc c) rs)
 
--- of an array in plain layout: of a constant that of its one row, however often it stands; of a dictionary that of its values, or
--- of no row where it has none
+-- of an array in plain layout: of a constant that of its one row, however often it stands; of a dictionary that of its values,
+-- whichever its codes name
 abbrev mutual
   pub extent_of : Tree → Extent
   extent_of (bools bits v) = leaf_extent
   extent_of (primitive t bs v) = leaf_extent
   extent_of (constant k r n) = rows_extent k (r ∷ [])
-  extent_of (dictionary c v f) = if nat_lt 0 (tree_len v) then extent_of v else rows_extent (kind_of v) []
+  extent_of (dictionary c v f) = extent_of v
   extent_of (fixed_list e k v n) = fixed_list_extent (extent_of e)
   extent_of (list_view e o s v f) = list_extent (tree_len e) (extent_of e)
   extent_of (structure ns ts v n) = struct_extent (extents_of ts)

@@ -33,3 +33,10 @@ is_view_array _ = false
 abbrev pub is_struct : Tree → Bool
 is_struct (structure ns ts v n) = true
 is_struct _ = false
+
+-- ---- parts
+
+-- the values that the codes of a dictionary name
+abbrev pub values_in : Tree → Tree
+values_in (dictionary c v f) = v
+values_in t = t

@@ -24,6 +24,7 @@ pub mod Joined
 pub mod JoinedNumbers
 pub mod Concatenated
 pub mod Columns
+pub mod DefaultRows
 pub mod Composed
 pub mod Fitting
 pub mod Worked

@@ -1,5 +1,5 @@
 -- Booleans that are overwritten at positions.
-use Rattle.std.specs.Prelude.{◌≡◌, ◌-◌, ◌&&◌, ℕ, pos, negsuc, Bool, true, false, List, [], ◌∷◌, map, Option, Some}
+use Rattle.std.specs.Prelude.{◌≡◌, ◌-◌, ◌&&◌, ℕ, pos, negsuc, Bool, true, false, List, [], ◌∷◌, length, map, Option, Some}
 use Rattle.std.specs.Prelude.{None, nat_lt, slice_set, if◌then◌else◌}
 use Rattle.std.specs.List.{range_with_len}
 use Rattle.vx_base.specs.Kinds.{is_plain_integers}
@@ -59,7 +59,13 @@ patch_fault v n offset indices u =
     if is_unchanged v u then None
     else (if nullable v && nullable u then patch_rows_fault v n offset indices u else Some nullability_mismatch)
 
--- n rows of a validity, overwritten at the positions of the indices by the rows of another
+-- n rows of a validity, overwritten one after another at positions by the rows of another
+pub record IsWrittenOver (v : Valid) (n : ℕ) (ps : List ℕ) (u w : Valid) : Type 0 where
+  pub fits : ValidFits w n
+  pub state : state_of w ≡ told
+  pub mask : valid_mask w n ≡ overwritten (valid_mask v n) ps (valid_mask u (length ps))
+
+-- the same at the positions of indices
 pub record IsPatched (v : Valid) (n offset : ℕ) (indices : Tree) (u : Valid) (w : Valid) : Type 0 where
   pub fits : ValidFits w n
   pub state : state_of w ≡ told

@@ -50,12 +50,13 @@ tree_state (list_view e o s v f) = state_of v
 tree_state (structure ns ts v n) = state_of v
 tree_state (view_array vs bs u v) = state_of v
 
--- a layout, with its state, its flag, and the parts that are kept whole: a list view's elements, a view array's buffers
+-- a layout, with its state, its flag, and what is kept whole: a constant's row, a dictionary's values, a list view's
+-- elements, a view array's buffers
 pub data Shape : Type 0 where
   bool_shape : State → Shape
   primitive_shape : State → Shape
-  constant_shape : State → Shape
-  dictionary_shape : State → Bool → Shape
+  constant_shape : Kind → Row → Shape
+  dictionary_shape : Tree → State → Bool → Shape
   fixed_list_shape : State → Shape
   list_view_shape : Tree → State → Bool → Shape
   struct_shape : State → Shape
@@ -64,8 +65,8 @@ pub data Shape : Type 0 where
 abbrev pub shape_of : Tree → Shape
 shape_of (bools bits v) = bool_shape (state_of v)
 shape_of (primitive t bs v) = primitive_shape (state_of v)
-shape_of (constant k r n) = constant_shape (row_state k r)
-shape_of (dictionary c v f) = dictionary_shape (taken_state (tree_state v) (tree_state c)) f
+shape_of (constant k r n) = constant_shape k r
+shape_of (dictionary c v f) = dictionary_shape v (taken_state (tree_state v) (tree_state c)) f
 shape_of (fixed_list e k v n) = fixed_list_shape (state_of v)
 shape_of (list_view e o s v f) = list_view_shape e (state_of v) f
 shape_of (structure ns ts v n) = struct_shape (state_of v)
@@ -75,8 +76,8 @@ shape_of (view_array vs bs u v) = view_shape bs (state_of v)
 abbrev pub sliced_shape : Shape → Shape
 sliced_shape (bool_shape s) = bool_shape s
 sliced_shape (primitive_shape s) = primitive_shape s
-sliced_shape (constant_shape s) = constant_shape s
-sliced_shape (dictionary_shape s f) = dictionary_shape s false
+sliced_shape (constant_shape k r) = constant_shape k r
+sliced_shape (dictionary_shape v s f) = dictionary_shape v s false
 sliced_shape (fixed_list_shape s) = fixed_list_shape s
 sliced_shape (list_view_shape e s f) = list_view_shape e s f
 sliced_shape (struct_shape s) = struct_shape s
@@ -86,24 +87,24 @@ sliced_shape (view_shape bs s) = view_shape bs s
 abbrev pub selected_shape : Shape → Shape
 selected_shape (bool_shape s) = bool_shape s
 selected_shape (primitive_shape s) = primitive_shape s
-selected_shape (constant_shape s) = constant_shape s
-selected_shape (dictionary_shape s f) = dictionary_shape s false
+selected_shape (constant_shape k r) = constant_shape k r
+selected_shape (dictionary_shape v s f) = dictionary_shape v s false
 selected_shape (fixed_list_shape s) = fixed_list_shape s
 selected_shape (list_view_shape e s f) = list_view_shape e s false
 selected_shape (struct_shape s) = struct_shape s
 selected_shape (view_shape bs s) = view_shape bs s
 
--- nulls make a constant a dictionary, where null may stand among them
-abbrev pub nulled_constant : State → State → Shape
-nulled_constant s never_null = constant_shape s
-nulled_constant s index = dictionary_shape (taken_state s index) false
+-- nulls make a constant a dictionary of its one row, where null may stand among them
+abbrev pub nulled_constant : Kind → Row → State → Shape
+nulled_constant k r never_null = constant_shape k r
+nulled_constant k r index = dictionary_shape (constant k r 1) (taken_state (row_state k r) index) false
 
 -- nulls of a validity of some state take that state, and clear a dictionary's flag
 abbrev pub nulled_shape : Shape → State → Shape
 nulled_shape (bool_shape s) index = bool_shape (taken_state s index)
 nulled_shape (primitive_shape s) index = primitive_shape (taken_state s index)
-nulled_shape (constant_shape s) index = nulled_constant s index
-nulled_shape (dictionary_shape s f) index = dictionary_shape (taken_state s index) false
+nulled_shape (constant_shape k r) index = nulled_constant k r index
+nulled_shape (dictionary_shape v s f) index = dictionary_shape v (taken_state s index) false
 nulled_shape (fixed_list_shape s) index = fixed_list_shape (taken_state s index)
 nulled_shape (list_view_shape e s f) index = list_view_shape e (taken_state s index) f
 nulled_shape (struct_shape s) index = struct_shape (taken_state s index)

@@ -29,7 +29,7 @@ impl ArrayRef {
     /// their texts or byte lists more buffers than a view can number, 4294967296. A list view has
     /// all of its elements and texts all of their buffers; a constant those of its row once,
     /// whatever its length, with a buffer for each text or byte list above 12 bytes; a dictionary
-    /// those of its values, none if it has no values; lists of one size have the rows times the
+    /// those of its values, also where it has no values; lists of one size have the rows times the
     /// size.
     pub fn concat(alloc: Global, arrays: &[ArrayRef]) -> Result<ArrayRef, VortexError>
         ensures rows { IfOk result (λ a. rows a ≡ flat_map rows arrays.now) }

@@ -15,9 +15,9 @@ use vx_base::{Mask, Selection, VortexError};
 
 impl ArrayRef {
     /// The rows at which the mask is true, in their order, in the same layout and of the same data
-    /// type and state; a list view keeps its elements, and neither it nor a dictionary its flag.
-    /// Refuses `LengthMismatch` where the mask has not one boolean a row. Of the lists `[3, 4]`,
-    /// `[1]`, `[2, 3]` the mask true, false, true leaves `[3, 4]`, `[2, 3]`.
+    /// type and state; a list view keeps its elements and a dictionary its values, but neither its
+    /// flag. Refuses `LengthMismatch` where the mask has not one boolean a row. Of the lists
+    /// `[3, 4]`, `[1]`, `[2, 3]` the mask true, false, true leaves `[3, 4]`, `[2, 3]`.
     pub fn filter(&self, alloc: Global, mask: &Mask) -> Result<ArrayRef, VortexError>
         ensures rows { IfOk result (λ a. rows a ≡ filtered mask.now (rows self.now)) }
         ensures kind { IfOk result (λ a. kind_of a ≡ kind_of self.now) }

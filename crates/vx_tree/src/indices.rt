@@ -9,14 +9,15 @@ ghost use Rattle.vx_tree.specs.Tree.{primitive, non_nullable};
 ghost use Rattle.vx_tree.specs.Meaning.{tree_len, kind_of, row_at};
 ghost use Rattle.vx_tree.specs.Formed.{IsCode};
 ghost use Rattle.vx_tree.specs.Faults.{indices_fault, index_fault};
-ghost use Rattle.vx_tree.specs.Named.{HasNumbers, IsRepeated};
+ghost use Rattle.vx_tree.specs.Named.{HasNumbers, IsRepeated, AreIndices};
 ghost use Rattle.vx_tree.specs.Operations.{IsPosition, ArePositions, masked_numbers};
 
 mod checks;
+mod masked;
 mod rows;
 
 use crate::array::{ArrayRef, Layout, Validity};
-use crate::indices::checks::check_numbers;
+use crate::indices::masked::number_indices;
 pub(crate) use crate::indices::rows::Indices;
 use std::alloc::Global;
 use vx_base::{Mask, MaskRows, NativePType, PType, VortexError, call_native, int_at};
@@ -35,25 +36,28 @@ impl ArrayRef {
         Ok(positions)
     }
 
-    // The same positions, with no list of them where the rows are plain numbers and none is null,
-    // or all one.
+    // The same positions, any of them for a null row, with no list of them where the rows are
+    // numbers that lie one after another, or all one.
     pub(crate) fn indices(&self, alloc: Global, len: usize) -> Result<Indices<'_>, VortexError>
         requires { is_integers (kind_of self.now) ≡ true }
-        ensures ok { IfOk result (λ ps. ArePositions self.now len ps) }
+        ensures ok { IfOk result (λ ps. AreIndices self.now len ps) }
         ensures refuses { Refuses result (indices_fault len self.now) }
     {
         if self.is_repeated() {
             return Ok(self.one_position(len)?);
         }
-        let Some((ptype, bytes)) = self.plain_numbers() else {
-            return Ok(Indices::of_positions(self.positions(alloc, len)?));
-        };
-        check_numbers(ptype, bytes, len)?;
-        Ok(Indices::of_numbers(ptype, bytes))
+        match self.layout() {
+            Layout::Primitive {
+                ptype,
+                bytes,
+                validity,
+            } => Ok(number_indices(alloc, *ptype, bytes.as_slice(), validity, len)?),
+            _ => Ok(Indices::of_positions(self.positions(alloc, len)?)),
+        }
     }
 
-    // The positions that codes of `len` values name, 0 for a null code. Asks that each code names
-    // a value.
+    // The positions that codes of `len` values name, any of them for a null code. Asks that each
+    // code names a value.
     pub(crate) fn code_positions(
         &self,
         alloc: Global,
@@ -61,14 +65,11 @@ impl ArrayRef {
     ) -> Result<Indices<'_>, VortexError>
         requires ints { is_integers (kind_of self.now) ≡ true }
         requires codes { (i : ℕ) → i < tree_len self.now → IsCode len (row_at self.now i) }
-        ensures { Gives result (λ ps. ArePositions self.now len ps) }
+        ensures { Gives result (λ ps. AreIndices self.now len ps) }
     {
-        if self.is_repeated() {
-            return self.one_position(len);
-        }
         match self.plain_numbers() {
             Some((ptype, bytes)) => Ok(Indices::of_numbers(ptype, bytes)),
-            None => Ok(Indices::of_positions(self.positions(alloc, len)?)),
+            None => self.indices(alloc, len),
         }
     }
 
@@ -76,7 +77,7 @@ impl ArrayRef {
     fn one_position(&self, len: usize) -> Result<Indices<'_>, VortexError>
         requires ints { is_integers (kind_of self.now) ≡ true }
         requires repeated { IsRepeated self.now }
-        ensures ok { IfOk result (λ ps. ArePositions self.now len ps) }
+        ensures ok { IfOk result (λ ps. AreIndices self.now len ps) }
         ensures tests { Tests result (indices_fault len self.now) }
     {
         let position = self.position(0, len)?;

@@ -7,7 +7,8 @@ ghost use Rattle.vx_tree.specs.Fitting.{AllFormed, RowsFit};
 ghost use Rattle.vx_tree.specs.Faults.{slice_fault, take_fault, take_overflow};
 ghost use Rattle.vx_tree.specs.Meaning.{tree_len, kind_of, row_at, rows};
 ghost use Rattle.vx_tree.specs.Operations.{picks};
-ghost use Rattle.vx_tree.specs.Composed.{SlicesCompose, SelectionsCompose};
+ghost use Rattle.vx_tree.specs.Composed.{SlicesCompose, SelectionsCompose, KeepsValues};
+ghost use Rattle.vx_tree.specs.Shapes.{State, sliced_shape, selected_shape, nulled_shape, taken_shape};
 ghost use Rattle.vx_tree.specs.Worked.{signed_numbers, signed_rows, some_booleans, some_boolean_rows, all_null};
 ghost use Rattle.vx_tree.specs.Worked.{all_null_rows, same_pair, same_pair_rows, dictionary_with_nulls};
 ghost use Rattle.vx_tree.specs.Worked.{dictionary_rows, empty_lists, empty_list_rows, pairs, pair_rows};
@@ -45,6 +46,14 @@ pub fn slices_of_slices_are_slices()
 /// Rows that are picked of picked rows are the rows at the positions that are picked.
 pub fn selections_of_selections_are_selections()
     ensures { SelectionsCompose }
+{}
+
+/// A dictionary that is sliced, filtered, masked or taken from is a dictionary of the same values.
+pub fn dictionaries_keep_their_values()
+    ensures sliced { KeepsValues sliced_shape }
+    ensures selected { KeepsValues selected_shape }
+    ensures nulled { (nulls : State) → KeepsValues (λ shape. nulled_shape shape nulls) }
+    ensures taken { (indices : State) → KeepsValues (λ shape. taken_shape shape indices) }
 {}
 
 /// The rows of small arrays of each layout are those that were worked by hand.

@@ -4,6 +4,7 @@
 mod array;
 mod collect;
 mod concat;
+mod default_rows;
 mod execute_scalar;
 mod filter;
 mod indices;
@@ -32,9 +33,9 @@ pub use crate::array::{ArrayRef, Layout, Validity};
 pub use crate::collect::collect_items;
 pub use crate::into_array::IntoArray;
 pub use crate::laws::{
-    faults_of_worked_arrays, fewer_rows_are_countable, rows_fit_their_dtype, rows_fit_their_kind,
-    rows_of_worked_arrays, selections_of_selections_are_selections, slices_of_slices_are_slices,
-    worked_arrays_are_formed,
+    dictionaries_keep_their_values, faults_of_worked_arrays, fewer_rows_are_countable,
+    rows_fit_their_dtype, rows_fit_their_kind, rows_of_worked_arrays,
+    selections_of_selections_are_selections, slices_of_slices_are_slices, worked_arrays_are_formed,
 };
 pub use crate::typed_array::TypedArray;
 pub use crate::validity::{

@@ -17,10 +17,10 @@ use vx_base::VortexError;
 
 impl ArrayRef {
     /// The same rows, null where the array of booleans is false, of a nullable data type, in the
-    /// same layout; a list view keeps its elements and its flag, a dictionary not its flag, and a
-    /// constant becomes a dictionary of its one value. Refuses `MismatchedTypes` where the mask is
-    /// not an array of plain booleans, then `LengthMismatch` where it has not one row a row. Of the
-    /// numbers 5, 6, 7 the mask true, false, true leaves 5, null, 7.
+    /// same layout; a list view keeps its elements and its flag, a dictionary its values, but not
+    /// its flag, and a constant becomes a dictionary of its one value. Refuses `MismatchedTypes`
+    /// where the mask is not an array of plain booleans, then `LengthMismatch` where it has not one
+    /// row a row. Of the numbers 5, 6, 7 the mask true, false, true leaves 5, null, 7.
     pub fn mask(&self, alloc: Global, mask: &ArrayRef) -> Result<ArrayRef, VortexError>
         ensures rows { IfOk result (λ a. rows a ≡ masked (truths (rows mask.now)) (rows self.now)) }
         ensures kind { IfOk result (λ a. kind_of a ≡ or_nullable true (kind_of self.now)) }

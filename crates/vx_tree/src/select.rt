@@ -12,9 +12,9 @@ use vx_base::{Selection, VortexError};
 
 impl ArrayRef {
     /// The rows that are picked, in their order, in the same layout and of the same data type and
-    /// state; a list view keeps its elements, and neither it nor a dictionary its flag. Asks that
-    /// each position is below the length. Refuses `Overflow` where lists of a fixed size would need
-    /// more elements than can be counted.
+    /// state; a list view keeps its elements and a dictionary its values, but neither its flag. Asks
+    /// that each position is below the length. Refuses `Overflow` where lists of a fixed size would
+    /// need more elements than can be counted.
     pub fn select(&self, alloc: Global, selection: &Selection) -> Result<ArrayRef, VortexError>
         requires { AreBelow (tree_len self.now) selection.now }
         ensures selected { IfOk result (IsSelected self.now selection.now) }

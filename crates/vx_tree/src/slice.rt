@@ -14,9 +14,9 @@ use vx_base::VortexError;
 
 impl ArrayRef {
     /// The rows from `range.start` up to `range.end`, in the same layout. A list view keeps its
-    /// elements and its flag, a dictionary not its flag. Refuses `OutOfBounds` with the end where
-    /// it passes the length, then with the start where it passes the end. Of the lists `[3, 4]`,
-    /// `[1]`, `[2, 3]` the range `1..3` has `[1]`, `[2, 3]`.
+    /// elements and its flag, a dictionary its values, but not its flag. Refuses `OutOfBounds` with
+    /// the end where it passes the length, then with the start where it passes the end. Of the
+    /// lists `[3, 4]`, `[1]`, `[2, 3]` the range `1..3` has `[1]`, `[2, 3]`.
     pub fn slice(&self, alloc: Global, range: Range<usize>) -> Result<ArrayRef, VortexError>
         ensures rows { IfOk result (λ a. rows a ≡ slice_range (rows self.now) range.start range.end) }
         ensures kind { IfOk result (λ a. kind_of a ≡ kind_of self.now) }

@@ -20,11 +20,11 @@ use vx_base::VortexError;
 impl ArrayRef {
     /// The rows at these indices, in their order; a null index gives null. The layout is kept, but
     /// a constant becomes a dictionary of its one value where the data type of the indices is
-    /// nullable; a list view keeps its elements, and neither it nor a dictionary its flag. The data
-    /// type is nullable where either side's is. Refuses `MismatchedTypes` where the indices are no
-    /// integers, then at the first faulty valid index `Negative` or `OutOfBounds`, then `Overflow`
-    /// where lists of a fixed size would need more elements than can be counted. Of the lists
-    /// `[3, 4]`, `[1]`, `[2, 3]` the indices 2, null, 0 take `[2, 3]`, null, `[3, 4]`.
+    /// nullable; a list view keeps its elements and a dictionary its values, but neither its flag.
+    /// The data type is nullable where either side's is. Refuses `MismatchedTypes` where the
+    /// indices are no integers, then at the first faulty valid index `Negative` or `OutOfBounds`,
+    /// then `Overflow` where lists of a fixed size would need more elements than can be counted. Of
+    /// the lists `[3, 4]`, `[1]`, `[2, 3]` the indices 2, null, 0 take `[2, 3]`, null, `[3, 4]`.
     pub fn take(&self, alloc: Global, indices: &ArrayRef) -> Result<ArrayRef, VortexError>
         ensures rows { IfOk result (λ a. rows a ≡ picks (rows self.now) (positions (rows indices.now))) }
         ensures kind { IfOk result (λ a. kind_of a ≡ or_nullable (is_nullable_kind (kind_of indices.now)) (kind_of self.now)) }

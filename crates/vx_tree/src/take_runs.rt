@@ -17,11 +17,11 @@ use vx_base::{Selection, VortexError};
 impl ArrayRef {
     /// The rows of these runs, one run after another, each from its start up to its end: what
     /// `take` gives by the same positions, none of which is null, in the same layout and of the
-    /// same data type and state; a list view keeps its elements, and neither it nor a dictionary
-    /// its flag. Asks of each run that its start does not pass its end, nor its end the length.
-    /// Refuses `Overflow` where the runs have in all more rows than can be counted, or lists of a
-    /// fixed size would need more elements than can be. No position of a run is written out. Of
-    /// the numbers 5, 6, 7, 8 the runs from 2 to 4 and from 0 to 1 have 7, 8, 5.
+    /// same data type and state; a list view keeps its elements and a dictionary its values, but
+    /// neither its flag. Asks of each run that its start does not pass its end, nor its end the
+    /// length. Refuses `Overflow` where the runs have in all more rows than can be counted, or
+    /// lists of a fixed size would need more elements than can be. No position of a run is written
+    /// out. Of the numbers 5, 6, 7, 8 the runs from 2 to 4 and from 0 to 1 have 7, 8, 5.
     pub fn take_runs(&self, alloc: Global, runs: &[(usize, usize)]) -> Result<ArrayRef, VortexError>
         requires { All (IsRunWithin (tree_len self.now)) runs.now }
         ensures rows { IfOk result (λ a. rows a ≡ flat_map (rows_in_run (rows self.now)) runs.now) }

@@ -17,7 +17,7 @@ impl ArrayRef {
     /// also not in a validity. A list view keeps its numbers, its flag and the rows of its
     /// elements, texts and byte lists their views and buffers; a constant list has its elements
     /// once, a constant text one buffer at most, whatever the length; a dictionary has the
-    /// elements and the buffers of its values, none if it has no values. Lists that a constant or
+    /// elements and the buffers of its values, also if it has no values. Lists that a constant or
     /// a dictionary becomes have the flag false. An array that is plain already is shared. Refuses
     /// by the first fault of the parts in their order, the values of a dictionary first: a
     /// constant with `Overflow` where its row, unless that is null, or else all of its rows need

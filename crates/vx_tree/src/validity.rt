@@ -1,10 +1,11 @@
 // Which rows are valid.
 
-ghost use Rattle.std.specs.Prelude.{◌≡◌, ◌<◌, ◌≤◌, ◌-◌, ℕ, IfOk, OnOk, None, map, false, replicate};
-ghost use Rattle.std.specs.List.{range_with_len};
+ghost use Rattle.std.specs.Prelude.{◌≡◌, ◌<◌, ◌≤◌, ◌-◌, ℕ, IfOk, OnOk, None, false};
 ghost use Rattle.vx_base.specs.DTypes.{is_nullable};
+ghost use Rattle.vx_base.specs.Kinds.{booleans};
+ghost use Rattle.vx_base.specs.Rows.{boolean};
 ghost use Rattle.vx_base.specs.Refusals.{Gives, Refuses, Tests};
-ghost use Rattle.vx_tree.specs.Tree.{bools, by_array, non_nullable};
+ghost use Rattle.vx_tree.specs.Tree.{bools, constant, by_array, all_invalid, non_nullable};
 ghost use Rattle.vx_tree.specs.Meaning.{tree_len, kind_of, row_at, is_valid_at, nullable, valid_mask};
 ghost use Rattle.vx_tree.specs.Formed.{IsLenOf, ValidFits, ValidReads, ValidCovers};
 ghost use Rattle.vx_tree.specs.Fitting.{ValidityFormed};
@@ -207,7 +208,7 @@ impl Validity {
             (Validity::AllValid, _) => nulls.try_clone(alloc),
             (Validity::AllInvalid, _) => Ok(Validity::AllInvalid),
             (Validity::Array(_), Validity::AllValid) => self.try_clone(alloc),
-            (Validity::Array(_), Validity::AllInvalid) => nowhere_true(alloc, len),
+            (Validity::Array(array), Validity::AllInvalid) => nowhere_true(alloc, array, len),
             (Validity::Array(array), Validity::Array(other)) => plain_and(alloc, array, other),
         }
     }
@@ -228,7 +229,7 @@ impl Validity {
             Validity::NonNullable => nulls.try_clone(alloc),
             Validity::AllValid => Validity::AllValid.nulled(alloc, nulls, len),
             Validity::AllInvalid => Ok(Validity::AllInvalid),
-            Validity::Array(_) => nowhere_true(alloc, len),
+            Validity::Array(_) => never_true(alloc, len),
         }
     }
 }
@@ -241,9 +242,21 @@ pub(crate) fn told_by(alloc: Global, bits: BitBuffer) -> Result<Validity, Vortex
     Ok(Validity::Array(array))
 }
 
-// An array of booleans, none of them true.
-pub(crate) fn nowhere_true(alloc: Global, len: usize) -> Result<Validity, VortexError>
-    ensures { Gives result (λ v. valid_of v ≡ by_array (bools (replicate len false) non_nullable)) }
+// False again and again.
+pub(crate) fn never_true(alloc: Global, len: usize) -> Result<Validity, VortexError>
+    ensures { Gives result (λ v. valid_of v ≡ by_array (constant (booleans false) (boolean false) len)) }
 {
+    Ok(Validity::Array(constant_truth(alloc, false, len)?))
+}
+
+// The same in place of an array: of bits, where that is not told to have one value for all rows.
+#[tactic(auto, using(crate::proofs::Nulled::no_truths))]
+fn nowhere_true(alloc: Global, array: &ArrayRef, len: usize) -> Result<Validity, VortexError>
+    requires { ValidFits (by_array array.now) len }
+    ensures { Gives result (λ w. IsValidNulled (by_array array.now) all_invalid len (valid_of w)) }
+{
+    if array.is_repeated() {
+        return never_true(alloc, len);
+    }
     told_by(alloc, BitBuffer::new_unset(alloc, len)?)
 }

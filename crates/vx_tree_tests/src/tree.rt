@@ -7,11 +7,11 @@ ghost use Rattle.vx_tree.specs.Tree.{bools, primitive, non_nullable, by_array};
 
 use std::alloc::Global;
 use std::process::Abort;
-use vx_base::{BitBuffer, ByteBuffer, Nullability, PType, Scalar, Selection, VortexError};
+use vx_base::{BitBuffer, ByteBuffer, DType, Nullability, PType, Scalar, Selection, VortexError};
 use vx_tree::{
-    ArrayRef, Layout, Validity, faults_of_worked_arrays, rows_fit_their_dtype, rows_fit_their_kind,
-    rows_of_worked_arrays, selections_of_selections_are_selections, slices_of_slices_are_slices,
-    worked_arrays_are_formed,
+    ArrayRef, Layout, Validity, dictionaries_keep_their_values, faults_of_worked_arrays,
+    rows_fit_their_dtype, rows_fit_their_kind, rows_of_worked_arrays,
+    selections_of_selections_are_selections, slices_of_slices_are_slices, worked_arrays_are_formed,
 };
 
 mod fixed_size_lists;
@@ -19,6 +19,8 @@ mod into_array;
 mod joined_arrays;
 mod joined_validities;
 mod masks;
+mod no_values;
+mod null_indices;
 mod plain_constants;
 mod records;
 mod runs;
@@ -360,6 +362,16 @@ fn numbers_taken_from_no_rows(rt: HostRuntime) -> Result<(), VortexError> {
 }
 
 #[test]
+fn many_null_lists_taken_from_no_rows(rt: HostRuntime) -> Result<(), VortexError> {
+    let none = lists(rt.alloc())?.slice(rt.alloc(), 0..0)?;
+    let null = Scalar::null(DType::Primitive(PType::U8, Nullability::Nullable));
+    let nulls = ArrayRef::constant(rt.alloc(), null, 1099511627776)?;
+    let taken = none.take(rt.alloc(), &nulls)?;
+    assert_eq!(rt; taken.len(), 1099511627776);
+    expect_list(&rt, rt.alloc(), &taken, 1099511627775, None)
+}
+
+#[test]
 fn validity_by_a_constant(rt: HostRuntime) -> Result<(), VortexError> {
     let scalar = Scalar::bool(true, Nullability::NonNullable);
     let validity = Validity::Array(ArrayRef::constant(rt.alloc(), scalar, 2)?);
@@ -478,5 +490,6 @@ fn laws() {
     worked_arrays_are_formed();
     slices_of_slices_are_slices();
     selections_of_selections_are_selections();
+    dictionaries_keep_their_values();
     faults_of_worked_arrays();
 }

@@ -9,3 +9,5 @@ pub mod FirstLists
 pub mod RebuildModes
 pub mod PackedRows
 pub mod SliceSteps
+pub mod TwoFaults
+pub mod ReadTexts

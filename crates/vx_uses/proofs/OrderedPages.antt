@@ -35,8 +35,8 @@ has_parts-shape (view_array vs bs k v) = refl
 sliced_has_parts : (s : Shape) → shape_has_parts (sliced_shape s) ≡ shape_has_parts s
 sliced_has_parts (bool_shape s) = refl
 sliced_has_parts (primitive_shape s) = refl
-sliced_has_parts (constant_shape s) = refl
-sliced_has_parts (dictionary_shape s f) = refl
+sliced_has_parts (constant_shape k r) = refl
+sliced_has_parts (dictionary_shape v s f) = refl
 sliced_has_parts (fixed_list_shape s) = refl
 sliced_has_parts (list_view_shape e s f) = refl
 sliced_has_parts (struct_shape s) = refl

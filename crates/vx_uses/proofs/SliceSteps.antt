@@ -10,7 +10,7 @@ use Rattle.vx_tree.proofs.RowLists.{length-rows}
 use Rattle.vx_run.specs.declared.steps.Step.{Step}
 use Rattle.vx_run.specs.declared.steps.Step.TheVariants.{Slice}
 use Rattle.vx_run.specs.Steps.{step_fault, HasRun, IsStop}
-use Rattle.vx_uses.proofs.PackedRows.{refused_before}
+use Rattle.vx_uses.proofs.TwoFaults.{refused_before}
 use Rattle.vx_uses.proofs.RowLists.{slice_within}
 
 -- a step that cuts array 0, and one that cuts what the first one made

@@ -6,6 +6,7 @@ pub mod comparison;
 pub mod converter;
 pub mod encoder;
 pub mod first;
+pub mod foreign_texts;
 pub mod kernel;
 pub mod modes;
 pub mod part_by_steps;

@@ -39,9 +39,9 @@ fn numbers_of_zeroes(rt: HostRuntime) -> Result<(), VortexError> {
 
 #[test]
 fn numbers_picked_after_others(rt: HostRuntime) -> Result<(), VortexError> {
-    let mut picked = vec![in rt.alloc(); 7u8, 7]?;
+    let before = vec![in rt.alloc(); 7u8, 7]?;
     let places = Selection::at_positions(&[1, 0, 1]);
-    extend_with_numbers(&mut picked, PType::U16, &[1, 0, 0, 2], &places)?;
+    let picked = extend_with_numbers(before, PType::U16, &[1, 0, 0, 2], &places)?;
     assert!(rt; picked.as_slice() == [7, 7, 0, 2, 1, 0, 0, 2].as_slice());
     Ok(())
 }
@@ -157,6 +157,19 @@ fn elements_of_one_list_again(rt: HostRuntime) -> Result<(), VortexError> {
     assert!(rt; lists.len() == 2 && !lists.is_empty());
     let picked = gather_items(rt.alloc(), &[5u128, 6, 7, 8], &lists.lists(rt.alloc(), 2)?)?;
     assert!(rt; picked.as_slice() == [7, 8, 7, 8].as_slice());
+    Ok(())
+}
+
+#[test]
+fn elements_of_lists_of_one_list_again(rt: HostRuntime) -> Result<(), VortexError> {
+    let lists = Selection::repeated(1, 2);
+    let inner = lists.lists(rt.alloc(), 2)?;
+    let elements = inner.lists(rt.alloc(), 1)?;
+    let picked = gather_numbers(rt.alloc(), PType::U8, &[1, 2, 3, 4, 5, 6], &elements)?;
+    assert!(rt; picked.as_slice() == [3, 4, 3, 4].as_slice());
+    let bits = BitBuffer::from_bools(rt.alloc(), &[false, false, true, false])?;
+    let picked = gather_bits(rt.alloc(), &bits, &elements)?;
+    assert!(rt; picked == BitBuffer::from_bools(rt.alloc(), &[true, false, true, false])?);
     Ok(())
 }
 

@@ -3,7 +3,7 @@ use Rattle.std.proofs.Common.{◌≡◌, ℕ, ◌<◌, Bool, length, get_or, ref
 use Rattle.vx_base.specs.Rows.{count_in}
 use Rattle.vx_tree.specs.Tree.{Tree, bools, primitive, constant, dictionary, fixed_list, list_view, structure, view_array, Valid}
 use Rattle.vx_tree.specs.Meaning.{tree_len, row_at}
-use Rattle.vx_tree.specs.Formed.{WellFormed}
+use Rattle.vx_tree.specs.Formed.{WellFormed, IsConsecutive}
 use Rattle.vx_lists.specs.ListViews.{offsets_of, sizes_of, counts_in, AreAlike}
 use Rattle.vx_lists.proofs.ListViews.ViewLayouts.{length-counts_in, get_or-counts_in}
 
@@ -19,6 +19,10 @@ len-offsets_of (fixed_list e k v n) = refl
 len-offsets_of (list_view e o s v f) = refl
 len-offsets_of (structure ns ts v n) = refl
 len-offsets_of (view_array vs bs k v) = refl
+
+-- no rows follow one another
+pub no_rows_follow : (t : Tree) → tree_len t ≡ 0 → IsConsecutive (offsets_of t) (sizes_of t)
+no_rows_follow t none = λ i inside. absurd (omega (arith, len-offsets_of t, none))
 
 len-sizes_of : (t e o s : Tree) (v : Valid) (f : Bool) → t ≡ list_view e o s v f → WellFormed (list_view e o s v f) → tree_len (sizes_of t) ≡ tree_len t
 len-sizes_of t e o s v f same formed = subst (λ x. tree_len (sizes_of x) ≡ tree_len x) (sym same) formed.1.same_len

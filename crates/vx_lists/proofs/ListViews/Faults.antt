@@ -1,5 +1,5 @@
 -- What it means that no fault stands in the parts of a list view, and which fault is the first.
-use Rattle.std.proofs.Common.{◌≡◌, ℕ, ◌+◌, ◌^◌, ◌<◌, ◌≤◌, Bool, true, false, cond, eqb, leb, ltb, below_more, Option, Some, None, refl, sym, ◌∙◌, ap, subst, Result, Ok, Err, to_z, of_z, arith}
+use Rattle.std.proofs.Common.{◌≡◌, ℕ, ◌+◌, ◌^◌, ◌<◌, ◌≤◌, Bool, true, false, cond, eqb, leb, ltb, below_more, Option, Some, None, refl, sym, ◌∙◌, ap, subst, Result, Ok, Err, inl, to_z, of_z, arith}
 use Rattle.std.specs.Prelude.{ℤ, pos, negsuc, IsSome, IfSome, unwrap_or, OnOk}
 use Rattle.std.specs.Int.{w128}
 use Rattle.std.proofs.lemmas.Bool.{eqb-true, leb-true, false≢true}
@@ -7,7 +7,7 @@ use Rattle.vx_base.proofs.FirstFaults.{or_else-none, first_fault-none_at, first_
 use Rattle.vx_base.specs.declared.errors.VortexError.{VortexError}
 use Rattle.vx_base.specs.declared.ptypes.PType.{PType}
 use Rattle.vx_base.specs.Integers.{Holds}
-use Rattle.vx_base.specs.Refusals.{Refusal, refusal_of, Names, Tests, or_else, first_fault}
+use Rattle.vx_base.specs.Refusals.{Refusal, refusal_of, Names, Tests, Gives, Refuses, or_else, first_fault}
 use Rattle.vx_base.specs.Rows.{Row, null, boolean, whole, bytes, text, items, record_of, number_in, count_in}
 use Rattle.vx_base.specs.Kinds.{is_plain_integers}
 use Rattle.vx_tree.specs.Tree.{Tree, list_view, Valid}
@@ -130,6 +130,11 @@ found_passed t read z found held = number_passed t z (subst (λ r. IfSome r (Hol
 pub OnOk-tests : {T : Type 0} (r : Result T VortexError) (fault : Option Refusal) → Tests r fault → OnOk r (fault ≡ None)
 OnOk-tests (Ok x) fault tests = tests
 OnOk-tests (Err e) fault tests = tt
+
+-- a call that gives a value refuses nothing else, where no fault stands
+pub Refuses-given : {T : Type 0} (r : Result T VortexError) (P : T → Type 0) (fault : Option Refusal) → fault ≡ None → Gives r P → Refuses r fault
+Refuses-given (Ok x) P fault none given = none
+Refuses-given (Err e) P fault none given = inl given
 
 pub OnOk-three : {T E A B C D : Type 0} (r : Result T E) → OnOk r A → OnOk r B → OnOk r C → (A → B → C → D) → OnOk r D
 OnOk-three (Ok x) a b c together = together a b c

@@ -1,14 +1,17 @@
 -- Valid rows laid end to end, one row after another.
-use Rattle.std.proofs.Common.{◌≡◌, ◌⊎◌, ⊎_elim, ℕ, zero, suc, ◌+◌, ◌-◌, ◌<◌, ◌≤◌, Bool, true, false, cond, List, [], ◌∷◌, ◌++◌, length, take, replicate, get_or, sum, refl, sym, ◌∙◌, ap, zero-add, add-one, arith}
+use Rattle.std.proofs.Common.{◌≡◌, ◌⊎◌, ⊎_elim, ℕ, zero, suc, ◌+◌, ◌-◌, ◌<◌, ◌≤◌, Bool, true, false, cond, List, [], ◌∷◌, ◌++◌, length, take, replicate, get_or, sum, refl, sym, ◌∙◌, ap, subst, zero-add, add-one, arith}
 use Rattle.std.specs.Prelude.{count_by}
-use Rattle.std.specs.List.{flat_map, range_with_len}
+use Rattle.std.specs.List.{All, flat_map, range_with_len}
 use Rattle.std.proofs.lemmas.List.{append_assoc, append-nil, length-append, take_all}
 use Rattle.std.proofs.lemmas.List.Concat.{flat_map-append}
+use Rattle.std.proofs.lemmas.List.Elements.{All-nil, All-push}
 use Rattle.std.proofs.lemmas.List.FromFn.{length-range_with_len}
 use Rattle.std.proofs.lemmas.List.Sums.{sum_by_more, sum_by-take-le, get_or-le-sum_by}
 use Rattle.vx_base.proofs.MaskCounts.{all_true_from_count}
 use Rattle.vx_base.specs.Selections.{run_positions}
+use Rattle.vx_tree.specs.Runs.{IsRunWithin}
 use Rattle.vx_lists.specs.ListViews.Layout.{items_of, position_rows, joined_positions, starts_from, valid_sizes, valid_total}
+use Rattle.vx_lists.specs.ListViews.PlannedRuns.{EndWithin, AreListRuns}
 use Rattle.vx_lists.proofs.ListViews.CanonicalRows.{sum-cons, get_or-starts_from}
 
 -- ---- the total of the valid sizes
@@ -101,6 +104,7 @@ joined_positions-more offsets sizes i same_len inside = rw add-one (joined_posit
 
 pub record AreRuns (offsets sizes : List ℕ) (rows : ℕ) (runs : List (ℕ × ℕ)) (start end : ℕ) : Type 0 where
   pub forward : start ≤ end
+  pub within : (n : ℕ) → EndWithin offsets sizes n → All (IsRunWithin n) runs × (end ≤ n)
   pub joined : flat_map run_positions runs ++ range_with_len start (end - start) ≡ joined_positions (take rows offsets) (take rows sizes)
 
 -- one run more
@@ -108,6 +112,17 @@ runs_push : (runs runs' : List (ℕ × ℕ)) (start end : ℕ) → runs' ≡ run
 runs_push runs runs' start end pushed =
     ap (flat_map run_positions) pushed ∙ flat_map-append run_positions runs ((start, end) ∷ [])
     ∙ ap (λ ps. flat_map run_positions runs ++ ps) (append-nil (range_with_len start (end - start)))
+
+runs_within : (runs runs' : List (ℕ × ℕ)) (start end n : ℕ) → runs' ≡ runs ++ (start, end) ∷ [] → start ≤ end → All (IsRunWithin n) runs × (end ≤ n) → All (IsRunWithin n) runs'
+runs_within runs runs' start end n pushed forward within =
+    subst (All (IsRunWithin n)) (sym pushed) (All-push (IsRunWithin n) runs (start, end) within.0 (forward, within.1))
+
+pub AreRuns-none : (offsets sizes : List ℕ) → AreRuns offsets sizes 0 [] 0 0
+AreRuns-none offsets sizes = record {
+  forward = omega arith;
+  within = λ n ends. (All-nil (IsRunWithin n), omega arith);
+  joined = refl;
+}
 
 module _ (offsets sizes : List ℕ) (i : ℕ) (runs : List (ℕ × ℕ)) (start end : ℕ) (same_len : length sizes ≡ length offsets) (inside : i < length offsets) (so_far : AreRuns offsets sizes i runs start end) where
   -- a list that begins where the last run ends, or has no element, makes it longer
@@ -123,6 +138,10 @@ module _ (offsets sizes : List ℕ) (i : ℕ) (runs : List (ℕ × ℕ)) (start 
       ap (range_with_len start) count ∙ sym (range_append start (end - start) size) ∙ ap (λ k. range_with_len start (end - start) ++ range_with_len k size) place ∙ ap (λ ps. range_with_len start (end - start) ++ ps) here in
       record {
         forward = omega arith;
+        within = λ n ends. (
+          (so_far.within n ends).0,
+          ⊎_elim (λ (at : offset ≡ end). omega (arith, ends i inside)) (λ (none : size ≡ 0). omega (arith, (so_far.within n ends).1)) meets,
+        );
         joined = ap (λ ps. flat_map run_positions runs ++ ps) longer ∙ sym (append_assoc (flat_map run_positions runs) (range_with_len start (end - start)) (range_with_len offset size))
             ∙ ap (λ ps. ps ++ range_with_len offset size) so_far.joined ∙ sym (joined_positions-more offsets sizes i same_len inside);
       }
@@ -138,6 +157,7 @@ module _ (offsets sizes : List ℕ) (i : ℕ) (runs : List (ℕ × ℕ)) (start 
       let count : end' - offset ≡ size = omega arith in
       record {
         forward = omega arith;
+        within = λ n ends. (runs_within runs runs' start end n pushed so_far.forward (so_far.within n ends), omega (arith, ends i inside));
         joined = ap (λ ps. ps ++ range_with_len offset (end' - offset)) (runs_push runs runs' start end pushed ∙ so_far.joined)
             ∙ ap (λ n. joined_positions (take i offsets) (take i sizes) ++ range_with_len offset n) count ∙ sym (joined_positions-more offsets sizes i same_len inside);
       }
@@ -146,10 +166,12 @@ module _ (offsets sizes : List ℕ) (i : ℕ) (runs : List (ℕ × ℕ)) (start 
   AreRuns-next runs' start' end' pushed same_start end_is = rw same_start (AreRuns-begun runs' end' pushed end_is)
 
 pub AreRuns-all : (offsets sizes : List ℕ) (rows : ℕ) (runs runs' : List (ℕ × ℕ)) (start end : ℕ) → length sizes ≡ length offsets → length offsets ≤ rows → AreRuns offsets sizes rows runs start end → runs' ≡ runs ++ (start, end) ∷ []
-    → flat_map run_positions runs' ≡ joined_positions offsets sizes
-AreRuns-all offsets sizes rows runs runs' start end same_len all so_far pushed =
-    runs_push runs runs' start end pushed ∙ so_far.joined
-    ∙ ap (λ os. joined_positions os (take rows sizes)) (take_all rows offsets all) ∙ ap (joined_positions offsets) (take_all rows sizes (omega arith))
+    → AreListRuns offsets sizes runs'
+AreRuns-all offsets sizes rows runs runs' start end same_len all so_far pushed = record {
+  positions = runs_push runs runs' start end pushed ∙ so_far.joined
+      ∙ ap (λ os. joined_positions os (take rows sizes)) (take_all rows offsets all) ∙ ap (joined_positions offsets) (take_all rows sizes (omega arith));
+  within = λ n ends. runs_within runs runs' start end n pushed so_far.forward (so_far.within n ends);
+}
 
 -- ---- the positions of a run, one by one
 

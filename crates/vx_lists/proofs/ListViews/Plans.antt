@@ -1,28 +1,35 @@
 -- What a list view is rebuilt from, and what that gives.
 use Rattle.std.proofs.Common.{◌≡◌, ℕ, ◌+◌, ◌^◌, ◌<◌, ◌≤◌, Bool, true, List, length, map, sum, get_or, cond, false, None, sym, ◌∙◌, ap, subst, Result, Ok, Err, arith}
 use Rattle.std.specs.Prelude.{pos, ◌≤ℤ◌, int_le, IsTrue, OnOk}
+use Rattle.std.specs.List.{flat_map}
 use Rattle.std.proofs.lemmas.Float.{T_from_true}
 use lib.Signed.{le_z_yes}
 use Rattle.vx_base.specs.declared.ptypes.PType.{PType}
 use Rattle.vx_base.specs.Integers.{Holds, greatest, numbers}
 use Rattle.vx_base.specs.Kinds.{integer_type}
+use Rattle.vx_base.specs.Booleans.{count_fault}
 use Rattle.vx_base.specs.Refusals.{or_else}
+use Rattle.vx_base.specs.Selections.{run_positions}
 use Rattle.vx_tree.specs.Tree.{Tree, list_view, primitive, Valid, non_nullable}
 use Rattle.vx_tree.specs.Meaning.{tree_len, kind_of, valid_mask}
 use Rattle.vx_tree.specs.Formed.{IsConsecutive, WellFormed}
 use Rattle.vx_tree.specs.Faults.{take_overflow}
 use Rattle.vx_tree.specs.Operations.{IsSelected, AreBelow}
+use Rattle.vx_tree.specs.Runs.{runs_len, runs_fault}
 use Rattle.vx_lists.specs.ListViews.Layout.{valid_sizes, valid_total, position_rows, joined_positions, starts_from, IsPlan}
 use Rattle.vx_lists.specs.ListViews.CountBytes.{counts_of, AreCountBytes, HoldCounts}
+use Rattle.vx_lists.specs.ListViews.PlannedRuns.{EndWithin}
 use Rattle.vx_lists.specs.ListViews.{counts_in, elements_of, offsets_of, sizes_of, rebuilt_ptype, total_of, valid_sizes_of, valid_positions_of, IsCountArray, IsRebuildPlan, IsRebuilt}
 use Rattle.vx_lists.specs.ListViews.Faults.{total_fault, either_total_fault, rebuilt_total_fault, rebuild_overflow}
-use Rattle.vx_lists.proofs.ListViews.CountBytes.{counts_of-held, held_are_counts, length-held}
+use Rattle.vx_lists.proofs.ListViews.CountBytes.{counts_of-held, held_are_counts, length-held, length-counts_of}
 use Rattle.vx_lists.proofs.ListViews.CountArrays.{count_array_of_numbers}
 use Rattle.vx_lists.proofs.ListViews.Faults.{passed}
 use Rattle.vx_base.proofs.FirstFaults.{or_else-none}
+use Rattle.vx_base.proofs.Joined.{counted}
 use Rattle.vx_tree.proofs.RowLists.{length-rows}
+use Rattle.vx_tree.proofs.Runs.{length_of_runs, runs_fault-counted}
 use Rattle.vx_lists.proofs.ListViews.ViewLayouts.{layout_well_formed}
-use Rattle.vx_lists.proofs.ListViews.PlannedNumbers.{Holds-below, map-size_of-position_rows}
+use Rattle.vx_lists.proofs.ListViews.PlannedNumbers.{Holds-below, greatest_small, map-size_of-position_rows}
 use Rattle.vx_lists.proofs.ListViews.PlannedRows.{get_or-valid_sizes, length-valid_sizes, joined_positions-valid, length-joined_positions}
 use Rattle.vx_lists.proofs.ListViews.RebuiltViews.{planned_below, rebuilt_formed, rebuilt_view}
 
@@ -119,6 +126,15 @@ module _ (t e o s : Tree) (v : Valid) (f : Bool) (same : t ≡ list_view e o s v
   pub overflow_of_take : rebuilt_total_fault t ≡ None → take_overflow (elements_of t) (length (valid_positions_of t)) ≡ rebuild_overflow t
   overflow_of_take none = ap (take_overflow (elements_of t)) positions_count ∙ ap (λ a. or_else a (take_overflow (elements_of t) (total_of t))) (sym none)
 
+  pub overflow_of_runs : (found : List (ℕ × ℕ)) → flat_map run_positions found ≡ valid_positions_of t → rebuilt_total_fault t ≡ None → runs_fault (elements_of t) found ≡ rebuild_overflow t
+  overflow_of_runs found runs none =
+      let o_type : PType = rebuilt_ptype (integer_type (kind_of (offsets_of t))) in
+      let s_type : PType = rebuilt_ptype (integer_type (kind_of (sizes_of t))) in
+      let each = or_else-none (total_fault o_type (total_of t)) (total_fault s_type (total_of t)) none in
+      let few : total_of t < 2 ^ 64 = greatest_small o_type (total_of t) (fits_greatest o_type (total_of t) each.0) in
+      let len : runs_len found ≡ total_of t = sym (length_of_runs found) ∙ ap length runs ∙ positions_count in
+      sym (runs_fault-counted (elements_of t) found (valid_positions_of t) (sym runs) (ap count_fault len ∙ counted (total_of t) few)) ∙ overflow_of_take none
+
   -- ---- what is asked of the numbers of a plan
 
   module _ (offset_type size_type : PType) (offsets sizes : List ℕ) (count : ℕ) (plan : IsRebuildPlan t offset_type offsets size_type sizes count) where
@@ -137,13 +153,17 @@ module _ (t e o s : Tree) (v : Valid) (f : Bool) (same : t ≡ list_view e o s v
     pub planned_same_len : length (numbers size_type sizes) ≡ length (numbers offset_type offsets)
     planned_same_len = length-held size_type sizes kept sizes_hold.are ∙ kept_len ∙ sym (length-held offset_type offsets (counts_in o) offsets_hold.are)
 
-    pub planned_ends_fit : tree_len e < 2 ^ 64 → (i : ℕ) → i < length (numbers offset_type offsets) → get_or (counts_of offset_type offsets) i 0 + get_or (counts_of size_type sizes) i 0 < 2 ^ 64
-    planned_ends_fit short i inside =
+    pub planned_ends_within : EndWithin (counts_of offset_type offsets) (counts_of size_type sizes) (tree_len e)
+    planned_ends_within i inside =
         let well = layout_well_formed e o s v f formed.1 in
-        let inside_offsets : i < length (counts_in o) = omega (arith, length-held offset_type offsets (counts_in o) offsets_hold.are) in
-        let offset : get_or (counts_of offset_type offsets) i 0 ≡ get_or (counts_in o) i 0 = ap (λ ns. get_or ns i 0) (counts_of-held offset_type offsets (counts_in o) offsets_hold.are) in
+        let offsets_are = counts_of-held offset_type offsets (counts_in o) offsets_hold.are in
+        let inside_offsets : i < length (counts_in o) = omega (arith, ap length offsets_are) in
+        let offset : get_or (counts_of offset_type offsets) i 0 ≡ get_or (counts_in o) i 0 = ap (λ ns. get_or ns i 0) offsets_are in
         let size : get_or (counts_of size_type sizes) i 0 ≡ cond (get_or mask i false) (get_or (counts_in s) i 0) 0 = ap (λ ns. get_or ns i 0) (counts_of-held size_type sizes kept sizes_hold.are) ∙ get_or-valid_sizes (counts_in s) mask i in
         omega (arith, offset, size, size_kept (get_or mask i false) (get_or (counts_in s) i 0), well.within i inside_offsets, length-rows e)
+
+    pub planned_ends_fit : tree_len e < 2 ^ 64 → (i : ℕ) → i < length (numbers offset_type offsets) → get_or (counts_of offset_type offsets) i 0 + get_or (counts_of size_type sizes) i 0 < 2 ^ 64
+    planned_ends_fit short i inside = omega (arith, planned_ends_within i (omega (arith, length-counts_of offset_type offsets)), short)
 
     pub planned_positions : joined_positions (counts_of offset_type offsets) (counts_of size_type sizes) ≡ valid_positions_of t
     planned_positions =

@@ -1,13 +1,13 @@
 -- Lists that all have the offset and the size of the first.
-use Rattle.std.proofs.Common.{◌≡◌, ℕ, zero, suc, ◌+◌, ◌-◌, ◌<◌, ◌≤◌, ◌↔◌, ◌++◌, Bool, true, false, List, length, take, drop, replicate, inl, inr, Option, Some, None, Result, Ok, Err, refl, sym, ◌∙◌, ap, subst, arith}
+use Rattle.std.proofs.Common.{◌≡◌, ℕ, zero, suc, ◌+◌, ◌-◌, ◌<◌, ◌≤◌, ◌↔◌, ◌++◌, Bool, true, false, List, length, take, drop, replicate, inl, inr, Some, None, Result, Ok, Err, refl, sym, ◌∙◌, ap, subst, arith}
 use Rattle.std.specs.Prelude.{ℤ, pos, negsuc, IsSome, IfOk, unwrap_or}
 use Rattle.vx_base.proofs.FirstFaults.{first_fault-of_none, first_fault-found}
 use Rattle.vx_base.specs.declared.errors.VortexError.{VortexError}
-use Rattle.vx_base.specs.Refusals.{Refusal, refusal_of, Names, Tests}
+use Rattle.vx_base.specs.Refusals.{refusal_of, Tests}
 use Rattle.vx_base.specs.Bits.{bool_at}
 use Rattle.std.proofs.lemmas.Bool.{false≢true}
 use Rattle.std.proofs.lemmas.List.{length-append, length-drop, length-replicate, length-take-le}
-use Rattle.vx_base.specs.Rows.{whole, number_in, count_in}
+use Rattle.vx_base.specs.Rows.{number_in, count_in}
 use Rattle.vx_base.specs.Kinds.{is_plain_integers}
 use Rattle.vx_tree.specs.Tree.{Tree}
 use Rattle.vx_tree.specs.Meaning.{tree_len, kind_of, row_at}

@@ -65,7 +65,8 @@ canonical rows = layout (starts_from 0 (map size_of rows)) (map size_of rows) (m
 
 -- each row, null rows counted, ends where the next one starts
 abbrev pub LieEndToEnd : List ℕ → List ℕ → Type 0
-LieEndToEnd offsets sizes = (i : ℕ) → i + 1 < length offsets → slice_index offsets i + slice_index sizes i ≡ slice_index offsets (i + 1)
+LieEndToEnd offsets sizes =
+    (i : ℕ) → i + 1 < length offsets → slice_index offsets i + slice_index sizes i ≡ slice_index offsets (i + 1)
 
 -- the rows start at 0 and are consecutive, null rows have size 0, and no element lies past the last end
 pub record IsTidy {X : Type 0} (l : ListLayout X) : Type 0 where

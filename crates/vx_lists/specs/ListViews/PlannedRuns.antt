@@ -1,13 +1,24 @@
 -- The elements of the valid rows of a list view, in runs.
-use Rattle.std.specs.Prelude.{◌≡◌, ℕ, List, length, None}
-use Rattle.std.specs.List.{flat_map}
+use Rattle.std.specs.Prelude.{◌≡◌, ◌<◌, ◌≤◌, ◌+◌, ℕ, List, length, slice_index, None}
+use Rattle.std.specs.List.{All, flat_map}
 use Rattle.vx_base.specs.Selections.{run_positions}
 use Rattle.vx_tree.specs.Tree.{Tree}
 use Rattle.vx_tree.specs.Meaning.{tree_len}
 use Rattle.vx_tree.specs.Faults.{take_overflow}
 use Rattle.vx_tree.specs.Operations.{AreBelow}
+use Rattle.vx_tree.specs.Runs.{IsRunWithin, runs_fault}
+use Rattle.vx_lists.specs.ListViews.Layout.{joined_positions}
 use Rattle.vx_lists.specs.ListViews.{elements_of, valid_positions_of}
 use Rattle.vx_lists.specs.ListViews.Faults.{rebuilt_total_fault, rebuild_overflow}
+
+-- no list of these offsets and sizes ends past n elements
+abbrev pub EndWithin : List ℕ → List ℕ → ℕ → Type 0
+EndWithin offsets sizes n = (i : ℕ) → i < length offsets → slice_index offsets i + slice_index sizes i ≤ n
+
+-- the elements of lists in runs, one list after another, within as many elements as the lists
+pub record AreListRuns (offsets sizes : List ℕ) (found : List (ℕ × ℕ)) : Type 0 where
+  pub positions : flat_map run_positions found ≡ joined_positions offsets sizes
+  pub within : (n : ℕ) → EndWithin offsets sizes n → All (IsRunWithin n) found
 
 -- so many positions of its elements, in runs: those of its valid rows, one row after another
 pub record ArePlannedRuns (t : Tree) (n : ℕ) (e : Tree) (found : List (ℕ × ℕ)) : Type 0 where
@@ -15,4 +26,6 @@ pub record ArePlannedRuns (t : Tree) (n : ℕ) (e : Tree) (found : List (ℕ × 
   pub runs : flat_map run_positions found ≡ valid_positions_of t
   pub count : length (valid_positions_of t) ≡ n
   pub within : AreBelow (tree_len e) (valid_positions_of t)
+  pub runs_within : All (IsRunWithin (tree_len e)) found
   pub overflow : rebuilt_total_fault t ≡ None → take_overflow e (length (valid_positions_of t)) ≡ rebuild_overflow t
+  pub runs_overflow : rebuilt_total_fault t ≡ None → runs_fault e found ≡ rebuild_overflow t

@@ -43,6 +43,8 @@ pub(crate) struct FixedSizeListParts<'a> {
     pub list_size: u32,
     pub validity: &'a Validity,
     pub len: usize,
+    // How many elements there are.
+    pub count: usize,
 }
 
 impl TypedArray for FixedSizeListArray {
@@ -112,6 +114,7 @@ impl FixedSizeListArray {
             (valid_of result.validity.now) result.len }
         ensures formed { WellFormed (fixed_list result.elements.now result.list_size
             (valid_of result.validity.now) result.len) }
+        ensures count { result.count ≡ tree_len result.elements.now }
         ensures short { tree_len result.elements.now < 2 ^ 64 }
     {
         match self.array.layout() {
@@ -120,16 +123,13 @@ impl FixedSizeListArray {
                 size,
                 validity,
                 len,
-            } => {
-                // There are fewer than 2^64.
-                elements.len();
-                FixedSizeListParts {
-                    elements,
-                    list_size: *size,
-                    validity,
-                    len: *len,
-                }
-            }
+            } => FixedSizeListParts {
+                elements,
+                list_size: *size,
+                validity,
+                len: *len,
+                count: elements.len(),
+            },
             _ => unreachable!(),
         }
     }

@@ -47,6 +47,8 @@ pub(crate) struct ListViewParts<'a> {
     pub sizes: &'a ArrayRef,
     pub validity: &'a Validity,
     pub flag: bool,
+    // How many elements there are.
+    pub count: usize,
 }
 
 impl TypedArray for ListViewArray {
@@ -146,6 +148,7 @@ impl ListViewArray {
             result.sizes.now (valid_of result.validity.now) result.flag }
         ensures formed { WellFormed (list_view result.elements.now result.offsets.now
             result.sizes.now (valid_of result.validity.now) result.flag) }
+        ensures count { result.count ≡ tree_len result.elements.now }
         ensures short { tree_len result.elements.now < 2 ^ 64 }
     {
         match self.array.layout() {
@@ -155,17 +158,14 @@ impl ListViewArray {
                 sizes,
                 validity,
                 flag,
-            } => {
-                // There are fewer than 2^64.
-                elements.len();
-                ListViewParts {
-                    elements,
-                    offsets,
-                    sizes,
-                    validity,
-                    flag: *flag,
-                }
-            }
+            } => ListViewParts {
+                elements,
+                offsets,
+                sizes,
+                validity,
+                flag: *flag,
+                count: elements.len(),
+            },
             _ => unreachable!(),
         }
     }

@@ -166,22 +166,14 @@ impl ListViewArray {
             dtype_meaning p.elements_dtype.value ≡ kind_of (elements_of self)) }
     {
         let parts = self.parts();
-        Ok(ListViewDataParts {
-            elements_dtype: self.elements_dtype()?,
-            elements: parts.elements.try_clone(alloc)?,
-            offsets: parts.offsets.try_clone(alloc)?,
-            sizes: parts.sizes.try_clone(alloc)?,
-            validity: parts.validity.try_clone(alloc)?,
-        })
-    }
-
-    // What the elements are, shared with the data type of the lists.
-    fn elements_dtype(&self) -> Result<Rc<DType>, VortexError>
-        ensures { Gives result (λ d. dtype_meaning d.value ≡ kind_of (elements_of self.now)) }
-    {
-        self.parts();
         match self.dtype() {
-            DType::List(items, _) => Ok(items.clone()?),
+            DType::List(items, _) => Ok(ListViewDataParts {
+                elements_dtype: items.clone()?,
+                elements: parts.elements.try_clone(alloc)?,
+                offsets: parts.offsets.try_clone(alloc)?,
+                sizes: parts.sizes.try_clone(alloc)?,
+                validity: parts.validity.try_clone(alloc)?,
+            }),
             DType::Bool(_) | DType::Primitive(_, _) | DType::Utf8(_) => unreachable!(),
             DType::Binary(_) | DType::FixedSizeList(_, _, _) => unreachable!(),
             DType::Struct(_, _) => unreachable!(),

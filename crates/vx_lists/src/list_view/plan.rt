@@ -8,7 +8,8 @@ ghost use Rattle.vx_base.specs.Integers.{byte_width, Holds, numbers};
 ghost use Rattle.vx_base.specs.Refusals.{Gives};
 ghost use Rattle.vx_base.specs.Selections.{run_positions};
 ghost use Rattle.vx_lists.specs.ListViews.CountBytes.{counts_of, numbers_before, AreCountBytes, HoldCounts};
-ghost use Rattle.vx_lists.specs.ListViews.Layout.{joined_positions, starts_from, valid_sizes, valid_total};
+ghost use Rattle.vx_lists.specs.ListViews.Layout.{starts_from, valid_sizes, valid_total};
+ghost use Rattle.vx_lists.specs.ListViews.PlannedRuns.{AreListRuns};
 ghost use Rattle.vx_lists.specs.ListViews.{rebuilt_ptype};
 
 use std::alloc::Global;
@@ -275,8 +276,8 @@ pub(crate) fn element_runs(
     requires ends_fit { (i : ℕ) → i < length (numbers offset_type offsets.now) →
         slice_index (counts_of offset_type offsets.now) i
         + slice_index (counts_of size_type sizes.now) i < 2 ^ 64 }
-    ensures { Gives result (λ runs. flat_map run_positions runs.items
-        ≡ joined_positions (counts_of offset_type offsets.now) (counts_of size_type sizes.now)) }
+    ensures { Gives result (λ runs. AreListRuns
+        (counts_of offset_type offsets.now) (counts_of size_type sizes.now) runs.items) }
 {
     call_native!(offset_type, runs_from(alloc, offsets, size_type, sizes))
 }
@@ -294,8 +295,8 @@ fn runs_from<O: NativePType>(
     requires ends_fit { (i : ℕ) → i < length (numbers O.PTYPE offsets.now) →
         slice_index (counts_of O.PTYPE offsets.now) i
         + slice_index (counts_of size_type sizes.now) i < 2 ^ 64 }
-    ensures { Gives result (λ runs. flat_map run_positions runs.items
-        ≡ joined_positions (counts_of O.PTYPE offsets.now) (counts_of size_type sizes.now)) }
+    ensures { Gives result (λ runs. AreListRuns
+        (counts_of O.PTYPE offsets.now) (counts_of size_type sizes.now) runs.items) }
 {
     call_native!(size_type, typed_runs::<O>(alloc, offsets, sizes))
 }
@@ -312,8 +313,8 @@ fn typed_runs<O: NativePType, S: NativePType>(
     requires ends_fit { (i : ℕ) → i < length (numbers O.PTYPE offsets.now) →
         slice_index (counts_of O.PTYPE offsets.now) i
         + slice_index (counts_of S.PTYPE sizes.now) i < 2 ^ 64 }
-    ensures { Gives result (λ runs. flat_map run_positions runs.items
-        ≡ joined_positions (counts_of O.PTYPE offsets.now) (counts_of S.PTYPE sizes.now)) }
+    ensures { Gives result (λ runs. AreListRuns
+        (counts_of O.PTYPE offsets.now) (counts_of S.PTYPE sizes.now) runs.items) }
 {
     let count = number_count(offsets, O::PTYPE);
     let mut runs = Vec::new(alloc);

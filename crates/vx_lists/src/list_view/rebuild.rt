@@ -101,7 +101,7 @@ impl ListViewArray {
     {
         let (elements, runs) = self.planned_runs(alloc, plan)?;
         if by_runs {
-            return elements.select(alloc, &Selection::of_runs(&runs, plan.count));
+            return elements.take_runs(alloc, &runs);
         }
         let positions = positions_of_runs(alloc, &runs, plan.count)?;
         elements.select(alloc, &Selection::at_positions(&positions))
@@ -156,8 +156,8 @@ impl ListViewArray {
         ensures refuses { Refuses result (rebuild_overflow self.now) }
     {
         let plan = self.plan(alloc)?;
-        let elements = self.planned_elements(alloc, &plan, self.has_ranges())?;
-        Ok(self.rebuilt(alloc, plan, elements)?)
+        let taken = self.planned_elements(alloc, &plan, self.has_ranges())?;
+        Ok(self.rebuilt(alloc, plan, taken)?)
     }
 
     /// What `rebuild_by_take` gives, of the same types and refused alike, copied run by run: no list
@@ -167,8 +167,8 @@ impl ListViewArray {
         ensures refuses { Refuses result (rebuild_overflow self.now) }
     {
         let plan = self.plan(alloc)?;
-        let elements = self.planned_elements(alloc, &plan, true)?;
-        Ok(self.rebuilt(alloc, plan, elements)?)
+        let copied = self.planned_elements(alloc, &plan, true)?;
+        Ok(self.rebuilt(alloc, plan, copied)?)
     }
 
     /// Whether that many elements of so many rows are better taken at once than run by run: where

@@ -26,11 +26,11 @@ impl ListViewArray {
     {
         let parts = self.parts();
         if are_repeated(parts.offsets, parts.sizes) {
-            return mark_first(alloc, parts.offsets, parts.sizes, parts.elements.len());
+            return mark_first(alloc, parts.offsets, parts.sizes, parts.count);
         }
         let offsets = counts_of(alloc, parts.offsets)?;
         let sizes = counts_of(alloc, parts.sizes)?;
-        let referenced = mark_lists(alloc, &offsets, &sizes, parts.elements.len())?;
+        let referenced = mark_lists(alloc, &offsets, &sizes, parts.count)?;
         Ok(Mask::from_buffer(alloc, referenced)?)
     }
 

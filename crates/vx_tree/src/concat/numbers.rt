@@ -44,21 +44,22 @@ impl ArrayRef {
         &self,
         alloc: Global,
         ptype: PType,
-        joined: &mut Vec<u8>,
-    ) -> Result<(), VortexError>
+        before: Vec<u8>,
+    ) -> Result<Vec<u8>, VortexError>
         requires { AreOfType ptype self.now }
-        ensures { Gives result (λ _. AreAppended (HoldNumbers ptype (tree_len self.now) (row_at self.now)) joined.old.items joined.new.items) }
+        ensures { Gives result (λ all. AreAppended (HoldNumbers ptype (tree_len self.now) (row_at self.now)) before.items all.items) }
     {
         match self.layout() {
             Layout::Primitive { bytes, .. } => {
-                joined.extend_from_slice(bytes.as_slice())?;
-                Ok(())
+                let mut all = before;
+                all.extend_from_slice(bytes.as_slice())?;
+                Ok(all)
             }
             Layout::Constant { scalar, len } => {
                 let number = scalar.as_int().unwrap_or(0);
-                append_number(ptype, number, *len, joined)
+                append_number(ptype, number, *len, before)
             }
-            Layout::Dict { codes, values, .. } => values.append_named(alloc, ptype, codes, joined),
+            Layout::Dict { codes, values, .. } => values.append_named(alloc, ptype, codes, before),
             _ => unreachable!(),
         }
     }
@@ -69,15 +70,15 @@ impl ArrayRef {
         alloc: Global,
         ptype: PType,
         codes: &ArrayRef,
-        joined: &mut Vec<u8>,
-    ) -> Result<(), VortexError>
+        before: Vec<u8>,
+    ) -> Result<Vec<u8>, VortexError>
         requires kind { AreOfType ptype self.now }
         requires codes { IsDictionary codes.now self.now false }
-        ensures { Gives result (λ _. AreAppended (HoldNumbers ptype (tree_len codes.now) (row_at (dictionary codes.now self.now false)))
-            joined.old.items joined.new.items) }
+        ensures { Gives result (λ all. AreAppended (HoldNumbers ptype (tree_len codes.now) (row_at (dictionary codes.now self.now false)))
+            before.items all.items) }
     {
         if self.is_empty() {
-            return append_number(ptype, 0, codes.len(), joined);
+            return append_number(ptype, 0, codes.len(), before);
         }
         let values = self.canonical(alloc)?;
         values.known();
@@ -85,8 +86,7 @@ impl ArrayRef {
             unreachable!();
         };
         let positions = codes.code_positions(alloc, self.len())?;
-        append_picked(ptype, bytes.as_slice(), &positions.selection(), joined)?;
-        Ok(())
+        Ok(append_picked(ptype, bytes.as_slice(), &positions.selection(), before)?)
     }
 }
 
@@ -102,7 +102,7 @@ fn joined_numbers(
 {
     let mut joined = Vec::with_capacity(alloc, size)?;
     for array in arrays {
-        array.append_numbers(alloc, ptype, &mut joined)?;
+        joined = array.append_numbers(alloc, ptype, joined)?;
     }
     Ok(joined)
 }
@@ -112,16 +112,15 @@ fn append_number(
     ptype: PType,
     number: i128,
     len: usize,
-    joined: &mut Vec<u8>,
-) -> Result<(), VortexError>
+    before: Vec<u8>,
+) -> Result<Vec<u8>, VortexError>
     requires { Holds ptype number }
-    ensures { Gives result (λ _. AreAppended (AreRepeated ptype number len) joined.old.items joined.new.items) }
+    ensures { Gives result (λ all. AreAppended (AreRepeated ptype number len) before.items all.items) }
 {
     let mut bytes = [0u8; 8];
     let bytes = &mut bytes[..ptype.byte_width()];
     put_int(number, ptype, bytes);
-    append_picked(ptype, bytes, &Selection::repeated(0, len), joined)?;
-    Ok(())
+    Ok(append_picked(ptype, bytes, &Selection::repeated(0, len), before)?)
 }
 
 // Appends the numbers that are picked. Asks that each position has a number.
@@ -129,11 +128,10 @@ fn append_picked(
     ptype: PType,
     bytes: &[u8],
     selection: &Selection,
-    joined: &mut Vec<u8>,
-) -> Result<(), VortexError>
+    before: Vec<u8>,
+) -> Result<Vec<u8>, VortexError>
     requires { All (λ k. k < length bytes.now / byte_width ptype) selection.now }
-    ensures { Gives result (λ _. AreAppended (ArePicked ptype bytes.now selection.now) joined.old.items joined.new.items) }
+    ensures { Gives result (λ all. AreAppended (ArePicked ptype bytes.now selection.now) before.items all.items) }
 {
-    extend_with_numbers(joined, ptype, bytes, selection)?;
-    Ok(())
+    Ok(extend_with_numbers(before, ptype, bytes, selection)?)
 }

@@ -16,6 +16,13 @@ pub(crate) fn check_numbers(ptype: PType, bytes: &[u8], len: usize) -> Result<()
     call_native!(ptype, check_typed(bytes, len))
 }
 
+// Whether each number is a position below `len`.
+pub(crate) fn are_all_positions(ptype: PType, bytes: &[u8], len: usize) -> bool
+    ensures { IsTrue result → indices_fault len (primitive ptype bytes.now non_nullable) ≡ None }
+{
+    call_native!(ptype, are_positions(bytes, len))
+}
+
 // The same for numbers of one type. The first that is not one is looked for where there is one.
 fn check_typed<T: NativePType>(bytes: &[u8], len: usize) -> Result<(), VortexError>
     ensures { Tests result (indices_fault len (primitive T.PTYPE bytes.now non_nullable)) }

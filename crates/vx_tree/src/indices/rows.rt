@@ -6,8 +6,8 @@ ghost use Rattle.vx_base.specs.Integers.{numbers};
 use std::marker::Model;
 use vx_base::{PType, Selection};
 
-// The positions that indices name, where they lie: numbers, where none of them is null, one
-// position, where the rows are all one, else a list.
+// The positions that indices name, where they lie: numbers, of which those of null rows may be any
+// positions, one position, where the rows are all one or null, else a list.
 #[derive(Drop)]
 pub(crate) struct Indices<'a> {
     form: Form<'a>,
@@ -17,6 +17,7 @@ pub(crate) struct Indices<'a> {
 #[derive(Drop)]
 enum Form<'a> {
     Numbers(PType, &'a [u8]),
+    OwnNumbers(PType, Vec<u8>),
     Positions(Vec<usize>),
     Repeated(usize, usize),
 }
@@ -37,6 +38,15 @@ impl<'a> Indices<'a> {
     {
         Indices {
             form: Form::Numbers(ptype, bytes),
+        }
+    }
+
+    // The same of numbers in bytes of its own.
+    pub(crate) fn of_own_numbers(ptype: PType, bytes: Vec<u8>) -> Indices<'a>
+        ensures { result ≡ map unsigned_abs (numbers ptype bytes.items) }
+    {
+        Indices {
+            form: Form::OwnNumbers(ptype, bytes),
         }
     }
 
@@ -64,6 +74,7 @@ impl<'a> Indices<'a> {
     {
         let positions = match &self.form {
             Form::Numbers(ptype, bytes) => return Selection::at_numbers(*ptype, bytes),
+            Form::OwnNumbers(ptype, bytes) => return Selection::at_numbers(*ptype, bytes),
             Form::Repeated(position, len) => return Selection::repeated(*position, *len),
             Form::Positions(positions) => positions,
         };

@@ -4,7 +4,6 @@ ghost use Rattle.std.specs.Prelude.{◌≡◌, ◌<◌, ◌≤◌, ◌-◌, ◌�
 ghost use Rattle.vx_base.specs.Kinds.{is_nullable_kind};
 ghost use Rattle.vx_base.specs.DTypes.{dtype_meaning};
 ghost use Rattle.vx_base.specs.Rows.{is_present, null};
-ghost use Rattle.vx_base.specs.Defaults.{default_row};
 ghost use Rattle.vx_base.specs.Refusals.{Gives, Refuses};
 ghost use Rattle.vx_base.specs.ValueRows.{row_under};
 ghost use Rattle.vx_base.specs.Trues.{trues};
@@ -151,15 +150,6 @@ impl ArrayRef {
             Some(value) => Ok(Some(value.try_clone(alloc)?)),
             None => Ok(None),
         }
-    }
-
-    // `len` rows of its data type where none is given.
-    pub(crate) fn default_rows(&self, alloc: Global, len: usize) -> Result<ArrayRef, VortexError>
-        ensures { Gives result (λ a. a ≡ constant (kind_of self.now) (default_row (kind_of self.now)) len) }
-    {
-        self.known();
-        let dtype = self.dtype().try_clone(alloc)?;
-        ArrayRef::constant(alloc, Scalar::default_value(alloc, dtype)?, len)
     }
 }
 

@@ -138,7 +138,7 @@ impl ArrayRef {
         ArrayRef::fixed_size_list(alloc, elements, *size, validity, *len)
     }
 
-    // The elements are one row, which their data type has where none is given.
+    // The elements are default rows.
     pub(crate) fn null_fixed_lists(
         &self,
         alloc: Global,

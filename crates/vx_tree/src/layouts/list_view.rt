@@ -173,6 +173,7 @@ impl ArrayRef {
         ArrayRef::list_view(alloc, elements, offsets, sizes, validity, *flag)
     }
 
+    // Each list is empty; offsets and sizes are constants.
     pub(crate) fn null_lists(
         &self,
         alloc: Global,
@@ -195,8 +196,8 @@ impl ArrayRef {
             unreachable!();
         };
         let elements = elements.try_clone(alloc)?;
-        let offsets = ArrayRef::zeroes(alloc, offsets.dtype().as_ptype(), len)?;
-        let sizes = ArrayRef::zeroes(alloc, sizes.dtype().as_ptype(), len)?;
+        let offsets = offsets.default_rows(alloc, len)?;
+        let sizes = sizes.default_rows(alloc, len)?;
         let validity = validity.nulls(alloc, len, nulls)?;
         ArrayRef::list_view(alloc, elements, offsets, sizes, validity, false)
     }

@@ -370,7 +370,7 @@ fn share_columns(alloc: Global, columns: &[ArrayRef]) -> Result<Vec<ArrayRef>, V
     Ok(shared)
 }
 
-// `len` rows for each column, of its data type.
+// `len` default rows for each column, of its data type.
 fn default_columns(
     alloc: Global,
     columns: &[ArrayRef],

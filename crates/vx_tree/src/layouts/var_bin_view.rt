@@ -1,10 +1,11 @@
 // Texts and byte lists, each by its view.
 
 ghost use Rattle.std.specs.Prelude.{◌≡◌, ◌<◌, ◌≤◌, ◌+◌, ◌-◌, ◌^◌, ◌++◌, ℕ, true, false, [], length, map, slice_index_or, Some};
-ghost use Rattle.std.specs.Prelude.{MatchOption, IfOk, if◌then◌else◌};
+ghost use Rattle.std.specs.Prelude.{MatchOption, IfOk, replicate, if◌then◌else◌};
 ghost use Rattle.std.specs.List.{All, range_with_len};
 ghost use Rattle.vx_base.specs.Refusals.{Gives, Refuses, Tests};
 ghost use Rattle.vx_base.specs.DTypes.{dtype_meaning};
+ghost use Rattle.vx_base.specs.Kinds.{is_nullable_kind, or_nullable};
 ghost use Rattle.vx_base.specs.Bytes.{AreBytes};
 ghost use Rattle.vx_base.specs.MaskRuns.{is_in_run, is_in_runs, AreRuns};
 ghost use Rattle.vx_views.specs.Views.{IsView, buffer_at, view_of, view_size, view_block};
@@ -18,7 +19,9 @@ ghost use Rattle.vx_tree.specs.Values.{bytes_in};
 ghost use Rattle.vx_tree.specs.Formed.{ValidFits, WellFormed, value_kind};
 ghost use Rattle.vx_tree.specs.Fitting.{AreViews};
 ghost use Rattle.vx_tree.specs.Parts.{valid_of};
-ghost use Rattle.vx_tree.specs.Canonical.{IsCanonical};
+ghost use Rattle.vx_tree.specs.Plain.{IsPlainValid};
+ghost use Rattle.vx_tree.specs.Extents.{extent_of};
+ghost use Rattle.vx_tree.specs.Canonical.{IsCanonical, IsBlank};
 ghost use Rattle.vx_tree.specs.Operations.{IsSlice, IsSelected, IsNulled, IsNulls, AreBelow, valid_view};
 ghost use Rattle.vx_tree.specs.PlainValues.{buffers_overflow};
 ghost use Rattle.vx_tree.specs.Joined.{IsJoined, IsValidJoined, AreValues, AreResolved, joined_buffers, shifted_view, views_from};
@@ -183,12 +186,34 @@ impl ArrayRef {
         else {
             unreachable!();
         };
-        let views = Buffer::from_vec(alloc, vec![in alloc; BinaryView::empty_view(); len]?)?;
         let dtype = dtype
             .try_clone(alloc)?
             .union_nullability(nulls.nullability());
         let validity = validity.nulls(alloc, len, nulls)?;
-        views_over(alloc, views, buffers, &dtype, validity)
+        empty_views(alloc, len, buffers, &dtype, validity)
+    }
+
+    // Empty texts or byte lists of this validity, over the same buffers.
+    pub(crate) fn blank_views(
+        &self,
+        alloc: Global,
+        len: usize,
+        validity: Validity,
+    ) -> Result<ArrayRef, VortexError>
+        requires layout { is_view_array self.now ≡ true }
+        requires fits { ValidFits (valid_of validity) len }
+        requires plain { IsPlainValid (valid_of validity) }
+        requires nullable { is_nullable_kind (kind_of self.now) ≡ true → nullable (valid_of validity) ≡ true }
+        ensures { Gives result (IsBlank (or_nullable (nullable (valid_of validity)) (kind_of self.now)) (extent_of self.now) len
+            (valid_of validity)) }
+    {
+        let Layout::VarBinView { buffers, dtype, .. } = self.layout() else {
+            unreachable!();
+        };
+        let dtype = dtype
+            .try_clone(alloc)?
+            .union_nullability(validity.nullability());
+        empty_views(alloc, len, buffers, &dtype, validity)
     }
 
     pub(crate) fn canonical_views(&self, alloc: Global) -> Result<ArrayRef, VortexError>
@@ -278,6 +303,21 @@ fn views_over(
     let dtype = dtype.try_clone(alloc)?;
     let buffers = share_buffers(alloc, buffers)?;
     ArrayRef::var_bin_view(alloc, views, buffers, dtype, validity)
+}
+
+// Empty texts or byte lists, over the buffers, which are shared.
+fn empty_views(
+    alloc: Global,
+    len: usize,
+    buffers: &[ByteBuffer],
+    dtype: &DType,
+    validity: Validity,
+) -> Result<ArrayRef, VortexError>
+    requires { WellFormed (view_array (replicate len (view_of [] 0 0)) buffers.now (dtype_meaning dtype.now) (valid_of validity)) }
+    ensures { Gives result (λ a. a ≡ view_array (replicate len (view_of [] 0 0)) buffers.now (dtype_meaning dtype.now) (valid_of validity)) }
+{
+    let views = Buffer::from_vec(alloc, vec![in alloc; BinaryView::empty_view(); len]?)?;
+    views_over(alloc, views, buffers, dtype, validity)
 }
 
 // The views where the validity is true, and 16 zero bytes elsewhere.

@@ -1,13 +1,13 @@
 // A validity as booleans, and of booleans.
 
-ghost use Rattle.std.specs.Prelude.{◌≡◌, false, length, count_by, IfOk};
+ghost use Rattle.std.specs.Prelude.{◌≡◌, ℕ, false, length, count_by, IfOk, IfSome};
 ghost use Rattle.vx_base.specs.DTypes.{is_nullable};
 ghost use Rattle.vx_base.specs.Refusals.{Gives, Refuses};
 ghost use Rattle.vx_base.specs.Kinds.{booleans};
 ghost use Rattle.vx_base.specs.Rows.{boolean};
 ghost use Rattle.vx_tree.specs.Tree.{all_valid, constant};
-ghost use Rattle.vx_tree.specs.Meaning.{valid_mask};
-ghost use Rattle.vx_tree.specs.Formed.{IsLenOf};
+ghost use Rattle.vx_tree.specs.Meaning.{is_valid_at, valid_mask};
+ghost use Rattle.vx_tree.specs.Formed.{IsLenOf, ValidFits};
 ghost use Rattle.vx_tree.specs.Parts.{valid_of};
 ghost use Rattle.vx_tree.specs.Faults.{valid_type_fault};
 ghost use Rattle.vx_tree.specs.Validities.{array_of, full_valid, has_no_nulls, valid_from};
@@ -38,6 +38,38 @@ impl Validity {
         ensures refuses { Refuses result (valid_type_fault (valid_of self.now)) }
     {
         self.execute_mask(alloc, len)
+    }
+
+    // One bit for each of `len` rows: whether the row is valid.
+    pub(crate) fn bits(&self, alloc: Global, len: usize) -> Result<BitBuffer, VortexError>
+        requires { ValidFits (valid_of self.now) len }
+        ensures { Gives result (λ b. b.bits ≡ valid_mask (valid_of self.now) len) }
+    {
+        match self {
+            Validity::NonNullable => BitBuffer::new_set(alloc, len),
+            Validity::AllValid => BitBuffer::new_set(alloc, len),
+            Validity::AllInvalid => BitBuffer::new_unset(alloc, len),
+            Validity::Array(array) => array.plain_bits(alloc),
+        }
+    }
+
+    // The one value of `_len` rows, where the state or the layout says that they have one.
+    pub(crate) fn one_value(&self, _len: usize) -> Option<bool>
+        requires { ValidFits (valid_of self.now) _len }
+        ensures { IfSome result (λ b. (i : ℕ) → is_valid_at (valid_of self.now) i ≡ b) }
+    {
+        match self {
+            Validity::NonNullable => Some(true),
+            Validity::AllValid => Some(true),
+            Validity::AllInvalid => Some(false),
+            Validity::Array(array) => {
+                if array.is_repeated() {
+                    Some(array.truth_at(0))
+                } else {
+                    None
+                }
+            }
+        }
     }
 
     /// Whether none of `len` rows is null. Asks that an array has `len` rows. Refuses

@@ -1,24 +1,23 @@
 // Rows of a validity that are overwritten.
 
-ghost use Rattle.std.specs.Prelude.{◌≡◌, ◌<◌, ◌≤ℤ◌, ◌-◌, ◌^◌, pos, true, false, length, None, IfOk};
+ghost use Rattle.std.specs.Prelude.{◌≡◌, ◌<◌, ◌≤ℤ◌, ◌-◌, ◌^◌, ℕ, pos, true, false, length, None, IfOk, IfSome};
 ghost use Rattle.std.specs.List.{All};
 ghost use Rattle.vx_base.specs.Kinds.{is_plain_integers};
 ghost use Rattle.vx_base.specs.Refusals.{Gives, Refuses, Tests};
 ghost use Rattle.vx_base.specs.Rows.{whole, count_in};
-ghost use Rattle.vx_tree.specs.Tree.{bools, by_array, non_nullable};
-ghost use Rattle.vx_tree.specs.Meaning.{tree_len, kind_of, row_at, valid_mask};
+ghost use Rattle.vx_tree.specs.Meaning.{tree_len, kind_of, row_at, is_valid_at};
 ghost use Rattle.vx_tree.specs.Formed.{ValidFits};
 ghost use Rattle.vx_tree.specs.Parts.{valid_of};
 ghost use Rattle.vx_tree.specs.Faults.{valid_type_fault};
 ghost use Rattle.vx_tree.specs.Patches.{is_unchanged, overwritten, patch_positions, patch_row_fault};
 ghost use Rattle.vx_tree.specs.Patches.{patch_positions_fault, patch_type_fault, patch_len_fault, patch_rows_fault};
-ghost use Rattle.vx_tree.specs.Patches.{patch_fault, IsPatched};
+ghost use Rattle.vx_tree.specs.Patches.{patch_fault, IsPatched, IsWrittenOver};
 
 use crate::array::{ArrayRef, Validity};
 use crate::indices::to_position;
-use crate::validity::told_by;
+use crate::validity::{constant_truth, told_by};
 use std::alloc::Global;
-use vx_base::{BitBuffer, Mask, VortexError};
+use vx_base::{BitBuffer, BitBufferMut, VortexError};
 
 impl Validity {
     /// `len` rows, overwritten one after another at the positions that the indices name, less the
@@ -87,7 +86,9 @@ impl Validity {
         Ok(self.patched_at(alloc, len, &positions, patches)?)
     }
 
-    // `len` rows, overwritten one after another at the positions by the rows of the patches.
+    // `len` rows, overwritten one after another at the positions by the rows of the patches. No bit
+    // is written where none is overwritten, or all of them are one value and stay it.
+    #[tactic(auto, using(crate::proofs::Patched::written))]
     fn patched_at(
         &self,
         alloc: Global,
@@ -98,31 +99,34 @@ impl Validity {
         requires mine { ValidFits (valid_of self.now) len }
         requires theirs { ValidFits (valid_of patches.now) (length positions.now) }
         requires below { All (λ k. k < len) positions.now }
-        ensures { Gives result (λ w. valid_of w ≡ by_array (bools (overwritten (valid_mask (valid_of self.now) len) positions.now
-            (valid_mask (valid_of patches.now) (length positions.now))) non_nullable)) }
+        ensures { Gives result (λ w. IsWrittenOver (valid_of self.now) len positions.now (valid_of patches.now) (valid_of w)) }
     {
-        let mask = self.mask(alloc, len)?;
-        let validity = patches.written_over(alloc, &mask, positions);
-        drop(mask);
-        validity
+        if positions.is_empty() {
+            return Ok(Validity::Array(self.to_array(alloc, len)?));
+        }
+        if let Some(value) = self.common_value(len, patches, positions.len()) {
+            return Ok(Validity::Array(constant_truth(alloc, value, len)?));
+        }
+        let bits = self.bits(alloc, len)?;
+        let values = patches.bits(alloc, positions.len())?;
+        told_by(alloc, overwrite(alloc, &bits, positions, &values)?)
     }
 
-    // The mask, overwritten one after another at the positions by these rows.
-    fn written_over(
-        &self,
-        alloc: Global,
-        mask: &Mask,
-        positions: &[usize],
-    ) -> Result<Validity, VortexError>
-        requires fits { ValidFits (valid_of self.now) (length positions.now) }
-        requires below { All (λ k. k < length mask.now) positions.now }
-        ensures { Gives result (λ w. valid_of w ≡ by_array (bools (overwritten mask.now positions.now
-            (valid_mask (valid_of self.now) (length positions.now))) non_nullable)) }
+    // The one value that `len` rows of this and `count` rows of the other have, where the states or
+    // the layouts say so.
+    fn common_value(&self, len: usize, other: &Validity, count: usize) -> Option<bool>
+        requires mine { ValidFits (valid_of self.now) len }
+        requires theirs { ValidFits (valid_of other.now) count }
+        ensures mine { IfSome result (λ b. (i : ℕ) → is_valid_at (valid_of self.now) i ≡ b) }
+        ensures theirs { IfSome result (λ b. (i : ℕ) → is_valid_at (valid_of other.now) i ≡ b) }
     {
-        let values = self.mask(alloc, positions.len())?;
-        let bits = overwrite(alloc, mask, positions, &values);
-        drop(values);
-        told_by(alloc, bits?)
+        let Some(value) = self.one_value(len) else {
+            return None;
+        };
+        let Some(other) = other.one_value(count) else {
+            return None;
+        };
+        if value == other { Some(value) } else { None }
     }
 
     // Whether the array, where there is one, is one of plain booleans.
@@ -247,43 +251,32 @@ fn position_from(number: i128, row: usize, offset: usize, len: usize) -> Result<
     Ok(position)
 }
 
-// The booleans of a mask, overwritten one after another at the positions.
+// Bits, overwritten one after another at the positions.
 fn overwrite(
     alloc: Global,
-    mask: &Mask,
+    bits: &BitBuffer,
     positions: &[usize],
-    values: &Mask,
+    values: &BitBuffer,
 ) -> Result<BitBuffer, VortexError>
-    requires below { All (λ k. k < length mask.now) positions.now }
-    requires as_many { length values.now ≡ length positions.now }
-    ensures { Gives result (λ b. b.bits ≡ overwritten mask.now positions.now values.now) }
+    requires below { All (λ k. k < length bits.now.bits) positions.now }
+    requires as_many { length values.now.bits ≡ length positions.now }
+    ensures { Gives result (λ b. b.bits ≡ overwritten bits.now.bits positions.now values.now.bits) }
 {
-    let mut truths = vec![in alloc; false; mask.len()]?;
-    copy_mask(mask, &mut truths);
+    let mut truths = BitBufferMut::with_capacity(alloc, bits.len())?;
+    truths.append_slice(bits, 0, bits.len())?;
     write_over(&mut truths, positions, values);
-    BitBuffer::from_bools(alloc, &truths)
+    truths.freeze()
 }
 
-// Writes the booleans of a mask.
-pub(crate) fn copy_mask(mask: &Mask, out: &mut [bool])
-    requires { length out.old ≡ length mask.now }
-    ensures { out.new ≡ mask.now }
-{
-    let mut rows = mask.rows();
-    for row in 0..out.len() {
-        out[row] = rows.value(row);
-    }
-}
-
-// Overwrites booleans, one after another, at the positions.
+// Overwrites bits, one after another, at the positions.
 #[tactic(auto, using(crate::proofs::Patched::written))]
-fn write_over(out: &mut [bool], positions: &[usize], values: &Mask)
+fn write_over(out: &mut BitBufferMut, positions: &[usize], values: &BitBuffer)
     requires below { All (λ k. k < length out.old) positions.now }
-    requires as_many { length values.now ≡ length positions.now }
-    ensures { out.new ≡ overwritten out.old positions.now values.now }
+    requires counted { length out.old < 2 ^ 64 }
+    requires as_many { length values.now.bits ≡ length positions.now }
+    ensures { out.new ≡ overwritten out.old positions.now values.now.bits }
 {
-    let mut rows = values.rows();
     for (i, position) in positions.iter().enumerate() {
-        out[*position] = rows.value(i);
+        out.fill_range(*position, *position + 1, values.value(i));
     }
 }

@@ -1,6 +1,7 @@
 // Rows of a validity: one of them, a part of them, and those that are taken or left.
 
 ghost use Rattle.std.specs.Prelude.{◌≡◌, ◌-◌, ℕ, false, length, map, IfOk};
+ghost use Rattle.std.specs.Int.{w8, bit_not};
 ghost use Rattle.std.specs.List.{range_with_len};
 ghost use Rattle.vx_base.specs.Bits.{bool_at};
 ghost use Rattle.vx_base.specs.Kinds.{booleans};
@@ -16,10 +17,10 @@ ghost use Rattle.vx_tree.specs.Validities.{opposite, IsOpposite, IsValidTaken, v
 ghost use Rattle.vx_tree.specs.Validities.{valid_filter_fault, valid_take_fault};
 
 use crate::array::{ArrayRef, Validity};
-use crate::validity::{constant_truth, nowhere_true, told_by};
+use crate::validity::{constant_truth, never_true, told_by};
 use std::alloc::Global;
 use std::ops::Range;
-use vx_base::{BitBuffer, Mask, VortexError};
+use vx_base::{BitBuffer, ByteBuffer, Mask, VortexError};
 
 #[tactic(auto, using(crate::proofs::Masks::plain_booleans))]
 impl Validity {
@@ -115,8 +116,8 @@ impl Validity {
     }
 
     /// Valid where the row was null: `AllValid` and `AllInvalid` change places, an array is turned
-    /// row by row, a constant into a constant, and `NonNullable` stays. Refuses `MismatchedTypes` where the array is not one of
-    /// plain booleans.
+    /// row by row, a constant into a constant, and `NonNullable` stays. Refuses `MismatchedTypes`
+    /// where the array is not one of plain booleans.
     pub fn not(&self, alloc: Global) -> Result<Validity, VortexError>
         ensures opposite { IfOk result (λ w. (n : ℕ) → ValidFits (valid_of self.now) n → IsOpposite (valid_of self.now) n (valid_of w)) }
         ensures refuses { Refuses result (valid_type_fault (valid_of self.now)) }
@@ -177,7 +178,7 @@ fn take_truths(alloc: Global, array: &ArrayRef, indices: &ArrayRef) -> Result<Va
     let nulls = indices.validity(alloc)?;
     let len = indices.len();
     if array.is_empty() {
-        let none = nowhere_true(alloc, len)?;
+        let none = never_true(alloc, len)?;
         return Ok(none);
     }
     let selected = array.select_within(alloc, &positions.selection())?;
@@ -199,21 +200,19 @@ fn opposite_of(alloc: Global, array: &ArrayRef) -> Result<Validity, VortexError>
     told_by(alloc, bits)
 }
 
-// Each boolean the other way.
+// Each boolean the other way: the bytes that hold them, turned.
 fn turned(alloc: Global, bits: &BitBuffer) -> Result<BitBuffer, VortexError>
     ensures { Gives result (λ b. b.bits ≡ map (λ i. opposite (bool_at bits.now.bits i)) (range_with_len 0 (length bits.now.bits))) }
 {
-    let mut turned = vec![in alloc; false; bits.len()]?;
-    turn(bits, &mut turned);
-    BitBuffer::from_bools(alloc, &turned)
+    let (offset, len, bytes) = bits.try_clone(alloc)?.into_inner();
+    let bytes = bytes.slice(alloc, 0..(offset + len).div_ceil(8))?;
+    let turned = turned_bytes(alloc, bytes.as_slice())?;
+    BitBuffer::new_with_offset(alloc, ByteBuffer::from_vec(alloc, turned)?, len, offset)
 }
 
-// Writes them.
-fn turn(bits: &BitBuffer, out: &mut [bool])
-    requires { length out.old ≡ length bits.now.bits }
-    ensures { out.new ≡ map (λ i. opposite (bool_at bits.now.bits i)) (range_with_len 0 (length bits.now.bits)) }
+// Each bit of the bytes the other way.
+fn turned_bytes(alloc: Global, bytes: &[u8]) -> Result<Vec<u8>, VortexError>
+    ensures { Gives result (λ turned. turned.items ≡ map (bit_not w8) bytes.now) }
 {
-    for row in 0..out.len() {
-        out[row] = !bits.value(row);
-    }
+    Ok(bytes.iter().map(|byte| !*byte).collect(alloc)?)
 }

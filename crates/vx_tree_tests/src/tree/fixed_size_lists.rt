@@ -1,6 +1,7 @@
 // Lists of one size.
 
-ghost use Rattle.std.specs.Prelude.{◌≡◌, ◌*◌};
+ghost use Rattle.std.specs.Prelude.{◌≡◌, ◌*◌, IfOk};
+ghost use Rattle.vx_tree.specs.Meaning.{tree_len};
 
 use super::{booleans, indices, number, numbers};
 use std::alloc::Global;
@@ -24,8 +25,9 @@ pub(crate) fn pairs(alloc: Global) -> Result<ArrayRef, VortexError> {
 }
 
 // So many lists of no elements.
-fn no_elements(alloc: Global, size: u32, len: usize) -> Result<ArrayRef, VortexError>
+pub(crate) fn no_elements(alloc: Global, size: u32, len: usize) -> Result<ArrayRef, VortexError>
     requires { len * size ≡ 0 }
+    ensures { IfOk result (λ a. tree_len a ≡ len) }
 {
     let elements = numbers(alloc, PType::U8, &[], Validity::NonNullable)?;
     ArrayRef::fixed_size_list(alloc, elements, size, Validity::NonNullable, len)
@@ -91,6 +93,23 @@ fn take_of_pairs(rt: HostRuntime) -> Result<(), VortexError> {
     assert!(rt; taken.is_valid(rt.alloc(), 0)? && taken.is_valid(rt.alloc(), 2)?);
     expect_elements(&rt, &taken, 0, &[5, 6]);
     expect_elements(&rt, &taken, 4, &[1, 2]);
+    Ok(())
+}
+
+// No position of their elements is written out.
+#[test]
+fn take_of_one_pair_again_and_again(rt: HostRuntime) -> Result<(), VortexError> {
+    let seven = Scalar::int(7, PType::U8, Nullability::NonNullable);
+    let elements = ArrayRef::constant(rt.alloc(), seven, 6)?;
+    let lists = ArrayRef::fixed_size_list(rt.alloc(), elements, 2, Validity::NonNullable, 3)?;
+    let one = Scalar::int(1, PType::U8, Nullability::NonNullable);
+    let indices = ArrayRef::constant(rt.alloc(), one, 1099511627776)?;
+    let taken = lists.take(rt.alloc(), &indices)?;
+    assert_eq!(rt; taken.len(), 1099511627776);
+    expect_elements(&rt, &taken, 2199023255550, &[7, 7]);
+    let indices = indices.slice(rt.alloc(), 0..3)?;
+    let taken = pairs(rt.alloc())?.take(rt.alloc(), &indices)?;
+    expect_elements(&rt, &taken, 0, &[3, 4, 3, 4, 3, 4]);
     Ok(())
 }
 

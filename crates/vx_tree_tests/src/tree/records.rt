@@ -5,6 +5,7 @@ ghost use Rattle.vx_tree.specs.Meaning.{tree_len};
 ghost use Rattle.vx_tree.specs.Formed.{ValidFits};
 ghost use Rattle.vx_tree.specs.Parts.{valid_of};
 
+use super::fixed_size_lists::{expect_elements, no_elements};
 use super::{booleans, expect_bool, indices, number, numbers};
 use std::alloc::Global;
 use std::process::Abort;
@@ -129,5 +130,22 @@ fn records_taken_from_no_rows(rt: HostRuntime) -> Result<(), VortexError> {
     };
     assert!(rt; columns.len() == 2 && columns[0].len() == 1);
     assert!(rt; !columns[0].dtype().is_nullable());
+    Ok(())
+}
+
+// The column has one list of 2147483648 zeroes, which are a constant.
+#[test]
+fn records_of_huge_lists_taken_from_no_rows(rt: HostRuntime) -> Result<(), VortexError> {
+    let lists = no_elements(rt.alloc(), 2147483648, 0)?;
+    let second = booleans(rt.alloc(), &[])?;
+    let names = &["a", "b"];
+    let empty = pairs(rt.alloc(), names, lists, second, Validity::NonNullable, 0)?;
+    let nulls = numbers(rt.alloc(), PType::U8, &[9], Validity::AllInvalid)?;
+    let taken = empty.take(rt.alloc(), &nulls)?;
+    let Layout::Struct { columns, .. } = taken.layout() else {
+        panic!(rt; "no records");
+    };
+    assert!(rt; columns.len() == 2 && columns[0].len() == 1);
+    expect_elements(&rt, &columns[0], 2147483647, &[0]);
     Ok(())
 }

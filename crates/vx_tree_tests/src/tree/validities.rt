@@ -145,6 +145,31 @@ fn rows_of_an_array_are_patched(rt: HostRuntime) -> Result<(), VortexError> {
     expect_patched(&rt, alloc, valid(alloc, &rows)?, &patches, &want)
 }
 
+// Five rows that are all valid, by a constant.
+fn five_valid(alloc: Global) -> Result<Validity, VortexError> {
+    let scalar = Scalar::bool(true, Nullability::NonNullable);
+    Ok(Validity::Array(ArrayRef::constant(alloc, scalar, 5)?))
+}
+
+#[test]
+fn rows_of_a_constant_are_patched(rt: HostRuntime) -> Result<(), VortexError> {
+    let alloc = rt.alloc();
+    let rows = five_valid(alloc)?;
+    expect_patched(&rt, alloc, rows, &Validity::AllValid, &[true; 5])?;
+    let want = [true, true, false, true, false];
+    expect_patched(&rt, alloc, five_valid(alloc)?, &Validity::AllInvalid, &want)
+}
+
+#[test]
+fn no_row_is_patched(rt: HostRuntime) -> Result<(), VortexError> {
+    let alloc = rt.alloc();
+    let none = two_and_four(alloc)?.slice(alloc, 0..0)?;
+    let patched = five_valid(alloc)?.patch(alloc, 5, 0, &none, &Validity::AllInvalid)?;
+    expect_valid(&rt, alloc, &patched, &[true; 5])?;
+    let patched = Validity::AllInvalid.patch(alloc, 5, 0, &none, &Validity::AllValid)?;
+    expect_valid(&rt, alloc, &patched, &[false; 5])
+}
+
 #[test]
 fn last_of_equal_positions_wins(rt: HostRuntime) -> Result<(), VortexError> {
     let scalar = Scalar::int(1, PType::U8, Nullability::NonNullable);

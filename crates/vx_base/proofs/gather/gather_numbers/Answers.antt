@@ -7,18 +7,18 @@ use Rattle.vx_base.proofs.Gathered.{numbers_gathered, length_gathered}
 use Rattle.vx_base.proofs.gather.gather_numbers.Goals as goal
 
 -- what was appended to nothing
-picked : (c : goal.After-from_vec) → c.extend_with_numbers.new.picked.items ≡ flat_map (bytes_of_position (byte_width c.args.ptype) c.args.bytes.now) c.args.selection.now
+picked : (c : goal.After-from_vec) → c.in_ok-picked.picked.items ≡ flat_map (bytes_of_position (byte_width c.args.ptype) c.args.bytes.now) c.args.selection.now
 picked c = search rules
 
 pub returns-clause-ok : goal.returns-clause-ok
 returns-clause-ok c =
     let t = c.args.ptype in
     let bs = c.args.bytes.now in
-    Gives-weaker c.from_vec.result (λ b. b ≡ c.extend_with_numbers.new.picked.items) (λ b. numbers t b ≡ map (number_nth (numbers t bs)) c.args.selection.now)
+    Gives-weaker c.from_vec.result (λ b. b ≡ c.in_ok-picked.picked.items) (λ b. numbers t b ≡ map (number_nth (numbers t bs)) c.args.selection.now)
     (λ b e. ap (numbers t) (e ∙ picked c) ∙ numbers_gathered t bs c.args.selection.now c.requires) c.from_vec.ensures
 
 pub returns-clause-len : goal.returns-clause-len
 returns-clause-len c =
     let t = c.args.ptype in
-    Gives-IfOk c.from_vec.result (λ b. b ≡ c.extend_with_numbers.new.picked.items) (λ b. length b ≡ length c.args.selection.now * byte_width t)
+    Gives-IfOk c.from_vec.result (λ b. b ≡ c.in_ok-picked.picked.items) (λ b. length b ≡ length c.args.selection.now * byte_width t)
     (λ b e. ap length (e ∙ picked c) ∙ length_gathered t c.args.bytes.now c.args.selection.now c.requires) c.from_vec.ensures

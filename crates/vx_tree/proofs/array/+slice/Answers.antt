@@ -1,4 +1,4 @@
-use Rattle.std.proofs.Common.{◌+◌, ◌-◌, ◌≤◌, rules, ap, arith, subst, sym, ◌∙◌}
+use Rattle.std.proofs.Common.{◌-◌, ◌≤◌, rules, ap, arith, subst, sym, ◌∙◌}
 use denote.Param.Weighed.{at_most}
 use Rattle.vx_tree.specs.declared.array.ArrayRef.TheDeep.{size-ArrayRef}
 use Rattle.vx_tree.specs.Parts.{tree_of, valid_of}

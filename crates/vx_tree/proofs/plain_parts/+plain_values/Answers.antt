@@ -1,4 +1,4 @@
-use Rattle.std.proofs.Common.{rules, ◌≡◌, ◌∙◌, ◌+◌, List, ℕ, map, length, sym, ap, subst, refl, true, IfOk, None, arith}
+use Rattle.std.proofs.Common.{rules, ◌≡◌, ◌∙◌, ◌+◌, List, ℕ, map, length, sym, ap, subst, refl, IfOk, None, arith}
 use Rattle.std.specs.List.{All}
 use Rattle.vx_base.specs.Codes.{kind_depth, kinds_depth}
 use Rattle.vx_base.specs.DTypes.{dtype_meaning, dtype_meaning-Struct, field_kinds, field_names, is_nullable, kinds_of}

@@ -1,17 +1,20 @@
 use Rattle.std.proofs.Common.{◌≡◌, ◌≤◌, ℕ, List, None, length, map, IfOk, true, false, refl, sym, subst, ◌∙◌, ap}
-use Rattle.std.proofs.lemmas.Result.{err_from_is_err_and}
+use Rattle.std.specs.List.{All, concat, flat_map}
+use Rattle.std.proofs.lemmas.Result.{err_from_is_err_and, IfOk-weaker}
 use Rattle.vx_base.specs.Refusals.{Refuses, IsMemoryOr}
 use Rattle.vx_base.proofs.FirstFaults.{or_else-second}
 use Rattle.vx_views.specs.BuildFaults.{IsPieceCount}
 use Rattle.vx_views.specs.Cut.{IsCut}
 use Rattle.vx_views.proofs.BuildRefusals.{piece_count}
 use Rattle.vx_tree.specs.Faults.{length_fault}
+use Rattle.vx_tree.specs.Layouts.{is_view_array}
 use Rattle.vx_tree.specs.Meaning.{rows, tree_len}
 use Rattle.vx_tree.specs.Operations.{filtered}
 use Rattle.vx_text.specs.Rebuffered.{rebuffer_fault, row_lens}
 use Rattle.vx_text.specs.Texts.{buffers_of}
-use Rattle.vx_uses.specs.Packed.{row_size}
-use Rattle.vx_uses.proofs.PackedRows.{sizes_of_rows, views_selected, refused_before}
+use Rattle.vx_uses.specs.Packed.{row_bytes, row_size}
+use Rattle.vx_uses.proofs.PackedRows.{sizes_of_rows, views_selected, buffers_within, buffers_joined}
+use Rattle.vx_uses.proofs.TwoFaults.{refused_before}
 use Rattle.vx_uses.proofs.repacking.kept_and_packed.Goals as goal
 
 pub returns-in_err-kept-clause-refuses : goal.returns-in_err-kept-clause-refuses
@@ -30,6 +33,18 @@ unreachable-requires c =
     let is = views_selected c.as_array.result.now c.in_ok-kept.kept c.as_array.ensures.layout c.in_ok-kept.ensures.shape in
     let both : true ≡ false = sym is ∙ c.in_default.ensures.other.1 in
     cc
+
+pub returns-clause-within : goal.returns-clause-within
+returns-clause-within c =
+    IfOk-weaker c.rebuffer.result _ (λ a. All (λ b. length b ≤ c.args.limit) (buffers_of a)) (λ a is. buffers_within c.args.limit c.in-Ok.texts a is) c.rebuffer.ensures.parts
+
+pub returns-clause-only : goal.returns-clause-only
+returns-clause-only c =
+    let kept : rows c.in-Ok.texts ≡ filtered c.args.mask.now (rows c.args.column.now) =
+    ap rows c.in-Ok.ensures.own.0 ∙ c.in_ok-kept.ensures.rows ∙ ap (λ t. filtered c.args.mask.now (rows t)) c.as_array.ensures.value in
+    let views : is_view_array c.in-Ok.texts ≡ true = ap is_view_array c.in-Ok.ensures.own.0 ∙ c.in-Ok.ensures.own.1 in
+    IfOk-weaker c.rebuffer.result _ (λ a. concat (buffers_of a) ≡ flat_map row_bytes (filtered c.args.mask.now (rows c.args.column.now)))
+    (λ a is. buffers_joined c.args.limit c.in-Ok.texts a views is ∙ ap (flat_map row_bytes) kept) c.rebuffer.ensures.parts
 
 pub returns-clause-fewest : goal.returns-clause-fewest
 returns-clause-fewest c =

@@ -1,64 +1,64 @@
-use Rattle.std.proofs.Common.{◌≡◌, ◌+◌, ◌∙◌, ◌++◌, ◌∷◌, [], sym, ap, subst, take, None, arith}
-use Rattle.std.specs.List.{AllZip}
-use Rattle.vx_base.specs.declared.dtypes.DType.{DType}
-use Rattle.vx_base.specs.Codes.{kind_depth, kinds_depth}
-use Rattle.vx_base.specs.DTypes.{dtype_meaning, is_nullable, field_names, kinds_of}
-use Rattle.vx_base.specs.Kinds.{lists, records, is_nullable_kind}
-use Rattle.vx_base.proofs.Defaults.{zip_push, take_push}
+use Rattle.std.proofs.Common.{◌≡◌, ◌∙◌, ap, sym, subst, None, arith}
+use denote.Param.Weighed.{at_most}
 use Rattle.vx_base.proofs.Refused.{Gives-weaker}
-use Rattle.vx_base.proofs.StructKinds.{struct_kind}
-use Rattle.vx_base.proofs.ValueFits.{field_depth, struct_depth}
-use Rattle.vx_tree.specs.Tree.{Tree}
-use Rattle.vx_tree.specs.Parts.{valid_of}
-use Rattle.vx_tree.specs.Canonical.{IsBlankPart, plain_overflow, fields_overflow}
+use Rattle.vx_tree.specs.declared.array.ArrayRef.TheDeep.{size-ArrayRef}
+use Rattle.vx_tree.specs.Tree.{Tree, structure}
+use Rattle.vx_tree.specs.Meaning.{kind_of, kinds_of, trees_from}
+use Rattle.vx_tree.specs.Parts.{tree_of, valid_of}
+use Rattle.vx_tree.specs.Plain.{IsPlain}
+use Rattle.vx_tree.specs.Formed.{WellFormed}
+use Rattle.vx_tree.specs.Extents.{extent_of}
+use Rattle.vx_tree.specs.Canonical.{IsBlankPart, AreBlankParts, plain_overflow, fields_overflow}
+use Rattle.vx_tree.proofs.Columns.{AllZip-next, columns_below}
+use Rattle.vx_tree.proofs.JoinedParts.{plain_at}
 use Rattle.vx_tree.proofs.Blanks.{blank_columns_fit, struct_blank}
-use Rattle.vx_tree.proofs.PlainKinds.{plain_overflow-none, fields_countable}
+use Rattle.vx_tree.proofs.PlainKinds.{columns_countable}
 use Rattle.vx_tree.proofs.array.ArrayRef.+blank.Goals as goal
 
 pub blank_columns-blank_part-requires : goal.blank_columns-blank_part-requires
 blank_columns-blank_part-requires t c =
-    let ds = c.args.dtypes.now in
-    let i = c.loop-dtype.dtype-index in
-    let d = c.dtype-item.result in
-    let C : DType → Type 0 = λ x. plain_overflow (dtype_meaning x) c.args.len ≡ None in
-    (omega (arith, field_depth ds i d c.loop-dtype-test.true c.dtype-item.is, c.decreases), subst C (sym c.dtype-item.is) (c.requires i d c.loop-dtype-test.true))
+    let ps = c.args.columns.now in
+    let i = c.loop-column.column-index in
+    let p = c.column-item.result in
+    let m = at_most size-ArrayRef ps i p c.loop-column-test.true in
+    let d = ap size-ArrayRef c.column-item.is in
+    let C : Tree → Type 0 = λ x. plain_overflow (kind_of x) c.args.len ≡ None in (
+      omega (arith, m, d, c.decreases),
+      (
+        subst IsPlain (sym c.column-item.is) (plain_at ps i p c.requires.plain c.loop-column-test.true),
+        subst C (sym c.column-item.is) (c.requires.countable i p c.loop-column-test.true),
+      ),
+    )
 
-pub blank_columns-loop-dtype-preserved : goal.blank_columns-loop-dtype-preserved
-blank_columns-loop-dtype-preserved t c =
-    let R : DType → Tree → Type 0 = λ d r. IsBlankPart (dtype_meaning d) c.args.len r in
-    let grown = zip_push R (take c.loop-dtype.dtype-index c.args.dtypes.now) c.loop-dtype.columns.items c.dtype-item.result c.in_ok-blank_part.field-0
-    c.loop-dtype.invariant c.in_ok-blank_part.ensures in
-    subst (λ ds. AllZip R ds c.push.new.self.items) (sym (take_push c.args.dtypes.now c.loop-dtype.dtype-index c.dtype-item.result c.loop-dtype-test.true c.dtype-item.is))
-    (subst (λ vs. AllZip R (take c.loop-dtype.dtype-index c.args.dtypes.now ++ c.dtype-item.result ∷ []) vs) (sym c.in_ok-push.ensures.items) grown)
+pub blank_columns-loop-column-preserved : goal.blank_columns-loop-column-preserved
+blank_columns-loop-column-preserved t c =
+    AllZip-next (λ t r. IsBlankPart (kind_of t) (extent_of t) c.args.len r) c.args.columns.now c.loop-column.made.items c.push.new.self.items c.loop-column.column-index c.column-item.result c.in_ok-blank_part.field-0
+    c.loop-column.invariant c.loop-column-test.true c.column-item.is c.in_ok-blank_part.ensures c.in_ok-push.ensures.items
 
-pub blank-blank_part-requires : goal.blank-blank_part-requires
-blank-blank_part-requires t c =
-    let k = dtype_meaning c.in-List.items.value in
-    let whole : dtype_meaning c.args.dtype.now ≡ lists k (is_nullable c.in-List.field-1) = ap dtype_meaning c.in-List.is in
-    let deep : kind_depth (dtype_meaning c.args.dtype.now) ≡ kind_depth k + 1 = ap kind_depth whole in
-    rw c.deref.ensures (omega (arith, deep, c.decreases), plain_overflow-none k)
+pub blank_like-blank_columns-requires : goal.blank_like-blank_columns-requires
+blank_like-blank_columns-requires t c =
+    let parts = c.in-Struct in
+    let v = valid_of parts.validity in
+    let ps = parts.columns.items in
+    let same = sym c.layout.ensures.parts ∙ ap tree_of parts.is in
+    let m = columns_below c.args.self.now parts.names ps c.deref.result.now v parts.len same c.deref.ensures.value in
+    let plain : IsPlain (structure parts.names (trees_from ps) v parts.len) = rw same at c.requires.rows in
+    let few : fields_overflow (kinds_of (trees_from ps)) c.args.len ≡ None = rw same at c.requires.countable in
+    (omega (arith, m, c.decreases), (rw c.deref.ensures.value plain.0, rw c.deref.ensures.value (columns_countable ps c.args.len few)))
 
-pub blank-blank_columns-requires : goal.blank-blank_columns-requires
-blank-blank_columns-requires t c =
-    let fs = c.in-Struct.fields in
-    let ds = c.fields.result.now in
-    let whole = struct_kind c.args.dtype.now fs c.in-Struct.field-1 c.in-Struct.is in
-    let deep : kind_depth (dtype_meaning c.args.dtype.now) ≡ kinds_depth (kinds_of ds) + 1 = struct_depth c.args.dtype.now fs c.in-Struct.field-1 c.in-Struct.is ∙ ap (λ ks. kinds_depth ks + 1) (sym c.fields.ensures.kinds) in
-    let few : fields_overflow (kinds_of ds) c.args.len ≡ None = ap (λ ks. fields_overflow ks c.args.len) c.fields.ensures.kinds ∙ sym (ap (λ k. plain_overflow k c.args.len) whole) ∙ c.requires.countable in
-    (omega (arith, deep, c.decreases), fields_countable ds c.args.len few)
+pub blank_like-structure-requires-clause-columns : goal.blank_like-structure-requires-clause-columns
+blank_like-structure-requires-clause-columns t c =
+    let parts = c.in-Struct in
+    let formed : WellFormed (structure parts.names (trees_from parts.columns.items) (valid_of parts.validity) parts.len) = rw parts.is at c.layout.ensures.formed in
+    let made : AreBlankParts parts.columns.items c.args.len c.in_ok-columns-in-Struct.columns.items = rw c.deref.ensures.value at c.in_ok-columns-in-Struct.ensures in
+    rw c.in_ok-names-in-Struct.ensures (blank_columns_fit parts.names parts.columns.items parts.len c.args.len c.in_ok-columns-in-Struct.columns.items formed.1 made)
 
-pub blank-structure-requires-clause-columns : goal.blank-structure-requires-clause-columns
-blank-structure-requires-clause-columns t c =
-    let fs = c.in-Struct.fields in
-    let ds = c.fields.result.now in
-    rw (c.in_ok-names-in-Struct.ensures, c.names.ensures) (blank_columns_fit (field_names fs) ds c.args.len c.in_ok-columns-in-Struct.columns.items (sym c.fields.ensures.count) c.in_ok-columns-in-Struct.ensures)
-
-pub blank-returns-in_ok-names-in-Struct : goal.blank-returns-in_ok-names-in-Struct
-blank-returns-in_ok-names-in-Struct t c =
-    let fs = c.in-Struct.fields in
-    let ds = c.fields.result.now in
-    let whole = struct_kind c.args.dtype.now fs c.in-Struct.field-1 c.in-Struct.is ∙ ap (λ ks. records (field_names fs) ks (is_nullable_kind (dtype_meaning c.args.dtype.now))) (sym c.fields.ensures.kinds) in
+pub blank_like-returns-in_ok-names-in-Struct : goal.blank_like-returns-in_ok-names-in-Struct
+blank_like-returns-in_ok-names-in-Struct t c =
+    let parts = c.in-Struct in
+    let same = sym c.layout.ensures.parts ∙ ap tree_of parts.is in
+    let made : AreBlankParts parts.columns.items c.args.len c.in_ok-columns-in-Struct.columns.items = rw c.deref.ensures.value at c.in_ok-columns-in-Struct.ensures in
     Gives-weaker c.structure.result _ _
-    (λ a e. struct_blank a (dtype_meaning c.args.dtype.now) (field_names fs) ds c.in_ok-columns-in-Struct.columns.items (is_nullable_kind (dtype_meaning c.args.dtype.now)) (valid_of c.args.validity) c.args.len
-    whole c.requires.nullable c.requires.plain (rw (c.in_ok-names-in-Struct.ensures, c.names.ensures) at e) c.in_ok-columns-in-Struct.ensures)
+    (λ a e. struct_blank c.args.self.now a parts.names parts.columns.items c.in_ok-columns-in-Struct.columns.items (valid_of parts.validity) (valid_of c.args.validity) parts.len c.args.len
+    same (rw c.in_ok-names-in-Struct.ensures at e) c.requires.nullable c.requires.plain made)
     c.structure.ensures

@@ -5,7 +5,7 @@ use Rattle.vx_base.specs.Kinds.{is_nullable_kind}
 use Rattle.vx_base.proofs.Refused.{Gives-weaker}
 use Rattle.vx_tree.specs.Parts.{tree_of}
 use Rattle.vx_tree.specs.Meaning.{tree_len, kind_of}
-use Rattle.vx_tree.specs.Operations.{ArePositions}
+use Rattle.vx_tree.specs.Named.{AreIndices}
 use Rattle.vx_tree.specs.Canonical.{canonical_fault}
 use Rattle.vx_tree.specs.Joined.{AreNumbers, bytes_in}
 use Rattle.vx_tree.proofs.Dictionaries.{memory_only, not_empty}
@@ -17,7 +17,7 @@ use Rattle.vx_tree.proofs.array.ArrayRef.append_named.Goals as goal
 pub returns-then-is_empty : goal.returns-then-is_empty
 returns-then-is_empty c =
     Gives-weaker c.append_number.result _ _
-    (λ x. appended_more c.args.joined.now.items c.append_number.new.joined.items
+    (λ x. appended_more c.args.before.items x.items
     (λ bs h. absent_held c.args.ptype c.args.codes.now c.args.self.now bs c.requires.codes (eqb-true (tree_len c.args.self.now) 0 (sym c.is_empty.ensures ∙ c.if-is_empty.true)) (rw c.len.ensures at h)))
     c.append_number.ensures
 
@@ -32,7 +32,7 @@ append_picked-requires c =
     let w = c.in_ok-values.values in
     let ps = c.in_ok-positions.positions in
     let rows = c.in_ok-values.ensures.ok.same in
-    let are : ArePositions c.args.codes.now (tree_len v) ps = rw c.len-2.ensures at c.in_ok-positions.ensures in
+    let are : AreIndices c.args.codes.now (tree_len v) ps = rw c.len-2.ensures at c.in_ok-positions.ensures in
     let held : AreNumbers c.args.ptype w = numbers_of_kind w c.args.ptype (is_nullable_kind (kind_of v)) c.in_ok-values.ensures.ok.plain c.known.ensures (rows.kind ∙ c.requires.kind) in
     let bytes : c.as_slice.result.now ≡ bytes_in w = c.as_slice.ensures.value ∙ ap bytes_in (sym (ap tree_of c.in-Primitive.is) ∙ c.layout.ensures.parts) in
     rw (c.selection.ensures, named_within c.args.ptype v w c.as_slice.result.now rows held bytes)
@@ -44,7 +44,7 @@ returns c =
     let w = c.in_ok-values.values in
     let ps = c.in_ok-positions.positions in
     let rows = c.in_ok-values.ensures.ok.same in
-    let are : ArePositions c.args.codes.now (tree_len v) ps = rw c.len-2.ensures at c.in_ok-positions.ensures in
+    let are : AreIndices c.args.codes.now (tree_len v) ps = rw c.len-2.ensures at c.in_ok-positions.ensures in
     let held : AreNumbers c.args.ptype w = numbers_of_kind w c.args.ptype (is_nullable_kind (kind_of v)) c.in_ok-values.ensures.ok.plain c.known.ensures (rows.kind ∙ c.requires.kind) in
     let bytes : c.as_slice.result.now ≡ bytes_in w = c.as_slice.ensures.value ∙ ap bytes_in (sym (ap tree_of c.in-Primitive.is) ∙ c.layout.ensures.parts) in
     appended_more _ _

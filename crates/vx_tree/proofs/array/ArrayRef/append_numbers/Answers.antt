@@ -19,7 +19,7 @@ returns-in_ok-extend_from_slice-in-Primitive c =
     let formed : WellFormed (primitive parts.ptype parts.bytes (valid_of parts.validity)) = rw parts.is at c.layout.ensures.formed in
     record {
       bytes = parts.bytes;
-      items = c.in_ok-extend_from_slice-in-Primitive.ensures.items ∙ ap (λ more. c.args.joined.now.items ++ more) c.as_slice.ensures.value;
+      items = c.in_ok-extend_from_slice-in-Primitive.ensures.items ∙ ap (λ more. c.args.before.items ++ more) c.as_slice.ensures.value;
       holds = plain_held c.args.self.now c.args.ptype parts.ptype parts.bytes (valid_of parts.validity) same formed c.requires;
     }
 
@@ -40,7 +40,7 @@ returns-in-Constant c =
     let told : c.unwrap_or-number.result ≡ unwrap_or (number_in s.row) (pos 0) = c.unwrap_or-number.ensures ∙ ap (λ n. unwrap_or n (pos 0)) c.as_int.ensures in
     let held : Holds c.args.ptype c.unwrap_or-number.result = rw told (constant_number c.args.self.now c.args.ptype s.kind s.row c.in-Constant.len same formed c.requires) in
     Gives-weaker c.append_number.result _ _
-    (λ x. appended_more c.args.joined.now.items c.append_number.new.joined.items
+    (λ x. appended_more c.args.before.items x.items
     (λ bs h.
     constant_held c.args.self.now c.args.ptype s.kind s.row c.in-Constant.len bs same formed c.requires
     (subst (λ z. AreRepeated c.args.ptype z c.in-Constant.len bs) (number_passed c.args.ptype c.unwrap_or-number.result held ∙ told) h)))
@@ -63,6 +63,6 @@ returns-in-Dict c =
     let parts = c.in-Dict in
     let same = sym c.layout.ensures.parts ∙ ap tree_of parts.is in
     Gives-weaker c.append_named.result _ _
-    (λ x. appended_more c.args.joined.now.items c.append_named.new.joined.items
+    (λ x. appended_more c.args.before.items x.items
     (λ bs. flagged_held c.args.self.now parts.codes parts.values parts.flag c.args.ptype bs same))
     c.append_named.ensures

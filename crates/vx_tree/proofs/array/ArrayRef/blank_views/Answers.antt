@@ -1,19 +1,31 @@
-use Rattle.std.proofs.Common.{◌≡◌, replicate, [], ap, ◌∙◌}
+use Rattle.std.proofs.Common.{◌≡◌, ap, sym, ◌∙◌}
 use Rattle.vx_base.specs.DTypes.{dtype_meaning}
+use Rattle.vx_base.specs.Kinds.{or_nullable}
 use Rattle.vx_base.proofs.Refused.{Gives-weaker}
-use Rattle.vx_views.specs.Views.{view_of}
-use Rattle.vx_tree.specs.Parts.{valid_of}
+use Rattle.vx_tree.specs.Tree.{view_array}
+use Rattle.vx_tree.specs.Parts.{tree_of, valid_of}
+use Rattle.vx_tree.specs.Meaning.{nullable}
+use Rattle.vx_tree.specs.Formed.{WellFormed}
 use Rattle.vx_tree.proofs.Blanks.{views_blank_formed, views_blank}
 use Rattle.vx_tree.proofs.array.ArrayRef.blank_views.Goals as goal
 
-pub var_bin_view-requires : goal.var_bin_view-requires
-var_bin_view-requires c =
-    let zeroes : c.in_ok-views.views ≡ replicate c.args.len (view_of [] 0 0) = c.in_ok-views.ensures ∙ c.in_ok-vec.ensures.items_if_clones_equal (λ y h. h) ∙ ap (replicate c.args.len) c.empty_view.ensures in
-    rw (c.in_ok-try_clone.ensures, c.new-buffers.ensures.items) (views_blank_formed c.in_ok-views.views (dtype_meaning c.args.dtype.now) (valid_of c.args.validity) c.args.len c.requires.kind c.requires.fits zeroes)
+pub empty_views-requires : goal.empty_views-requires
+empty_views-requires c =
+    let parts = c.in-VarBinView in
+    let k = dtype_meaning parts.dtype in
+    let v = valid_of parts.validity in
+    let w = valid_of c.args.validity in
+    let same = sym c.layout.ensures.parts ∙ ap tree_of parts.is in
+    let kind : dtype_meaning c.union_nullability-dtype.result ≡ or_nullable (nullable w) k = rw (c.nullability.ensures, c.in_ok-try_clone.ensures) at c.union_nullability-dtype.ensures in
+    let formed : WellFormed (view_array parts.views parts.buffers.items k v) = rw parts.is at c.layout.ensures.formed in
+    rw (c.deref.ensures.value, kind) (views_blank_formed c.args.self.now parts.views parts.buffers.items k v w c.args.len same formed c.requires.nullable c.requires.fits)
 
 pub returns : goal.returns
 returns c =
-    let zeroes : c.in_ok-views.views ≡ replicate c.args.len (view_of [] 0 0) = c.in_ok-views.ensures ∙ c.in_ok-vec.ensures.items_if_clones_equal (λ y h. h) ∙ ap (replicate c.args.len) c.empty_view.ensures in
-    Gives-weaker c.var_bin_view.result _ _
-    (λ a e. views_blank a c.in_ok-views.views (dtype_meaning c.args.dtype.now) (valid_of c.args.validity) c.args.len c.requires.kind c.requires.plain (rw (c.in_ok-try_clone.ensures, c.new-buffers.ensures.items) at e) zeroes)
-    c.var_bin_view.ensures
+    let parts = c.in-VarBinView in
+    let k = dtype_meaning parts.dtype in
+    let v = valid_of parts.validity in
+    let w = valid_of c.args.validity in
+    let same = sym c.layout.ensures.parts ∙ ap tree_of parts.is in
+    let kind : dtype_meaning c.union_nullability-dtype.result ≡ or_nullable (nullable w) k = rw (c.nullability.ensures, c.in_ok-try_clone.ensures) at c.union_nullability-dtype.ensures in
+    Gives-weaker c.empty_views.result _ _ (λ a e. views_blank c.args.self.now a parts.views parts.buffers.items k v w c.args.len same (rw (c.deref.ensures.value, kind) at e) c.requires.plain) c.empty_views.ensures

@@ -1,4 +1,4 @@
-use Rattle.std.proofs.Common.{◌≡◌, replicate, [], ap, sym, ◌∙◌}
+use Rattle.std.proofs.Common.{◌≡◌, replicate, [], ap, refl, sym, ◌∙◌}
 use Rattle.vx_base.specs.DTypes.{dtype_meaning}
 use Rattle.vx_base.specs.Kinds.{or_nullable}
 use Rattle.vx_base.proofs.Refused.{Gives-weaker}
@@ -10,8 +10,8 @@ use Rattle.vx_tree.specs.Formed.{WellFormed}
 use Rattle.vx_tree.proofs.ViewArrays.{nulls_formed, views_nulls}
 use Rattle.vx_tree.proofs.array.ArrayRef.null_views.Goals as goal
 
-pub views_over-requires : goal.views_over-requires
-views_over-requires c =
+pub empty_views-requires : goal.empty_views-requires
+empty_views-requires c =
     let views = c.in-VarBinView.views in
     let buffers = c.in-VarBinView.buffers.items in
     let k = dtype_meaning c.in-VarBinView.dtype in
@@ -20,9 +20,8 @@ views_over-requires c =
     let w = valid_of c.in_ok-validity.validity in
     let same = sym c.layout.ensures.parts ∙ ap tree_of c.in-VarBinView.is in
     let kind : dtype_meaning c.union_nullability-dtype.result ≡ or_nullable (nullable u) k = rw (c.nullability.ensures, c.in_ok-try_clone.ensures) at c.union_nullability-dtype.ensures in
-    let zeroes : c.in_ok-views.views ≡ replicate c.args.len (view_of [] 0 0) = c.in_ok-views.ensures ∙ c.in_ok-vec.ensures.items_if_clones_equal (λ y h. h) ∙ ap (replicate c.args.len) c.empty_view.ensures in
     let formed : WellFormed (view_array views buffers k v) = rw c.in-VarBinView.is at c.layout.ensures.formed in
-    rw (c.deref.ensures.value, kind) (nulls_formed views buffers c.in_ok-views.views k v u w c.args.len formed zeroes c.in_ok-validity.ensures)
+    rw (c.deref.ensures.value, kind) (nulls_formed views buffers (replicate c.args.len (view_of [] 0 0)) k v u w c.args.len formed refl c.in_ok-validity.ensures)
 
 pub returns : goal.returns
 returns c =
@@ -34,5 +33,4 @@ returns c =
     let w = valid_of c.in_ok-validity.validity in
     let same = sym c.layout.ensures.parts ∙ ap tree_of c.in-VarBinView.is in
     let kind : dtype_meaning c.union_nullability-dtype.result ≡ or_nullable (nullable u) k = rw (c.nullability.ensures, c.in_ok-try_clone.ensures) at c.union_nullability-dtype.ensures in
-    let zeroes : c.in_ok-views.views ≡ replicate c.args.len (view_of [] 0 0) = c.in_ok-views.ensures ∙ c.in_ok-vec.ensures.items_if_clones_equal (λ y h. h) ∙ ap (replicate c.args.len) c.empty_view.ensures in
-    Gives-weaker c.views_over.result _ _ (λ a e. views_nulls c.args.self.now a views buffers c.in_ok-views.views k v u w c.args.len same (rw (c.deref.ensures.value, kind) at e) zeroes c.in_ok-validity.ensures) c.views_over.ensures
+    Gives-weaker c.empty_views.result _ _ (λ a e. views_nulls c.args.self.now a views buffers (replicate c.args.len (view_of [] 0 0)) k v u w c.args.len same (rw (c.deref.ensures.value, kind) at e) refl c.in_ok-validity.ensures) c.empty_views.ensures

@@ -1,15 +1,14 @@
-use Rattle.std.proofs.Common.{◌≡◌, ap, ◌∙◌}
-use Rattle.vx_base.specs.DTypes.{dtype_meaning}
-use Rattle.vx_base.specs.Kinds.{or_nullable}
+use Rattle.vx_base.proofs.Refused.{Gives-weaker}
 use Rattle.vx_tree.specs.Parts.{valid_of}
-use Rattle.vx_tree.specs.Meaning.{kind_of, nullable}
-use Rattle.vx_tree.specs.Canonical.{plain_overflow}
-use Rattle.vx_tree.proofs.PlainKinds.{plain_overflow-or_nullable}
+use Rattle.vx_tree.proofs.Blanks.{nulls_may, nulls_made}
 use Rattle.vx_tree.proofs.array.ArrayRef.plain_nulls.Goals as goal
 
-pub blank-requires-clause-countable : goal.blank-requires-clause-countable
-blank-requires-clause-countable c =
-    let k = kind_of c.args.self.now in
-    let b = nullable (valid_of c.args.nulls.now) in
-    let kind : dtype_meaning c.union_nullability-dtype.result ≡ or_nullable b k = rw (c.nullability.ensures, c.in_ok-dtype.ensures, c.dtype.ensures) at c.union_nullability-dtype.ensures in
-    ap (λ x. plain_overflow x c.args.len) kind ∙ plain_overflow-or_nullable b k c.args.len ∙ c.requires.countable
+pub blank_like-requires-clause-nullable : goal.blank_like-requires-clause-nullable
+blank_like-requires-clause-nullable c =
+    nulls_may c.args.self.now (valid_of c.in_ok-own.own) (valid_of c.args.nulls.now) (valid_of c.in_ok-taken.taken) (valid_of c.in_ok-plain.plain) c.args.len c.in_ok-own.ensures c.in_ok-taken.ensures c.in_ok-plain.ensures
+
+pub returns : goal.returns
+returns c =
+    Gives-weaker c.blank_like.result _ _
+    (λ a h. nulls_made c.args.self.now a (valid_of c.in_ok-own.own) (valid_of c.args.nulls.now) (valid_of c.in_ok-taken.taken) (valid_of c.in_ok-plain.plain) c.args.len c.in_ok-own.ensures c.in_ok-taken.ensures c.in_ok-plain.ensures h)
+    c.blank_like.ensures

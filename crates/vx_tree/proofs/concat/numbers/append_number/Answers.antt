@@ -1,7 +1,7 @@
 use Rattle.std.proofs.Common.{◌≡◌, ◌∙◌, ap}
 use Rattle.vx_base.specs.Integers.{bytes_of}
-use Rattle.vx_tree.proofs.JoinedNumbers.{appended_more, repeated_within, repeated_picked}
 use Rattle.vx_base.proofs.NumberBytes.{number_passed}
+use Rattle.vx_tree.proofs.JoinedNumbers.{appended_more, repeated_within, repeated_picked}
 use Rattle.vx_tree.proofs.concat.numbers.append_number.Goals as goal
 
 pub append_picked-requires : goal.append_picked-requires

@@ -1,10 +1,9 @@
-use Rattle.std.proofs.Common.{◌≡◌, ◌+◌, ◌-◌, ◌<◌, ◌^◌, ℕ, length, get_or, take, ap, ◌∙◌, sym, arith}
-use Rattle.std.specs.List.{flat_map}
+use Rattle.std.proofs.Common.{◌≡◌, ◌+◌, ◌-◌, ◌<◌, ◌^◌, ℕ, length, get_or, ap, arith}
 use Rattle.std.proofs.lemmas.Grind.{common_steps}
 use Rattle.std.proofs.lemmas.List.Folds.{length-flat_map-take}
 use Rattle.std.proofs.lemmas.Result.{err_from_is_err_and}
 use Rattle.vx_base.proofs.Refused.{memory_alone}
-use Rattle.vx_tree.specs.Joined.{joined_len, bits_in}
+use Rattle.vx_tree.specs.Joined.{bits_in}
 use Rattle.vx_tree.proofs.JoinedLeaves.{length-bits}
 use Rattle.vx_tree.proofs.layouts.bool.joined_bits.Goals as goal
 

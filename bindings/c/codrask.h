@@ -1,0 +1,171 @@
+/* Columns from outside, tested by proved code.
+ *
+ * A column is a table of nodes. Each node is an array, and it stands before the nodes of its parts. codrask_check tells
+ * whether a table is a column, and if not, its first fault: which node, which row. What the calls of the first part answer
+ * is proved; docs/FROM_C.md says what is trusted of their caller. The second part reads Arrow's C Data Interface: it makes
+ * tables, and leaves every test to the first. */
+#ifndef CODRASK_H
+#define CODRASK_H
+
+#include <stddef.h>
+#include <stdint.h>
+
+#ifdef __cplusplus
+extern "C" {
+#endif
+
+/* ---- tables ---- */
+
+/* Some bytes. The pointer is never null, also where the count is 0. */
+struct codrask_bytes {
+    const uint8_t *bytes;
+    size_t count;
+};
+
+/* The view of a text or of a byte list, as Arrow's view layouts have it. */
+struct codrask_view {
+    uint8_t bytes[16];
+};
+
+/* What a node is. */
+enum codrask_kind {
+    CODRASK_BOOL = 0, /* bytes, offset: truth values, one to a bit */
+    CODRASK_U8 = 1,   /* bytes: numbers, the lowest byte first */
+    CODRASK_U16 = 2,
+    CODRASK_U32 = 3,
+    CODRASK_U64 = 4,
+    CODRASK_I8 = 5,
+    CODRASK_I16 = 6,
+    CODRASK_I32 = 7,
+    CODRASK_I64 = 8,
+    CODRASK_UTF8_VIEW = 9,        /* views, buffers: texts */
+    CODRASK_BINARY_VIEW = 10,     /* views, buffers: byte lists */
+    CODRASK_DICTIONARY = 11,      /* parts: codes, values */
+    CODRASK_FIXED_SIZE_LIST = 12, /* size; parts: elements */
+    CODRASK_LIST_VIEW = 13,       /* parts: elements, offsets, sizes */
+    CODRASK_STRUCT = 14           /* buffers: a name for each column; parts: columns */
+};
+
+/* Which rows are null. */
+enum codrask_validity {
+    CODRASK_NON_NULLABLE = 0, /* none can be. A dictionary has this: its codes tell of nulls */
+    CODRASK_ALL_VALID = 1,    /* none is */
+    CODRASK_ALL_INVALID = 2,  /* every row is */
+    CODRASK_BY_ARRAY = 3      /* those at which an array is false: the first of the node's parts */
+};
+
+/* An array. What its kind does not use is not looked at; a slice is a pointer that is never null, and a count. */
+struct codrask_node {
+    uint32_t kind;
+    uint32_t validity;
+    uint32_t size; /* how many rows each list of one size has */
+    size_t length; /* how many rows the array has */
+    size_t offset; /* the bit of the bytes at which truth values begin */
+    const uint8_t *bytes;
+    size_t byte_count;
+    const struct codrask_view *views;
+    size_t view_count;
+    const struct codrask_bytes *buffers;
+    size_t buffer_count;
+};
+
+/* The first fault of a table. */
+struct codrask_fault {
+    uint32_t number; /* 0 where there is none; 1 to 23 as codrask_fault_name tells; 32 to 36 of the table itself */
+    size_t node;     /* the node that has it, counted from 0 */
+    size_t place;    /* the row that has it, or the position that lies past a length; else 0 */
+};
+
+enum codrask_number {
+    CODRASK_MEMORY = 1,
+    CODRASK_MISMATCHED_TYPES = 2,
+    CODRASK_LENGTH_MISMATCH = 3,
+    CODRASK_NULLABILITY_MISMATCH = 4,
+    CODRASK_OUT_OF_BOUNDS = 5,
+    CODRASK_NEGATIVE = 6,
+    CODRASK_OVERFLOW = 7,
+    CODRASK_NOT_UTF8 = 13,
+    CODRASK_BAD_BUFFER = 14,
+    CODRASK_BAD_START = 15,
+    CODRASK_BAD_END = 16,
+    CODRASK_BAD_PREFIX = 17,
+    CODRASK_DEGENERATE_ELEMENTS = 23,
+    CODRASK_UNKNOWN_KIND = 32,   /* no kind has the number */
+    CODRASK_BAD_VALIDITY = 33,   /* no validity has the number, or a dictionary has one of its own */
+    CODRASK_MISSING_NODES = 34,  /* the nodes that follow are fewer arrays than the node has parts */
+    CODRASK_NOT_ONE_ARRAY = 35,  /* the nodes are no array, or several */
+    CODRASK_TOO_MANY_NODES = 36, /* more than 4096 */
+    CODRASK_BAD_ARROW = 64       /* of codrask_check_arrow: not a schema and an array that are read here */
+};
+
+/* The version of the proved calls and of the table: 1. */
+uint32_t codrask_version(void);
+
+/* Answers 0 where the nodes are a column, else the number of the first fault, which is then told in *fault: the nodes are
+ * read from the last to the first. CODRASK_MEMORY may come in place of any answer. Nothing is kept and nothing changed. */
+uint32_t codrask_check(const struct codrask_node *nodes, size_t node_count, struct codrask_fault *fault);
+
+/* The name of a number, as "OutOfBounds"; "" of a number that names nothing. */
+const char *codrask_fault_name(uint32_t number);
+
+/* ---- Arrow's C Data Interface ---- */
+
+#ifndef ARROW_C_DATA_INTERFACE
+#define ARROW_C_DATA_INTERFACE
+
+#define ARROW_FLAG_DICTIONARY_ORDERED 1
+#define ARROW_FLAG_NULLABLE 2
+#define ARROW_FLAG_MAP_KEYS_SORTED 4
+
+struct ArrowSchema {
+    const char *format;
+    const char *name;
+    const char *metadata;
+    int64_t flags;
+    int64_t n_children;
+    struct ArrowSchema **children;
+    struct ArrowSchema *dictionary;
+    void (*release)(struct ArrowSchema *);
+    void *private_data;
+};
+
+struct ArrowArray {
+    int64_t length;
+    int64_t null_count;
+    int64_t offset;
+    int64_t n_buffers;
+    int64_t n_children;
+    const void **buffers;
+    struct ArrowArray **children;
+    struct ArrowArray *dictionary;
+    void (*release)(struct ArrowArray *);
+    void *private_data;
+};
+
+#endif
+
+/* A table over the buffers of an Arrow array, which has to outlive it. */
+struct codrask_table {
+    struct codrask_node *nodes;
+    size_t count;
+    void *memory; /* what the table itself has */
+};
+
+/* Makes a table of an Arrow array: booleans ("b"), the eight types of integers, also as dates and times, texts and byte
+ * lists by offsets ("u", "U", "z", "Z") or by views ("vu", "vz"), lists ("+l", "+L", "+vl", "+vL", "+w:N"), structs ("+s") and dictionaries, at
+ * any offset. Answers 0, CODRASK_MEMORY, or CODRASK_BAD_ARROW where the format is another one (floats), a count is negative, a child
+ * is missing, texts by offsets go past 4 GiB, or the nest is deeper than 64 levels. Which column it is, or which fault it has,
+ * codrask_check tells. */
+uint32_t codrask_table_from_arrow(const struct ArrowSchema *schema, const struct ArrowArray *array, struct codrask_table *table);
+
+/* Gives back what a table has. */
+void codrask_table_free(struct codrask_table *table);
+
+/* Makes the table, checks it, and gives it back. */
+uint32_t codrask_check_arrow(const struct ArrowSchema *schema, const struct ArrowArray *array, struct codrask_fault *fault);
+
+#ifdef __cplusplus
+}
+#endif
+
+#endif

@@ -1,0 +1,69 @@
+/* Each allocation of a call fails in turn: the call answers Memory, or as it does with ample memory, and every block is
+ * given back. Linked with --wrap of malloc, realloc and free. The last line is 'N passed, M failed'. */
+#include "tables.h"
+
+#include <stdio.h>
+
+void *__real_malloc(size_t size);
+void *__real_realloc(void *block, size_t size);
+void __real_free(void *block);
+
+static long left = -1, held, tried;
+static bool counting;
+
+static bool refused(void) {
+    if (!counting)
+        return false;
+    tried++;
+    return left >= 0 && left-- == 0;
+}
+
+void *__wrap_malloc(size_t size) {
+    void *got = refused() ? NULL : __real_malloc(size);
+    held += counting && got;
+    return got;
+}
+
+void *__wrap_realloc(void *old, size_t size) {
+    void *got = refused() ? NULL : __real_realloc(old, size);
+    held += counting && got && !old;
+    return got;
+}
+
+void __wrap_free(void *old) {
+    held -= counting && old;
+    __real_free(old);
+}
+
+static struct made made;
+
+static uint32_t check(long fail_at, struct codrask_fault *fault) {
+    left = fail_at, held = tried = 0, counting = true;
+    uint32_t number = codrask_check(made.nodes, made.count, fault);
+    counting = false, left = -1;
+    return number;
+}
+
+int main(void) {
+    size_t passed = 0, failed = 0;
+    for (uint64_t seed = 1; seed <= 200; seed++) {
+        struct codrask_fault fault, other;
+        state = seed;
+        put_column(&made, 1 + random_below(12), 0);
+        if (seed % 2)
+            made.nodes[random_below(made.count)].length++;
+        uint32_t wanted = check(-1, &fault);
+        long calls = tried;
+        bool good = held == 0;
+        for (long i = 0; i < calls; i++) {
+            uint32_t number = check(i, &other);
+            good = good && held == 0 && (number == CODRASK_MEMORY || (number == wanted && !memcmp(&fault, &other, sizeof fault)));
+        }
+        good ? passed++ : failed++;
+        if (!good)
+            printf("seed %llu: %ld calls, %ld blocks held\n", (unsigned long long)seed, calls, held);
+        let_go(&made);
+    }
+    printf("%zu passed, %zu failed\n", passed, failed);
+    return failed != 0;
+}

@@ -1,0 +1,59 @@
+"""The shared object and its structures."""
+
+import ctypes
+import os
+
+
+class Bytes(ctypes.Structure):
+    _fields_ = [("bytes", ctypes.c_void_p), ("count", ctypes.c_size_t)]
+
+
+class Node(ctypes.Structure):
+    _fields_ = [
+        ("kind", ctypes.c_uint32),
+        ("validity", ctypes.c_uint32),
+        ("size", ctypes.c_uint32),
+        ("length", ctypes.c_size_t),
+        ("offset", ctypes.c_size_t),
+        ("bytes", ctypes.c_void_p),
+        ("byte_count", ctypes.c_size_t),
+        ("views", ctypes.c_void_p),
+        ("view_count", ctypes.c_size_t),
+        ("buffers", ctypes.POINTER(Bytes)),
+        ("buffer_count", ctypes.c_size_t),
+    ]
+
+
+class Fault(ctypes.Structure):
+    _fields_ = [("number", ctypes.c_uint32), ("node", ctypes.c_size_t), ("place", ctypes.c_size_t)]
+
+
+class Table(ctypes.Structure):
+    _fields_ = [("nodes", ctypes.POINTER(Node)), ("count", ctypes.c_size_t), ("memory", ctypes.c_void_p)]
+
+
+def find():
+    """The shared object: where CODRASK_LIBRARY says, or beside this file."""
+    return os.environ.get("CODRASK_LIBRARY") or os.path.join(os.path.dirname(__file__), "libcodrask.so")
+
+
+_loaded = None
+
+
+def load():
+    """The shared object, loaded once."""
+    global _loaded
+    if _loaded is None:
+        lib = ctypes.CDLL(find())
+        lib.codrask_version.restype = ctypes.c_uint32
+        lib.codrask_version.argtypes = []
+        lib.codrask_check.restype = ctypes.c_uint32
+        lib.codrask_check.argtypes = [ctypes.POINTER(Node), ctypes.c_size_t, ctypes.POINTER(Fault)]
+        lib.codrask_fault_name.restype = ctypes.c_char_p
+        lib.codrask_fault_name.argtypes = [ctypes.c_uint32]
+        lib.codrask_table_from_arrow.restype = ctypes.c_uint32
+        lib.codrask_table_from_arrow.argtypes = [ctypes.c_void_p, ctypes.c_void_p, ctypes.POINTER(Table)]
+        lib.codrask_table_free.restype = None
+        lib.codrask_table_free.argtypes = [ctypes.POINTER(Table)]
+        _loaded = lib
+    return _loaded

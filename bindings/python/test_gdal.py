@@ -1,0 +1,161 @@
+"""Columns that GDAL makes: each field of a layer, whole and by its rows, as GDAL hands it over by Arrow's C Data Interface. It runs
+where GDAL 3.6 or later is installed (Debian: python3-gdal). The last line is 'N passed, M failed'."""
+
+import ctypes
+import traceback
+
+from osgeo import gdal, ogr
+
+from codrask import Column, Refused
+
+gdal.UseExceptions()
+
+
+class Schema(ctypes.Structure):
+    pass
+
+
+class Array(ctypes.Structure):
+    pass
+
+
+Schema._fields_ = [
+    ("format", ctypes.c_char_p),
+    ("name", ctypes.c_char_p),
+    ("metadata", ctypes.c_char_p),
+    ("flags", ctypes.c_int64),
+    ("n_children", ctypes.c_int64),
+    ("children", ctypes.POINTER(ctypes.POINTER(Schema))),
+]
+Array._fields_ = [
+    ("length", ctypes.c_int64),
+    ("null_count", ctypes.c_int64),
+    ("offset", ctypes.c_int64),
+    ("n_buffers", ctypes.c_int64),
+    ("n_children", ctypes.c_int64),
+    ("buffers", ctypes.POINTER(ctypes.c_void_p)),
+    ("children", ctypes.POINTER(ctypes.POINTER(Array))),
+]
+
+LONG = "a text of more than twelve bytes"
+# each field: its type, its subtype, the values that GDAL is given, and the rows as they are kept (days and milliseconds since 1970)
+FIELDS = {
+    "whole": (ogr.OFTInteger, None, [7, None, -3], None),
+    "large": (ogr.OFTInteger64, None, [1 << 40, -(1 << 40), None], None),
+    "small": (ogr.OFTInteger, ogr.OFSTInt16, [None, -32768, 32767], None),
+    "truth": (ogr.OFTInteger, ogr.OFSTBoolean, [True, False, None], None),
+    "text": (ogr.OFTString, None, ["abc", None, LONG], None),
+    "date": (ogr.OFTDate, None, ["1970/01/02", None, "2000/01/01"], [1, None, 10957]),
+    "instant": (ogr.OFTDateTime, None, ["1970/01/01 00:00:01", "1970/01/02 00:00:00", None], [1000, 86400000, None]),
+    "wholes": (ogr.OFTIntegerList, None, [[3, 4], None, [1, 2, 3]], None),
+    "larges": (ogr.OFTInteger64List, None, [[1 << 40], [5, 6], [-1]], None),
+    "texts": (ogr.OFTStringList, None, [["a", LONG], ["b"], ["", "c"]], None),
+}
+
+
+def layer_of(names):
+    """A layer of three rows with these fields."""
+    source = ogr.GetDriverByName("Memory").CreateDataSource("x")
+    layer = source.CreateLayer("l", geom_type=ogr.wkbNone)
+    for name in names:
+        kind, subtype, _, _ = FIELDS[name]
+        field = ogr.FieldDefn(name, kind)
+        if subtype is not None:
+            field.SetSubType(subtype)
+        layer.CreateField(field)
+    for row in range(3):
+        feature = ogr.Feature(layer.GetLayerDefn())
+        for name in names:
+            value = FIELDS[name][2][row]
+            if value is None:
+                feature.SetFieldNull(name)
+            else:
+                feature[name] = value
+        layer.CreateFeature(feature)
+    return source, layer
+
+
+class Batch:
+    """The one record batch of a layer, and the columns that it is made of."""
+
+    def __init__(self, names):
+        self.source, layer = layer_of(names)
+        self.stream = layer.GetArrowStream()
+        self.own_schema, self.own_array = self.stream.GetSchema(), self.stream.GetNextRecordBatch()
+        self.schema = Schema.from_address(self.own_schema._getPtr())
+        self.array = Array.from_address(self.own_array._getPtr())
+        self.places = {self.schema.children[i].contents.name.decode(): i for i in range(self.schema.n_children)}
+
+    def column(self, name):
+        at = self.places[name]
+        return Column.from_arrow(
+            ctypes.addressof(self.schema.children[at].contents), ctypes.addressof(self.array.children[at].contents), self
+        )
+
+    def whole(self):
+        return Column.from_arrow(self.own_schema._getPtr(), self.own_array._getPtr(), self)
+
+    def numbers(self, name, buffer, kind):
+        """A buffer of a field, to be written."""
+        address = self.array.children[self.places[name]].contents.buffers[buffer]
+        return (kind * 4).from_address(address)
+
+
+def rows_of(name):
+    return FIELDS[name][3] or FIELDS[name][2]
+
+
+def refused(column):
+    fault = column.fault()
+    return fault and (fault.name, fault.node, fault.row)
+
+
+def test_fields():
+    batch = Batch(list(FIELDS))
+    for name in FIELDS:
+        assert batch.column(name).to_pylist() == rows_of(name), (name, batch.column(name).to_pylist())
+
+
+def test_records():
+    batch = Batch(list(FIELDS))
+    wanted = [{name: rows_of(name)[i] for name in FIELDS} for i in range(3)]
+    got = batch.whole().to_pylist()
+    assert [{name: row[name] for name in FIELDS} for row in got] == wanted, got
+    assert [row["OGC_FID"] for row in got] == [0, 1, 2], got
+
+
+def test_offset_that_falls():
+    batch = Batch(["wholes"])
+    batch.numbers("wholes", 1, ctypes.c_int32)[2] = 1
+    assert refused(batch.column("wholes")) == ("Negative", 0, 1)
+
+
+def test_offset_past_the_elements():
+    batch = Batch(["wholes"])
+    batch.numbers("wholes", 1, ctypes.c_int32)[3] = 1000
+    assert refused(batch.column("wholes")) == ("OutOfBounds", 0, 1000)
+
+
+def test_bytes_that_are_no_text():
+    batch = Batch(["text"])
+    batch.numbers("text", 2, ctypes.c_uint8)[1] = 0xFF
+    assert refused(batch.column("text")) == ("NotUtf8", 0, 0)
+
+
+def test_text_astray():
+    batch = Batch(["text"])
+    batch.numbers("text", 1, ctypes.c_int32)[2] = 1000
+    assert refused(batch.column("text")) == ("BadBuffer", 0, 2)
+
+
+passed = failed = 0
+for name, test in sorted(globals().items()):
+    if name.startswith("test_"):
+        try:
+            test()
+            passed += 1
+        except Exception:
+            traceback.print_exc()
+            failed += 1
+print(f"{passed} passed, {failed} failed")
+raise SystemExit(failed != 0)

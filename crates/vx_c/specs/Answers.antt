@@ -1,0 +1,77 @@
+-- What C is told of a table.
+use Rattle.std.specs.Prelude.{◌≡◌, ℕ, Option, Some, None, Result, Ok, Err, MatchResult, option_map, ◌⊎◌}
+use Rattle.vx_base.specs.declared.errors.VortexError.{VortexError}
+use Rattle.vx_base.specs.declared.errors.VortexError.TheVariants.{Memory, OutOfBounds, Negative, NotUtf8, BadBuffer, BadStart, BadEnd, BadPrefix}
+use Rattle.vx_base.specs.declared.errors.VortexError.TheVariants.{ValueTooLong, FallingOffsets, PatchOutOfRange}
+use Rattle.vx_base.specs.Refusals.{Refusal, refusal_of, error_number}
+use Rattle.vx_c.specs.declared.faults.CodraskFault.{CodraskFault}
+use Rattle.vx_c.specs.declared.faults.NodeError.{NodeError}
+use Rattle.vx_c.specs.declared.faults.NodeError.TheVariants.{UnknownKind, BadValidity, MissingNodes, NotOneArray, TooManyNodes, Refused}
+use Rattle.vx_c.specs.Tables.{NodeFault, unknown_kind, bad_validity, missing_nodes, not_one_array, too_many_nodes, refused, fault_in}
+
+-- the row or the position that an error names, else 0
+abbrev pub error_place : VortexError → ℕ
+error_place (OutOfBounds index len) = index
+error_place (Negative row) = row
+error_place (NotUtf8 row) = row
+error_place (BadBuffer row) = row
+error_place (BadStart row) = row
+error_place (BadEnd row) = row
+error_place (BadPrefix row) = row
+error_place (ValueTooLong row) = row
+error_place (FallingOffsets row) = row
+error_place (PatchOutOfRange row) = row
+error_place _ = 0
+
+-- the fault that an error names: none where memory was refused
+abbrev pub fault_of : NodeError → Option NodeFault
+fault_of UnknownKind = Some unknown_kind
+fault_of BadValidity = Some bad_validity
+fault_of MissingNodes = Some missing_nodes
+fault_of NotOneArray = Some not_one_array
+fault_of TooManyNodes = Some too_many_nodes
+fault_of (Refused e) = option_map refused (refusal_of e)
+
+-- the number of an error, and its place
+abbrev pub node_error_number : NodeError → ℕ
+node_error_number UnknownKind = 32
+node_error_number BadValidity = 33
+node_error_number MissingNodes = 34
+node_error_number NotOneArray = 35
+node_error_number TooManyNodes = 36
+node_error_number (Refused e) = error_number e
+
+abbrev pub node_error_place : NodeError → ℕ
+node_error_place (Refused e) = error_place e
+node_error_place _ = 0
+
+-- ---- which fault is answered
+
+-- an error is want of memory, or the fault that stands
+abbrev pub IsFaultOf : {A : Type 0} → NodeError → Result A NodeFault → Type 0
+IsFaultOf e r = (e ≡ Refused Memory) ⊎ (fault_in r ≡ fault_of e)
+
+-- the same of a table: the fault with its node
+abbrev pub with_node : ℕ → Option NodeFault → Option (ℕ × NodeFault)
+with_node i fault = option_map (λ f. (i, f)) fault
+
+abbrev pub IsTableFault : {A : Type 0} → ℕ × NodeError → Result A (ℕ × NodeFault) → Type 0
+IsTableFault p r = (p.1 ≡ Refused Memory) ⊎ (fault_in r ≡ with_node p.0 (fault_of p.1))
+
+-- a call answers Ok only where the table has no fault, else its fault, or want of memory
+abbrev pub IsRead : {A : Type 0} → Result A (ℕ × NodeError) → Option (ℕ × NodeFault) → Type 0
+IsRead r fault = MatchResult r (λ _. fault ≡ None) (λ p. (p.1 ≡ Refused Memory) ⊎ (fault ≡ with_node p.0 (fault_of p.1)))
+
+-- what C is told
+abbrev pub told_of : {A : Type 0} → Result A (ℕ × NodeError) → CodraskFault
+told_of (Ok a) = record { number = 0; node = 0; place = 0 }
+told_of (Err p) = record { number = node_error_number p.1; node = p.0; place = node_error_place p.1 }
+
+-- C is told that memory was refused, or that there is no fault where there is none, or the fault: its node, and the number and
+-- the place of the error that names it
+abbrev pub IsAnswer : CodraskFault → Option (ℕ × NodeFault) → Type 0
+IsAnswer told None = (told.number ≡ 1) ⊎ (told ≡ record { number = 0; node = 0; place = 0 })
+IsAnswer told (Some (i, f)) =
+    (told.number ≡ 1)
+    ⊎ ((e : NodeError) × (fault_of e ≡ Some f)
+    × (told ≡ record { number = node_error_number e; node = i; place = node_error_place e }))

@@ -1,0 +1,91 @@
+// A column as C hands it over: nodes, each before the nodes of its parts.
+
+ghost use Rattle.std.specs.Prelude.{◌≡◌};
+ghost use Rattle.vx_c.specs.NodeKinds.{kind_numbered};
+
+use vx_base::PType;
+
+/// Some bytes: in C a pointer, which is never null, and a count.
+#[repr(C)]
+#[derive(Drop)]
+pub struct CodraskBytes<'a> {
+    pub bytes: &'a [u8],
+}
+
+/// A view of a text or of a byte list, in its 16 bytes.
+#[repr(C)]
+#[derive(Drop)]
+pub struct CodraskView {
+    pub bytes: [u8; 16],
+}
+
+/// One array of a column, as it stands in the table, before the nodes of its parts. What the kind
+/// does not use is not looked at.
+#[repr(C)]
+#[derive(Drop)]
+pub struct CodraskNode<'a> {
+    /// Which layout, and of numbers which type: a number of `NodeKind`.
+    pub kind: u32,
+    /// Which rows are null: 0 none can be, 1 none is, 2 every row is, 3 those at which the first
+    /// array of the nodes that follow is false. A dictionary has 0.
+    pub validity: u32,
+    /// How many rows each list of one size has.
+    pub size: u32,
+    /// How many rows the array has.
+    pub length: usize,
+    /// The bit of `bytes` at which truth values begin.
+    pub offset: usize,
+    /// Truth values, one to a bit, or numbers, their lowest byte first.
+    pub bytes: &'a [u8],
+    /// The views of texts or byte lists.
+    pub views: &'a [CodraskView],
+    /// What the views refer to; of records, the names of the columns.
+    pub buffers: &'a [CodraskBytes<'a>],
+}
+
+// What a node says that it is.
+#[derive(Clone, Copy, Debug, PartialEq, Eq)]
+pub(crate) enum NodeKind {
+    // Truth values.
+    Bool,
+    // Whole numbers of a type.
+    Number(PType),
+    // Texts by views.
+    Utf8,
+    // Byte lists by views.
+    Binary,
+    // The arrays of two nodes: codes, values.
+    Dictionary,
+    // The array of one node: elements.
+    FixedSizeList,
+    // The arrays of three nodes: elements, offsets, sizes.
+    ListView,
+    // An array for each name.
+    Struct,
+}
+
+impl NodeKind {
+    // The kind of this number.
+    pub(crate) fn numbered(number: u32) -> Option<NodeKind>
+        ensures { result ≡ kind_numbered number }
+    {
+        let kinds = [
+            NodeKind::Bool,
+            NodeKind::Number(PType::U8),
+            NodeKind::Number(PType::U16),
+            NodeKind::Number(PType::U32),
+            NodeKind::Number(PType::U64),
+            NodeKind::Number(PType::I8),
+            NodeKind::Number(PType::I16),
+            NodeKind::Number(PType::I32),
+            NodeKind::Number(PType::I64),
+            NodeKind::Utf8,
+            NodeKind::Binary,
+            NodeKind::Dictionary,
+            NodeKind::FixedSizeList,
+            NodeKind::ListView,
+            NodeKind::Struct,
+        ];
+        kinds.get(number as usize).copied()
+    }
+}

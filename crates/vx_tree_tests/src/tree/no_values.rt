@@ -1,0 +1,92 @@
+// Dictionaries without values in plain layout: rows of null over the elements and the buffers that
+// the values have.
+
+ghost use Rattle.std.specs.Prelude.{◌≡◌, true, IfOk};
+ghost use Rattle.vx_base.specs.Kinds.{integers};
+ghost use Rattle.vx_base.specs.Rows.{null};
+ghost use Rattle.vx_base.specs.declared.ptypes.PType.TheVariants.{U8};
+ghost use Rattle.vx_tree.specs.Tree.{constant};
+
+use super::fixed_size_lists::pairs;
+use super::lists;
+use super::views::texts;
+use std::alloc::Global;
+use std::process::Abort;
+use vx_base::{DType, Nullability, PType, Scalar, VortexError};
+use vx_tree::{ArrayRef, Layout, Validity};
+
+// Two null codes.
+fn null_codes(alloc: Global) -> Result<ArrayRef, VortexError>
+    ensures { IfOk result (λ a. a ≡ constant (integers U8 true) null 2) }
+{
+    let null = Scalar::null(DType::Primitive(PType::U8, Nullability::Nullable));
+    ArrayRef::constant(alloc, null, 2)
+}
+
+// Two rows of null, by these codes.
+fn null_rows(alloc: Global, values: ArrayRef) -> Result<ArrayRef, VortexError> {
+    ArrayRef::dictionary(alloc, null_codes(alloc)?, values, false)
+}
+
+#[test]
+fn texts_keep_their_buffers(rt: HostRuntime) -> Result<(), VortexError> {
+    let alloc = rt.alloc();
+    let values = texts(alloc)?.slice(alloc, 0..0)?;
+    let array = null_rows(alloc, values)?;
+    let joined = ArrayRef::concat(alloc, std::slice::from_ref(&array))?;
+    let Layout::VarBinView { buffers, .. } = joined.layout() else {
+        panic!(rt; "no texts");
+    };
+    assert!(rt; joined.len() == 2 && buffers.len() == 1);
+    assert!(rt; !joined.is_valid(alloc, 0)? && !joined.is_valid(alloc, 1)?);
+    Ok(())
+}
+
+#[test]
+fn lists_keep_their_elements(rt: HostRuntime) -> Result<(), VortexError> {
+    let alloc = rt.alloc();
+    let values = lists(alloc)?.slice(alloc, 0..0)?;
+    let array = null_rows(alloc, values)?;
+    let joined = ArrayRef::concat(alloc, std::slice::from_ref(&array))?;
+    let Layout::ListView { elements, .. } = joined.layout() else {
+        panic!(rt; "no list view");
+    };
+    assert!(rt; joined.len() == 2 && elements.len() == 4);
+    assert!(rt; !joined.is_valid(alloc, 0)? && !joined.is_valid(alloc, 1)?);
+    Ok(())
+}
+
+#[test]
+fn lists_of_one_size_have_elements_for_each_row(rt: HostRuntime) -> Result<(), VortexError> {
+    let alloc = rt.alloc();
+    let values = pairs(alloc)?.slice(alloc, 0..0)?;
+    let array = null_rows(alloc, values)?;
+    let plain = array.to_canonical(alloc)?;
+    let Layout::FixedSizeList { elements, .. } = plain.layout() else {
+        panic!(rt; "no lists of one size");
+    };
+    assert!(rt; plain.len() == 2 && elements.len() == 4);
+    assert!(rt; matches!(elements.layout(), Layout::Primitive { .. }));
+    Ok(())
+}
+
+#[test]
+fn lists_within_lists_keep_their_elements(rt: HostRuntime) -> Result<(), VortexError> {
+    let alloc = rt.alloc();
+    let none = lists(alloc)?.slice(alloc, 0..0)?;
+    let values = ArrayRef::fixed_size_list(alloc, none, 3, Validity::NonNullable, 0)?;
+    let array = null_rows(alloc, values)?;
+    let plain = array.to_canonical(alloc)?;
+    let Layout::FixedSizeList { elements, .. } = plain.layout() else {
+        panic!(rt; "no lists of one size");
+    };
+    let Layout::ListView {
+        elements: within,
+        ..
+    } = elements.layout()
+    else {
+        panic!(rt; "no list view");
+    };
+    assert!(rt; elements.len() == 6 && within.len() == 4);
+    Ok(())
+}

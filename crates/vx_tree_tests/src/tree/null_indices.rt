@@ -1,0 +1,108 @@
+// Indices and codes of which some are null: what stands in a null row is not looked at.
+
+use super::{booleans, dictionary, indices, number, numbers};
+use crate::tree::validities::expect_valid;
+use std::alloc::Global;
+use std::process::Abort;
+use vx_base::{BitBuffer, Mask, PType, VortexError};
+use vx_tree::{ArrayRef, Layout, Validity};
+
+// The numbers 5, 6, 9.
+fn three_numbers(alloc: Global) -> Result<ArrayRef, VortexError> {
+    numbers(alloc, PType::U8, &[5, 6, 9], Validity::NonNullable)
+}
+
+// Three indices, each in a byte, of which the first is null.
+fn null_first(alloc: Global, first: u8, second: u8, third: u8) -> Result<ArrayRef, VortexError> {
+    let validity = Validity::Array(booleans(alloc, &[false, true, true])?);
+    numbers(alloc, PType::I8, &[first, second, third], validity)
+}
+
+// Stops unless the three numbers taken by these are null, 9, 5.
+fn expect_null_nine_five(
+    rt: &impl Abort,
+    alloc: Global,
+    indices: &ArrayRef,
+) -> Result<(), VortexError> {
+    let taken = three_numbers(alloc)?.take(alloc, indices)?;
+    assert!(rt; taken.len() == 3 && number(rt, &taken, 0) == None);
+    assert!(rt; number(rt, &taken, 1) == Some(9) && number(rt, &taken, 2) == Some(5));
+    Ok(())
+}
+
+#[test]
+fn a_null_index_over_any_number(rt: HostRuntime) -> Result<(), VortexError> {
+    let alloc = rt.alloc();
+    expect_null_nine_five(&rt, alloc, &null_first(alloc, 1, 2, 0)?)?;
+    expect_null_nine_five(&rt, alloc, &null_first(alloc, 100, 2, 0)?)?;
+    expect_null_nine_five(&rt, alloc, &null_first(alloc, 255, 2, 0)?)
+}
+
+#[test]
+fn a_faulty_index_after_a_null_one(rt: HostRuntime) -> Result<(), VortexError> {
+    let alloc = rt.alloc();
+    let past = three_numbers(alloc)?.take(alloc, &null_first(alloc, 100, 3, 255)?);
+    let found = match past {
+        Err(VortexError::OutOfBounds { index: 3, len: 3 }) => true,
+        _ => false,
+    };
+    assert!(rt; found);
+    let negative = three_numbers(alloc)?.take(alloc, &null_first(alloc, 100, 2, 255)?);
+    let found = match negative {
+        Err(VortexError::Negative { row: 2 }) => true,
+        _ => false,
+    };
+    assert!(rt; found);
+    Ok(())
+}
+
+#[test]
+fn indices_that_are_all_null(rt: HostRuntime) -> Result<(), VortexError> {
+    let alloc = rt.alloc();
+    let nulls = numbers(alloc, PType::U8, &[100, 200], Validity::AllInvalid)?;
+    let taken = three_numbers(alloc)?.take(alloc, &nulls)?;
+    assert!(rt; taken.len() == 2 && number(&rt, &taken, 0) == None);
+    assert!(rt; number(&rt, &taken, 1) == None);
+    Ok(())
+}
+
+#[test]
+fn a_validity_by_a_null_index_over_any_number(rt: HostRuntime) -> Result<(), VortexError> {
+    let alloc = rt.alloc();
+    let rows = Validity::Array(booleans(alloc, &[true, false, true])?);
+    let taken = rows.take(alloc, &null_first(alloc, 100, 2, 1)?)?;
+    expect_valid(&rt, alloc, &taken, &[false, true, false])
+}
+
+// Stops unless the array is a dictionary of three values.
+fn expect_three_values(rt: &impl Abort, array: &ArrayRef) {
+    let found = match array.layout() {
+        Layout::Dict { values, .. } => values.len() == 3,
+        _ => false,
+    };
+    assert!(rt; found);
+}
+
+#[test]
+fn a_dictionary_keeps_its_values(rt: HostRuntime) -> Result<(), VortexError> {
+    let alloc = rt.alloc();
+    let array = dictionary(alloc)?;
+    expect_three_values(&rt, &array.slice(alloc, 1..2)?);
+    expect_three_values(&rt, &array.take(alloc, &indices(alloc)?)?);
+    expect_three_values(&rt, &array.filter(alloc, &Mask::new_false(5))?);
+    let mask = booleans(alloc, &[true, false, true, false, false])?;
+    expect_three_values(&rt, &array.mask(alloc, &mask)?);
+    Ok(())
+}
+
+#[test]
+fn bits_that_begin_within_a_byte_are_turned(rt: HostRuntime) -> Result<(), VortexError> {
+    let alloc = rt.alloc();
+    let bits = [
+        true, true, true, false, true, true, false, false, true, false, true, true,
+    ];
+    let bits = BitBuffer::from_bools(alloc, &bits)?.slice(alloc, 3..11)?;
+    let rows = Validity::Array(ArrayRef::bools(alloc, bits, Validity::NonNullable)?);
+    let want = [true, false, false, true, true, false, true, false];
+    expect_valid(&rt, alloc, &rows.not(alloc)?, &want)
+}

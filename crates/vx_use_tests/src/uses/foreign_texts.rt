@@ -1,0 +1,61 @@
+// Texts of foreign views, accepted and read, or refused.
+
+use super::column_of_bits;
+use std::alloc::Global;
+use std::test::Fail;
+use vx_base::{Buffer, ByteBuffer, VortexError};
+use vx_tree::Validity;
+use vx_uses::foreign_texts::foreign_texts;
+use vx_views::BinaryView;
+
+// Whether a text is there, and is this one.
+fn is_text(found: &Option<String>, wanted: &str) -> bool {
+    match found {
+        Some(text) => text.as_str() == wanted,
+        None => false,
+    }
+}
+
+// The texts of these views over the 16 bytes `..a longer text.`, none of them null.
+fn read(alloc: Global, views: &[BinaryView]) -> Result<Vec<Option<String>>, VortexError> {
+    let views = Buffer::copy_from(alloc, views)?;
+    let buffers = [ByteBuffer::copy_from(alloc, b"..a longer text.")?];
+    foreign_texts(alloc, &views, &buffers, &Validity::NonNullable)
+}
+
+#[test]
+fn foreign_views_are_read(rt: HostRuntime) -> Result<(), Fail> {
+    let alloc = rt.alloc();
+    let short = BinaryView::new_inlined(b"abc");
+    let long = BinaryView::new_ref(13, *b"a lo", 0, 2);
+    let anything = BinaryView::new_ref(99, *b"????", 7, 5);
+    let views = Buffer::copy_from(alloc, &[short, long, anything])?;
+    let buffers = [ByteBuffer::copy_from(alloc, b"..a longer text.")?];
+    let validity = Validity::Array(column_of_bits(alloc, &[true, true, false])?);
+    let texts = foreign_texts(alloc, &views, &buffers, &validity)?;
+    assert!(rt; texts.len() == 3 && texts[2].is_none());
+    assert!(rt; is_text(&texts[0], "abc") && is_text(&texts[1], "a longer text"));
+    assert!(rt; views.value(2) == anything);
+    assert!(rt; buffers[0].as_slice() == b"..a longer text.".as_slice());
+    let short_by_one = Validity::Array(column_of_bits(alloc, &[true, true])?);
+    let refused = foreign_texts(alloc, &views, &buffers, &short_by_one);
+    assert!(rt; matches!(refused, Err(VortexError::LengthMismatch { .. })));
+    Ok(())
+}
+
+#[test]
+fn foreign_views_are_refused(rt: HostRuntime) -> Result<(), Fail> {
+    let alloc = rt.alloc();
+    let short = BinaryView::new_inlined(b"abc");
+    let refused = read(alloc, &[short, BinaryView::new_ref(13, *b"a lo", 1, 2)]);
+    assert!(rt; matches!(refused, Err(VortexError::BadBuffer { row: 1 })));
+    let refused = read(alloc, &[short, BinaryView::new_ref(13, *b"a lo", 0, 16)]);
+    assert!(rt; matches!(refused, Err(VortexError::BadStart { row: 1 })));
+    let refused = read(alloc, &[short, BinaryView::new_ref(13, *b"long", 0, 4)]);
+    assert!(rt; matches!(refused, Err(VortexError::BadEnd { row: 1 })));
+    let refused = read(alloc, &[short, BinaryView::new_ref(13, *b"a lo", 0, 3)]);
+    assert!(rt; matches!(refused, Err(VortexError::BadPrefix { row: 1 })));
+    let refused = read(alloc, &[BinaryView::new_inlined(b"\xFF"), short]);
+    assert!(rt; matches!(refused, Err(VortexError::NotUtf8 { row: 0 })));
+    Ok(())
+}
