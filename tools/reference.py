@@ -40,6 +40,7 @@ class Array(NamedTuple):
     count: int = 0  # of a dictionary's values
     buffers: int = 0  # that its texts have in plain layout
     flag: bool = False
+    has_bits: bool = False  # whether its validity may lie in bits
     is_exact: bool = True  # whether a rule fixes each number that `parts` prints
 
     def is_plain_integers(self) -> bool:
@@ -123,6 +124,11 @@ def want_rows(validity, count: int):
     want(isinstance(validity, str) or validity.rows.count == count, "LengthMismatch")
 
 
+def may_be_bits(validity) -> bool:
+    """Whether a validity may lie in bits."""
+    return not isinstance(validity, str) and validity.layout != "constant"
+
+
 def mask_of(validity, count: int) -> Rows:
     """Which of so many rows a validity says are there."""
     want_rows(validity, count)
@@ -150,6 +156,7 @@ def list_view(elements: Array, offsets: Array, sizes: Array, validity) -> Array:
         rows.append((elements.rows.between(offset, offset + size), times))
     rows = masked(Rows(rows), mask)
     parts = {"elements": elements, "offsets": offsets, "sizes": sizes}
+    parts["has_bits"] = may_be_bits(validity)
     return Array("listview", "list", validity != "nonnull", rows, **parts)
 
 
@@ -160,7 +167,8 @@ def fixed_lists(elements: Array, size: int, validity, count: int) -> Array:
     want(count * size < 2**64, "Overflow")
     want(elements.rows.count == count * size, "LengthMismatch")
     rows = masked(blocks(elements.rows, size, count), mask_of(validity, count))
-    return Array("fixed", "fixed", validity != "nonnull", rows, elements=elements, size=size)
+    parts = {"elements": elements, "size": size, "has_bits": may_be_bits(validity)}
+    return Array("fixed", "fixed", validity != "nonnull", rows, **parts)
 
 
 def records(count: int, validity, names: List[str], columns: List[Array]) -> Array:
@@ -169,7 +177,7 @@ def records(count: int, validity, names: List[str], columns: List[Array]) -> Arr
     want(all(column.rows.count == count for column in columns), "LengthMismatch")
     fields = zipped(repeated(None, count), *[column.rows for column in columns])
     rows = masked(Rows((tuple(zip(names, row[1:])), times) for row, times in fields), mask)
-    parts = {"names": tuple(names), "columns": tuple(columns)}
+    parts = {"names": tuple(names), "columns": tuple(columns), "has_bits": may_be_bits(validity)}
     return Array("struct", "record", validity != "nonnull", rows, **parts)
 
 
@@ -252,6 +260,14 @@ def weight(array: Array, count: int) -> int:
     if array.layout == "primitive":
         return count * int(array.kind[1:]) // 8
     return count * {"constant": 0, "bool": 1, "views": 128, "rows": 128}[array.layout] // 8
+
+
+def validity_weight(array: Array, count: int) -> int:
+    """How many bytes the validities of so many rows take at most, those of their parts too."""
+    own = count // 8 if array.has_bits else 0
+    if array.layout == "fixed":
+        return own + validity_weight(array.elements, count * array.size)
+    return own + sum(validity_weight(column, count) for column in array.columns)
 
 
 def made(array: Array) -> Array:
@@ -337,7 +353,8 @@ def take(array: Array, indices: Array) -> Array:
     rows = selected(array, indices)
     want(fits_usize(array, indices.rows.count), "Overflow")
     array = array if array.rows.count > 0 else default_parts(array)
-    taken = array._replace(rows=rows, nullable=array.nullable or indices.nullable)
+    has_bits = array.has_bits or (indices.nullable and may_be_bits(indices))
+    taken = array._replace(rows=rows, nullable=array.nullable or indices.nullable, has_bits=has_bits)
     if array.layout == "listview":
         is_exact = array.is_exact and None not in indices.rows
         there = numbers("u64", indices.rows.changed(lambda index: index or 0))
@@ -379,7 +396,8 @@ def filter_array(array: Array, mask: Array) -> Array:
 
 def mask_array(array: Array, mask: Array) -> Array:
     want_mask(array, mask)
-    nulled = array._replace(rows=masked(array.rows, mask.rows), nullable=True)
+    has_bits = array.has_bits or may_be_bits(mask)
+    nulled = array._replace(rows=masked(array.rows, mask.rows), nullable=True, has_bits=has_bits)
     if array.layout == "dict":
         codes = array.codes._replace(rows=masked(array.codes.rows, mask.rows), nullable=True)
         return nulled._replace(codes=codes)
@@ -424,6 +442,7 @@ def concat(*arrays: Array) -> Array:
         columns=tuple(map(concat, *[map(without_rows, array.columns) for array in arrays])),
         buffers=sum(array.buffers for array in arrays),
         flag=False,
+        has_bits=arrays[0].nullable,
         is_exact=True,
     )
     if kind == "list":
