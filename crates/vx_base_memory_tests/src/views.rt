@@ -1,7 +1,7 @@
 // Views and the checks of views.
 
 use std::alloc::Global;
-use vx_base::{ByteBuffer, Mask, VortexError};
+use vx_base::{BitBuffer, ByteBuffer, Mask, VortexError};
 use vx_memory_help::{End, have_same_bytes, judged};
 use vx_views::{
     BinaryView, build_views, build_views_from_offsets, check_and_empty_views, check_views,
@@ -43,8 +43,8 @@ fn checked(alloc: Global, buffers: &[ByteBuffer]) -> Result<bool, VortexError> {
     let mask = Mask::new_true(1);
     check_views(alloc, &views, &mask, buffers, true, 0)?;
     check_views(alloc, &views, &mask, buffers, true, 99)?;
-    check_views_counted(alloc, &views, &mask, buffers, true, 99)?;
-    Ok(true)
+    let left = check_views_counted(alloc, &views, &mask, buffers, true, 99)?;
+    Ok(left == 0)
 }
 
 #[test]
@@ -57,13 +57,25 @@ fn views_that_are_checked(rt: HostRuntime) -> Result<(), End> {
 }
 
 // `check_and_empty_views`: the view of the null row becomes zeros where it does not fail.
+fn emptied(
+    alloc: Global,
+    views: &mut [BinaryView],
+    buffers: &[ByteBuffer],
+) -> Result<bool, VortexError> {
+    let mask = Mask::from_buffer(alloc, BitBuffer::from_bools(alloc, &[true, false])?)?;
+    if views.len() != 2 || mask.len() != 2 {
+        return Ok(false);
+    }
+    let left = check_and_empty_views(alloc, views, &mask, buffers, true, 99)?;
+    Ok(views[1].as_u128() == 0 && left == 0)
+}
+
 #[test]
 fn views_that_are_emptied(rt: HostRuntime) -> Result<(), End> {
     let (buffers, copies) = (one_text(rt.alloc())?, one_text(rt.alloc())?);
     let view = BinaryView::make_view(VALUES, 0, 0);
-    let mut views = [view];
-    let null = Mask::new_false(1);
-    let answer = check_and_empty_views(rt.alloc(), &mut views, &null, &buffers, true, 99);
-    let is_right = answer.is_err() || views[0].as_u128() == 0;
-    judged(answer.map(|_| is_right), have_same_bytes(&buffers, &copies))
+    let mut views = [view, view];
+    let answer = emptied(rt.alloc(), &mut views, &buffers);
+    let is_kept = views[0] == view && have_same_bytes(&buffers, &copies);
+    judged(answer, is_kept)
 }
