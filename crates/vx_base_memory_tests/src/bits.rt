@@ -60,8 +60,14 @@ fn joined(alloc: Global, given: &Given) -> Result<bool, VortexError> {
     }
     let last = bits.slice(alloc, 1..3)?;
     let shared = bits.try_clone(alloc)?;
-    let both = bits.and(alloc, &shared)?;
-    Ok(last.len() == 2 && last.value(1) && !last.value(0) && are_three(&both, true, false, true))
+    let both = bits.and(alloc, bits)?;
+    Ok(
+        last.len() == 2
+            && last.value(1)
+            && !last.value(0)
+            && shared == *bits
+            && are_three(&both, true, false, true),
+    )
 }
 
 #[test]
@@ -70,8 +76,8 @@ fn bits_that_are_joined(rt: HostRuntime) -> Result<(), End> {
     judged(joined(rt.alloc(), &given), given.is_same(&copy))
 }
 
-// `Mask::from_buffer`, `Mask::from_buffer_within`, `Mask::concat`, `Mask::true_runs`, `Mask::and`
-// and `MaskValues::bit_buffer`.
+// `Mask::from_buffer`, `Mask::from_buffer_within`, `Mask::true_runs`, `Mask::and` and
+// `MaskValues::bit_buffer`.
 fn masked(alloc: Global, given: &Given) -> Result<bool, VortexError> {
     let (bits, mask) = (&given.bits, &given.mask);
     let Some(values) = mask.values() else {
@@ -82,14 +88,13 @@ fn masked(alloc: Global, given: &Given) -> Result<bool, VortexError> {
     }
     let again = Mask::from_buffer(alloc, values.bit_buffer(alloc)?)?;
     let within = Mask::from_buffer_within(alloc, bits, mask)?;
-    let both = mask.and(alloc, &again)?;
+    let both = mask.and(alloc, mask)?;
     let runs = mask.true_runs(alloc)?;
-    let all = Mask::concat(alloc, &vec![in alloc; again, Mask::new_true(1), within]?)?;
     Ok(
-        both == *mask
-            && runs.as_slice() == [(0, 1), (2, 3)].as_slice()
-            && all.len() == 7
-            && all.runs() == [(0, 1), (2, 5), (6, 7)].as_slice(),
+        again == *mask
+            && within == *mask
+            && both == *mask
+            && runs.as_slice() == [(0, 1), (2, 3)].as_slice(),
     )
 }
 
@@ -97,6 +102,30 @@ fn masked(alloc: Global, given: &Given) -> Result<bool, VortexError> {
 fn masks(rt: HostRuntime) -> Result<(), End> {
     let (given, copy) = (Given::new(rt.alloc())?, Given::new(rt.alloc())?);
     judged(masked(rt.alloc(), &given), given.is_same(&copy))
+}
+
+// The rows true, false, and one that is true.
+fn two_masks(alloc: Global) -> Result<[Mask; 2], VortexError> {
+    let bits = BitBuffer::from_bools(alloc, &[true, false])?;
+    Ok([Mask::from_buffer(alloc, bits)?, Mask::new_true(1)])
+}
+
+// Whether both are the same.
+fn are_same_two(some: &[Mask], others: &[Mask]) -> bool {
+    some.len() == 2 && others.len() == 2 && some[0] == others[0] && some[1] == others[1]
+}
+
+// `Mask::concat`.
+fn one_after_another(alloc: Global, masks: &[Mask]) -> Result<bool, VortexError> {
+    let all = Mask::concat(alloc, masks)?;
+    Ok(all.len() == 3 && all.runs() == [(0, 1), (2, 3)].as_slice())
+}
+
+#[test]
+fn masks_one_after_another(rt: HostRuntime) -> Result<(), End> {
+    let (masks, copies) = (two_masks(rt.alloc())?, two_masks(rt.alloc())?);
+    let answer = one_after_another(rt.alloc(), &masks);
+    judged(answer, are_same_two(&masks, &copies))
 }
 
 // `BitBufferMut::with_capacity`, `BitBufferMut::new_unset`, and `BitBufferMut::freeze`.
@@ -118,21 +147,36 @@ fn is_grown(answer: Result<(), VortexError>, bits: &BitBufferMut, len: usize) ->
     judged(answer.map(|_| true), bits.len() == wanted)
 }
 
-// `BitBufferMut::append`, `BitBufferMut::append_n` and `BitBufferMut::append_slice`.
+// `BitBufferMut::append`.
 #[test]
 fn bits_that_grow(rt: HostRuntime) -> Result<(), End> {
-    let alloc = rt.alloc();
-    let given = Given::new(alloc)?;
-    if given.bits.len() != 3 {
-        return Err(End::Wrong);
-    }
-    let mut bits = BitBufferMut::with_capacity(alloc, 0)?;
+    let mut bits = BitBufferMut::with_capacity(rt.alloc(), 0)?;
     let answer = bits.append(true);
-    is_grown(answer, &bits, 1)?;
-    let mut bits = BitBufferMut::with_capacity(alloc, 0)?;
+    is_grown(answer, &bits, 1)
+}
+
+// `BitBufferMut::append_n`.
+#[test]
+fn bits_that_grow_by_many(rt: HostRuntime) -> Result<(), End> {
+    let mut bits = BitBufferMut::with_capacity(rt.alloc(), 0)?;
     let answer = bits.append_n(true, 70);
-    is_grown(answer, &bits, 70)?;
-    let mut bits = BitBufferMut::with_capacity(alloc, 0)?;
-    let answer = bits.append_slice(&given.bits, 1, 3);
-    is_grown(answer, &bits, 2)
+    is_grown(answer, &bits, 70)
+}
+
+// `BitBufferMut::append_slice`.
+fn appended(bits: &mut BitBufferMut, given: &Given) -> Result<bool, VortexError> {
+    if given.bits.len() != 3 {
+        return Ok(false);
+    }
+    bits.append_slice(&given.bits, 1, 3)?;
+    Ok(bits.len() == 2)
+}
+
+#[test]
+fn bits_that_grow_by_others(rt: HostRuntime) -> Result<(), End> {
+    let (given, copy) = (Given::new(rt.alloc())?, Given::new(rt.alloc())?);
+    let mut bits = BitBufferMut::with_capacity(rt.alloc(), 0)?;
+    let answer = appended(&mut bits, &given);
+    let is_kept = answer.is_ok() || bits.len() == 0;
+    judged(answer, is_kept && given.is_same(&copy))
 }

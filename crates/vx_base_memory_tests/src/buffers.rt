@@ -3,10 +3,10 @@
 use std::alloc::Global;
 use vx_base::{
     BitBuffer, Buffer, BufferMut, ByteBuffer, PType, Selection, VortexError, extend_with_numbers,
-    gather_bits, gather_items, gather_numbers, read_counts, share_buffers, slice_numbers,
-    write_counts, zero_numbers,
+    gather_bits, gather_items, gather_numbers, number_count, read_counts, share_buffers,
+    slice_numbers, write_counts, zero_numbers,
 };
-use vx_memory_help::{End, judged};
+use vx_memory_help::{End, have_same_bytes, judged};
 
 // Numbers, and bytes.
 #[derive(Drop)]
@@ -73,8 +73,8 @@ fn numbers_and_bytes(rt: HostRuntime) -> Result<(), End> {
     judged(turned(rt.alloc(), &given), given.is_same(&copy))
 }
 
-// `ByteBuffer::empty`, `ByteBuffer::copy_from`, `ByteBuffer::from_vec`, `ByteBuffer::slice`,
-// `ByteBuffer::try_clone` and `share_buffers`.
+// `ByteBuffer::empty`, `ByteBuffer::copy_from`, `ByteBuffer::from_vec`, `ByteBuffer::slice` and
+// `ByteBuffer::try_clone`.
 fn of_bytes(alloc: Global, given: &Given) -> Result<bool, VortexError> {
     let bytes = &given.bytes;
     if bytes.len() != 4 {
@@ -83,17 +83,14 @@ fn of_bytes(alloc: Global, given: &Given) -> Result<bool, VortexError> {
     let empty = ByteBuffer::empty(alloc)?;
     let items = ByteBuffer::from_vec(alloc, vec![in alloc; 7u8, 8]?)?;
     let last = bytes.slice(alloc, 3..4)?;
-    let buffers = [
-        bytes.try_clone(alloc)?,
-        ByteBuffer::copy_from(alloc, b"ab")?,
-    ];
-    let handles = share_buffers(alloc, &buffers)?;
+    let shared = bytes.try_clone(alloc)?;
+    let copied = ByteBuffer::copy_from(alloc, b"ab")?;
     Ok(
         empty.is_empty()
             && items.as_slice() == [7, 8].as_slice()
             && last.as_slice() == [2].as_slice()
-            && handles.len() == 2
-            && handles[1].as_slice() == b"ab".as_slice(),
+            && shared.as_slice() == bytes.as_slice()
+            && copied.as_slice() == b"ab".as_slice(),
     )
 }
 
@@ -103,15 +100,50 @@ fn bytes(rt: HostRuntime) -> Result<(), End> {
     judged(of_bytes(rt.alloc(), &given), given.is_same(&copy))
 }
 
-// `zero_numbers`, `slice_numbers`, `read_counts` and `write_counts`.
+// Two buffers of bytes.
+fn two_buffers(alloc: Global) -> Result<[ByteBuffer; 2], VortexError> {
+    let first = ByteBuffer::copy_from(alloc, &[1, 2])?;
+    Ok([first, ByteBuffer::copy_from(alloc, b"ab")?])
+}
+
+// `share_buffers`.
+fn all_shared(alloc: Global, buffers: &[ByteBuffer]) -> Result<bool, VortexError> {
+    let handles = share_buffers(alloc, buffers)?;
+    Ok(have_same_bytes(&handles, buffers))
+}
+
+#[test]
+fn buffers_shared_at_once(rt: HostRuntime) -> Result<(), End> {
+    let (buffers, copies) = (two_buffers(rt.alloc())?, two_buffers(rt.alloc())?);
+    judged(
+        all_shared(rt.alloc(), &buffers),
+        have_same_bytes(&buffers, &copies),
+    )
+}
+
+// `slice_numbers`.
+fn cut(alloc: Global, given: &Given) -> Result<bool, VortexError> {
+    let bytes = &given.bytes;
+    if number_count(bytes.as_slice(), PType::U16) != 2 {
+        return Ok(false);
+    }
+    let last = slice_numbers(alloc, bytes, PType::U16, 1..2)?;
+    Ok(last.as_slice() == [0, 2].as_slice())
+}
+
+#[test]
+fn numbers_that_are_cut(rt: HostRuntime) -> Result<(), End> {
+    let (given, copy) = (Given::new(rt.alloc())?, Given::new(rt.alloc())?);
+    judged(cut(rt.alloc(), &given), given.is_same(&copy))
+}
+
+// `zero_numbers`, `read_counts` and `write_counts`.
 fn counted(alloc: Global) -> Result<bool, VortexError> {
     let zeros = zero_numbers(alloc, PType::U16, 2)?;
-    let last = slice_numbers(alloc, &zeros, PType::U16, 1..2)?;
     let counts = read_counts(alloc, PType::U8, &[3, 4])?;
     let written = write_counts(alloc, PType::I16, &[1, 512])?;
     Ok(
         zeros.as_slice() == [0, 0, 0, 0].as_slice()
-            && last.len() == 2
             && counts.as_slice() == [3, 4].as_slice()
             && written.as_slice() == [1, 0, 0, 2].as_slice(),
     )
@@ -122,7 +154,7 @@ fn counts(rt: HostRuntime) -> Result<(), End> {
     judged(counted(rt.alloc()), true)
 }
 
-// `gather_numbers`, `gather_bits`, `gather_items` and `Selection::lists`.
+// `gather_numbers`, `gather_items` and `Selection::lists`.
 fn gathered(alloc: Global) -> Result<bool, VortexError> {
     let places = Selection::at_positions(&[1, 0]);
     let numbers = gather_numbers(alloc, PType::U16, &[1, 0, 0, 2], &places)?;
@@ -141,16 +173,24 @@ fn gathered_numbers(rt: HostRuntime) -> Result<(), End> {
     judged(gathered(rt.alloc()), true)
 }
 
+// The bits false and true.
+fn two_bits(alloc: Global) -> Result<BitBuffer, VortexError> {
+    BitBuffer::from_bools(alloc, &[false, true])
+}
+
 // `gather_bits`.
-fn gathered_from(alloc: Global) -> Result<bool, VortexError> {
-    let bits = BitBuffer::from_bools(alloc, &[false, true])?;
-    let picked = gather_bits(alloc, &bits, &Selection::at_positions(&[1, 0]))?;
+fn gathered_from(alloc: Global, bits: &BitBuffer) -> Result<bool, VortexError> {
+    if bits.len() != 2 {
+        return Ok(false);
+    }
+    let picked = gather_bits(alloc, bits, &Selection::at_positions(&[1, 0]))?;
     Ok(picked.len() == 2 && picked.value(0) && !picked.value(1))
 }
 
 #[test]
 fn gathered_bits(rt: HostRuntime) -> Result<(), End> {
-    judged(gathered_from(rt.alloc()), true)
+    let (bits, copy) = (two_bits(rt.alloc())?, two_bits(rt.alloc())?);
+    judged(gathered_from(rt.alloc(), &bits), bits == copy)
 }
 
 // `BufferMut::push`.

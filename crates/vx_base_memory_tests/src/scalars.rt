@@ -1,9 +1,5 @@
 // Data types, names and single rows.
 
-ghost use Rattle.std.specs.Prelude.{◌≡◌, length, IfOk};
-ghost use Rattle.vx_base.specs.DTypes.{field_names, field_kinds};
-ghost use Rattle.vx_base.specs.Fields.{kind_count};
-
 use std::alloc::Global;
 use std::rc::Rc;
 use vx_base::{
@@ -12,11 +8,8 @@ use vx_base::{
 };
 use vx_memory_help::{Compare, End, deep, judged};
 
-// The fields `a` of numbers, `b` of texts and `a` of bytes.
-fn three_fields(alloc: Global) -> Result<StructFields, VortexError>
-    ensures names { IfOk result (λ f. length (field_names f) ≡ 3) }
-    ensures kinds { IfOk result (λ f. kind_count (field_kinds f) ≡ 3) }
-{
+// Records of the fields `a` of numbers, `b` of texts and `a` of bytes.
+fn records(alloc: Global) -> Result<DType, VortexError> {
     let plain = Nullability::NonNullable;
     let names = FieldNames::try_new(alloc, &["a", "b", "a"])?;
     let dtypes = vec![in alloc;
@@ -24,27 +17,18 @@ fn three_fields(alloc: Global) -> Result<StructFields, VortexError>
         DType::Utf8(plain),
         DType::Binary(plain),
     ]?;
-    Ok(StructFields::new(names, Rc::new(alloc, dtypes)?))
+    let fields = StructFields::new(names, Rc::new(alloc, dtypes)?);
+    Ok(DType::new_struct(fields, plain))
 }
 
-// Lists of records of these fields.
+// Lists of these records.
 fn lists_of_records(alloc: Global) -> Result<DType, VortexError> {
-    let record = DType::new_struct(three_fields(alloc)?, Nullability::NonNullable);
-    Ok(DType::List(Rc::new(alloc, record)?, Nullability::Nullable))
+    Ok(DType::List(Rc::new(alloc, records(alloc)?)?, Nullability::Nullable))
 }
 
-// `DType::try_clone`, `StructFields::try_clone` and `StructFields::without_field`.
+// `DType::try_clone`.
 fn cloned(alloc: Global, dtype: &DType) -> Result<bool, VortexError> {
-    let fields = three_fields(alloc)?;
-    let rest = fields.without_field(alloc, 0)?;
-    let all = fields.try_clone(alloc)?;
-    Ok(
-        dtype.try_clone(alloc)? == *dtype
-            && rest.find("b") == Some(0)
-            && rest.find("a") == Some(1)
-            && all.names().len() == 3
-            && all.fields().len() == 3,
-    )
+    Ok(dtype.try_clone(alloc)? == *dtype)
 }
 
 #[test]
@@ -53,17 +37,62 @@ fn data_types(rt: HostRuntime) -> Result<(), End> {
     judged(cloned(rt.alloc(), &dtype), dtype == copy)
 }
 
-// `FieldName::try_new`, `FieldName::try_clone`, `FieldNames::try_new` and `FieldNames::try_clone`.
-fn named(alloc: Global) -> Result<bool, VortexError> {
-    let name = FieldName::try_new(alloc, "größe")?;
-    let names = FieldNames::try_new(alloc, &["name", "größe"])?;
+// `StructFields::try_clone` and `StructFields::without_field`.
+fn of_fields(alloc: Global, dtype: &DType) -> Result<bool, VortexError> {
+    let DType::Struct(fields, _) = dtype else {
+        return Ok(false);
+    };
+    if fields.names().len() != 3 {
+        return Ok(false);
+    }
+    let rest = fields.without_field(alloc, 0)?;
+    let all = fields.try_clone(alloc)?;
+    Ok(
+        rest.find("b") == Some(0)
+            && rest.find("a") == Some(1)
+            && DType::new_struct(all, Nullability::NonNullable) == *dtype,
+    )
+}
+
+#[test]
+fn fields(rt: HostRuntime) -> Result<(), End> {
+    let (dtype, copy) = (records(rt.alloc())?, records(rt.alloc())?);
+    judged(of_fields(rt.alloc(), &dtype), dtype == copy)
+}
+
+// Two names.
+fn two_names(alloc: Global) -> Result<FieldNames, VortexError> {
+    FieldNames::try_new(alloc, &["name", "größe"])
+}
+
+// Whether they are those.
+fn are_two(names: &FieldNames) -> bool {
+    names.len() == 2 && names.find("name") == Some(0) && names.find("größe") == Some(1)
+}
+
+// `FieldNames::try_new` and `FieldNames::try_clone`.
+fn named(alloc: Global, names: &FieldNames) -> Result<bool, VortexError> {
+    let made = FieldNames::try_new(alloc, &["name", "größe"])?;
     let all = names.try_clone(alloc)?;
-    Ok(name.try_clone(alloc)? == name && all.len() == 2 && all.find("größe") == Some(1))
+    Ok(are_two(&made) && are_two(&all))
 }
 
 #[test]
 fn names(rt: HostRuntime) -> Result<(), End> {
-    judged(named(rt.alloc()), true)
+    let names = two_names(rt.alloc())?;
+    judged(named(rt.alloc(), &names), are_two(&names))
+}
+
+// `FieldName::try_new` and `FieldName::try_clone`.
+fn of_one_name(alloc: Global, name: &FieldName) -> Result<bool, VortexError> {
+    let made = FieldName::try_new(alloc, "größe")?;
+    Ok(name.try_clone(alloc)? == made)
+}
+
+#[test]
+fn a_name(rt: HostRuntime) -> Result<(), End> {
+    let name = FieldName::try_new(rt.alloc(), "größe")?;
+    judged(of_one_name(rt.alloc(), &name), name.as_str() == "größe")
 }
 
 // The record of a text and a number.
@@ -79,24 +108,21 @@ fn list_of_record(alloc: Global) -> Result<Option<ScalarValue>, VortexError> {
     Ok(Some(ScalarValue::List(ScalarValues::from_vec(alloc, values)?)))
 }
 
-// `ScalarValues::from_vec`, `ScalarValues::try_clone`, `ScalarValue::try_clone` and
-// `Scalar::try_clone`.
+// `ScalarValues::from_vec`, `ScalarValues::try_clone` and `ScalarValue::try_clone`.
 fn rows(alloc: Global, given: &Option<ScalarValue>) -> Result<bool, VortexError> {
-    let Some(ScalarValue::List(values)) = given else {
-        return Ok(false);
-    };
-    let list = Some(ScalarValue::List(values.try_clone(alloc)?));
-    let scalar = Scalar::int(-3, PType::I16, Nullability::Nullable).try_clone(alloc)?;
     let Some(value) = given else {
         return Ok(false);
     };
-    let value = Some(value.try_clone(alloc)?);
+    let ScalarValue::List(values) = value else {
+        return Ok(false);
+    };
+    let list = Some(ScalarValue::List(values.try_clone(alloc)?));
+    let all = Some(value.try_clone(alloc)?);
     let made = list_of_record(alloc)?;
     Ok(
         deep().is_same_row(&list, given)
-            && deep().is_same_row(&value, given)
-            && deep().is_same_row(&made, given)
-            && scalar.as_int() == Some(-3),
+            && deep().is_same_row(&all, given)
+            && deep().is_same_row(&made, given),
     )
 }
 
@@ -104,6 +130,25 @@ fn rows(alloc: Global, given: &Option<ScalarValue>) -> Result<bool, VortexError>
 fn single_rows(rt: HostRuntime) -> Result<(), End> {
     let (given, copy) = (list_of_record(rt.alloc())?, list_of_record(rt.alloc())?);
     judged(rows(rt.alloc(), &given), deep().is_same_row(&given, &copy))
+}
+
+// The row of a text.
+fn text(alloc: Global) -> Result<Scalar, VortexError> {
+    let value = ScalarValue::Text(ByteBuffer::copy_from(alloc, b"text")?);
+    Scalar::try_new(DType::Utf8(Nullability::Nullable), Some(value))
+}
+
+// `Scalar::try_clone`.
+fn row_cloned(alloc: Global, row: &Scalar) -> Result<bool, VortexError> {
+    let same = row.try_clone(alloc)?;
+    Ok(same.dtype() == row.dtype() && deep().is_same_row(same.value(), row.value()))
+}
+
+#[test]
+fn rows_with_data_types(rt: HostRuntime) -> Result<(), End> {
+    let (row, copy) = (text(rt.alloc())?, text(rt.alloc())?);
+    let answer = row_cloned(rt.alloc(), &row);
+    judged(answer, deep().is_same_row(row.value(), copy.value()))
 }
 
 // `Scalar::default_value`.

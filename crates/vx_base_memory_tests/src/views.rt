@@ -76,6 +76,7 @@ fn views_that_are_emptied(rt: HostRuntime) -> Result<(), End> {
     let view = BinaryView::make_view(VALUES, 0, 0);
     let mut views = [view, view];
     let answer = emptied(rt.alloc(), &mut views, &buffers);
-    let is_kept = views[0] == view && have_same_bytes(&buffers, &copies);
+    let left = &views[..];
+    let is_kept = left[0] == view && have_same_bytes(&buffers, &copies);
     judged(answer, is_kept)
 }
