@@ -2,33 +2,36 @@
 
 use crate::rows::has_rows;
 use crate::samples::{dictionary, ints};
+use crate::typed::{is_same, typed};
 use std::alloc::Global;
 use vx_base::{Nullability, PType, Scalar, VortexError};
 use vx_leaves::{ConstantArray, DictArray, DictArrayExt, DictOwnedExt};
-use vx_memory_help::{Compare, End, deep, judged};
+use vx_memory_help::{End, judged};
 use vx_tree::TypedArray;
 
 // The values 9, null and 6, by codes.
 fn given(alloc: Global) -> Result<DictArray, VortexError> {
-    match DictArray::try_from_array(dictionary(alloc)?) {
-        Ok(array) => Ok(array),
-        Err(_) => Err(VortexError::MismatchedTypes),
-    }
+    typed(dictionary(alloc)?)
 }
 
-// Whether both are alike.
-fn is_same(one: &DictArray, other: &DictArray) -> bool {
-    deep().is_alike(one.as_array(), other.as_array())
-}
-
-// `DictArray::try_new`, `DictArray::slots`, `DictArray::to_data` and `DictOwnedExt::into_parts`.
-fn parts(alloc: Global, array: &DictArray) -> Result<bool, VortexError> {
+// `DictArray::try_new` and `DictArray::slots`.
+fn of_slots(alloc: Global, array: &DictArray) -> Result<bool, VortexError> {
     let slots = array.slots(alloc)?;
     let again = DictArray::try_new(alloc, slots.codes, slots.values)?;
-    let data = array.to_data(alloc)?;
-    drop(data);
+    Ok(is_same(&again, array))
+}
+
+// `DictArray::to_data` and `DictOwnedExt::into_parts`.
+fn parts(alloc: Global, array: &DictArray) -> Result<bool, VortexError> {
+    array.to_data(alloc)?;
     let parts = array.try_clone(alloc)?.into_parts(alloc)?;
-    Ok(is_same(&again, array) && parts.codes.len() == 3 && parts.values.len() == 2)
+    Ok(parts.codes.len() == 3 && parts.values.len() == 2)
+}
+
+#[test]
+fn slots_of_a_dictionary(rt: HostRuntime) -> Result<(), End> {
+    let (array, copy) = (given(rt.alloc())?, given(rt.alloc())?);
+    judged(of_slots(rt.alloc(), &array), is_same(&array, &copy))
 }
 
 #[test]
@@ -37,14 +40,19 @@ fn parts_of_a_dictionary(rt: HostRuntime) -> Result<(), End> {
     judged(parts(rt.alloc(), &array), is_same(&array, &copy))
 }
 
+// The same dictionary, flagged where every value is referenced.
+fn with_flag(alloc: Global, array: &DictArray) -> Result<DictArray, VortexError> {
+    let holds = array.are_all_values_referenced(alloc)?;
+    let same = array.try_clone(alloc)?;
+    same.set_all_values_referenced(alloc, holds)
+}
+
 // `DictArray::are_all_values_referenced`, `DictArray::set_all_values_referenced` and
 // `DictArrayExt::validate_all_values_referenced`.
 fn flagged(alloc: Global, array: &DictArray) -> Result<bool, VortexError> {
-    let holds = array.are_all_values_referenced(alloc)?;
-    let flagged = array.try_clone(alloc)?;
-    let flagged = flagged.set_all_values_referenced(alloc, holds)?;
+    let flagged = with_flag(alloc, array)?;
     flagged.validate_all_values_referenced(alloc)?;
-    Ok(holds && flagged.has_all_values_referenced())
+    Ok(flagged.has_all_values_referenced())
 }
 
 #[test]
@@ -66,19 +74,33 @@ fn referenced_values(rt: HostRuntime) -> Result<(), End> {
     judged(scanned(rt.alloc(), &array), is_same(&array, &copy))
 }
 
-// `ConstantArray::new`, `ConstantArray::to_data` and `ConstantData::try_clone`.
-fn constant(alloc: Global) -> Result<bool, VortexError> {
+// Five, twice.
+fn two_fives(alloc: Global) -> Result<ConstantArray, VortexError> {
     let five = Scalar::int(5, PType::U8, Nullability::NonNullable);
-    let array = ConstantArray::new(alloc, five, 2)?;
-    let data = array.to_data(alloc)?.try_clone(alloc)?;
+    ConstantArray::new(alloc, five, 2)
+}
+
+// `ConstantArray::new`.
+fn constant(alloc: Global) -> Result<bool, VortexError> {
+    let array = two_fives(alloc)?;
     let fives = ints(alloc, &[5u8, 5])?;
-    Ok(
-        data.scalar().as_int() == Some(5)
-            && has_rows(alloc, array.as_array(), &fives, &[Some(0), Some(1)])?,
-    )
+    has_rows(alloc, array.as_array(), &fives, &[Some(0), Some(1)])
 }
 
 #[test]
 fn constants(rt: HostRuntime) -> Result<(), End> {
     judged(constant(rt.alloc()), true)
+}
+
+// `ConstantArray::to_data` and `ConstantData::try_clone`.
+fn constant_data(alloc: Global, array: &ConstantArray) -> Result<bool, VortexError> {
+    let data = array.to_data(alloc)?;
+    let same = data.try_clone(alloc)?;
+    Ok(data.scalar().as_int() == Some(5) && same.scalar().as_int() == Some(5))
+}
+
+#[test]
+fn rows_of_constants(rt: HostRuntime) -> Result<(), End> {
+    let (array, copy) = (two_fives(rt.alloc())?, two_fives(rt.alloc())?);
+    judged(constant_data(rt.alloc(), &array), is_same(&array, &copy))
 }

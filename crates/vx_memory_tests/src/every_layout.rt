@@ -39,17 +39,25 @@ fn slice(rt: HostRuntime) -> Result<(), End> {
     on_every_layout(rt.alloc(), &Slices)
 }
 
-// `ArrayRef::take`, by indices without null and with null.
+// `ArrayRef::take`, by indices without null.
+fn turned(alloc: Global, array: &ArrayRef) -> Result<bool, VortexError> {
+    let places = ints(alloc, &[2u8, 0])?;
+    let turned = array.take(alloc, &places)?;
+    has_rows(alloc, &turned, array, &[Some(2), Some(0)])
+}
+
+// `ArrayRef::take`, by indices with null.
+fn nulled(alloc: Global, array: &ArrayRef) -> Result<bool, VortexError> {
+    let places = some_ints(alloc, &[Some(2u8), None])?;
+    let nulled = array.take(alloc, &places)?;
+    has_rows(alloc, &nulled, array, &[Some(2), None])
+}
+
 struct Takes;
 
 impl Calls for Takes {
     fn make(&self, alloc: Global, array: &ArrayRef) -> Result<bool, VortexError> {
-        let turned = array.take(alloc, &ints(alloc, &[2u8, 0])?)?;
-        let nulled = array.take(alloc, &some_ints(alloc, &[Some(2u8), None])?)?;
-        Ok(
-            has_rows(alloc, &turned, array, &[Some(2), Some(0)])?
-                && has_rows(alloc, &nulled, array, &[Some(2), None])?,
-        )
+        Ok(turned(alloc, array)? && nulled(alloc, array)?)
     }
 }
 
@@ -70,20 +78,26 @@ fn rows_of_run(
     array.take_runs(alloc, &[run])
 }
 
-// `ArrayRef::select` and `ArrayRef::take_runs`.
+// `ArrayRef::select`.
+fn selected(alloc: Global, array: &ArrayRef) -> Result<bool, VortexError> {
+    if array.len() != 3 {
+        return Ok(false);
+    }
+    let turned = array.select(alloc, &Selection::at_positions(&[2, 0]))?;
+    has_rows(alloc, &turned, array, &[Some(2), Some(0)])
+}
+
+// `ArrayRef::take_runs`.
+fn taken_by_run(alloc: Global, array: &ArrayRef) -> Result<bool, VortexError> {
+    let last = rows_of_run(alloc, array, (1, 3))?;
+    has_rows(alloc, &last, array, &[Some(1), Some(2)])
+}
+
 struct Selects;
 
 impl Calls for Selects {
     fn make(&self, alloc: Global, array: &ArrayRef) -> Result<bool, VortexError> {
-        if array.len() != 3 {
-            return Ok(false);
-        }
-        let turned = array.select(alloc, &Selection::at_positions(&[2, 0]))?;
-        let last = rows_of_run(alloc, array, (1, 3))?;
-        Ok(
-            has_rows(alloc, &turned, array, &[Some(2), Some(0)])?
-                && has_rows(alloc, &last, array, &[Some(1), Some(2)])?,
-        )
+        Ok(selected(alloc, array)? && taken_by_run(alloc, array)?)
     }
 }
 
@@ -92,18 +106,26 @@ fn select(rt: HostRuntime) -> Result<(), End> {
     on_every_layout(rt.alloc(), &Selects)
 }
 
-// `ArrayRef::filter` and `ArrayRef::mask`.
+// `ArrayRef::filter`.
+fn filtered(alloc: Global, array: &ArrayRef) -> Result<bool, VortexError> {
+    let bits = BitBuffer::from_bools(alloc, &[true, false, true])?;
+    let mask = Mask::from_buffer(alloc, bits)?;
+    let left = array.filter(alloc, &mask)?;
+    has_rows(alloc, &left, array, &[Some(0), Some(2)])
+}
+
+// `ArrayRef::mask`.
+fn masked(alloc: Global, array: &ArrayRef) -> Result<bool, VortexError> {
+    let mask = bools(alloc, &[false, true, true])?;
+    let nulled = array.mask(alloc, &mask)?;
+    has_rows(alloc, &nulled, array, &[None, Some(1), Some(2)])
+}
+
 struct Filters;
 
 impl Calls for Filters {
     fn make(&self, alloc: Global, array: &ArrayRef) -> Result<bool, VortexError> {
-        let bits = BitBuffer::from_bools(alloc, &[true, false, true])?;
-        let left = array.filter(alloc, &Mask::from_buffer(alloc, bits)?)?;
-        let nulled = array.mask(alloc, &bools(alloc, &[false, true, true])?)?;
-        Ok(
-            has_rows(alloc, &left, array, &[Some(0), Some(2)])?
-                && has_rows(alloc, &nulled, array, &[None, Some(1), Some(2)])?,
-        )
+        Ok(filtered(alloc, array)? && masked(alloc, array)?)
     }
 }
 
@@ -112,19 +134,32 @@ fn filter_and_mask(rt: HostRuntime) -> Result<(), End> {
     on_every_layout(rt.alloc(), &Filters)
 }
 
-// `ArrayRef::concat` and `ArrayRef::to_canonical`.
+// `ArrayRef::to_canonical`.
+fn made_plain(alloc: Global, array: &ArrayRef) -> Result<bool, VortexError> {
+    let plain = array.to_canonical(alloc)?;
+    has_rows(alloc, &plain, array, &[Some(0), Some(1), Some(2)])
+}
+
+// An array, and its last row.
+fn chunks(alloc: Global, array: &ArrayRef) -> Result<Vec<ArrayRef>, VortexError> {
+    let mut chunks = Vec::with_capacity(alloc, 2)?;
+    chunks.push(array.try_clone(alloc)?)?;
+    chunks.push(array.slice(alloc, 2..3)?)?;
+    Ok(chunks)
+}
+
+// `ArrayRef::concat`.
+fn joined(alloc: Global, array: &ArrayRef) -> Result<bool, VortexError> {
+    let chunks = chunks(alloc, array)?;
+    let joined = ArrayRef::concat(alloc, &chunks)?;
+    has_rows(alloc, &joined, array, &[Some(0), Some(1), Some(2), Some(2)])
+}
+
 struct Joins;
 
 impl Calls for Joins {
     fn make(&self, alloc: Global, array: &ArrayRef) -> Result<bool, VortexError> {
-        let plain = array.to_canonical(alloc)?;
-        let both = vec![in alloc; array.try_clone(alloc)?, array.slice(alloc, 2..3)?]?;
-        let joined = ArrayRef::concat(alloc, &both)?;
-        let places = [Some(0), Some(1), Some(2), Some(2)];
-        Ok(
-            has_rows(alloc, &plain, array, &places[..3])?
-                && has_rows(alloc, &joined, array, &places)?,
-        )
+        Ok(made_plain(alloc, array)? && joined(alloc, array)?)
     }
 }
 

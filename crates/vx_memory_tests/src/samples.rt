@@ -1,7 +1,7 @@
 // An array of each layout, and records of a list view of texts: three rows each.
 
 use std::alloc::Global;
-use vx_base::{NativePType, Nullability, PType, Scalar, VortexError};
+use vx_base::{FieldName, NativePType, Nullability, PType, Scalar, VortexError};
 use vx_leaves::{BoolArray, DictArray, PrimitiveArray};
 use vx_lists::{FixedSizeListArray, ListViewArray, StructArray};
 use vx_text::VarBinViewArray;
@@ -81,6 +81,13 @@ pub(crate) fn texts(alloc: Global) -> Result<ArrayRef, VortexError> {
     let items = [Some("hi"), None, Some(LONG)];
     let items = items.iter().copied();
     Ok(VarBinViewArray::from_iter_nullable_str(alloc, items)?.into_array())
+}
+
+// A name.
+pub(crate) fn one_name(alloc: Global, name: &str) -> Result<Vec<FieldName>, VortexError> {
+    let mut names = Vec::with_capacity(alloc, 1)?;
+    names.push(FieldName::try_new(alloc, name)?)?;
+    Ok(names)
 }
 
 // Records of numbers and of truth values, the second null.
