@@ -6,9 +6,8 @@ use std::alloc::Global;
 use vx_base::{
     BitBuffer, BitBufferMut, Buffer, BufferMut, FieldNames, Mask, VortexError, share_buffers,
 };
-use vx_leaves::DictArray;
 use vx_memory_help::{Compare, End, deep, judged};
-use vx_tree::{ArrayRef, IntoArray, Layout, TypedArray, Validity};
+use vx_tree::{ArrayRef, IntoArray, Layout, Validity};
 
 // `ArrayRef::bools`.
 fn bools_anew(alloc: Global, array: &ArrayRef) -> Result<bool, VortexError> {
@@ -67,23 +66,6 @@ fn dictionary_anew(alloc: Global, array: &ArrayRef) -> Result<bool, VortexError>
     let (codes, values) = (codes.try_clone(alloc)?, values.try_clone(alloc)?);
     let again = ArrayRef::dictionary(alloc, codes, values, *flag)?;
     Ok(deep().is_alike(&again, array))
-}
-
-// `DictArray::new`.
-fn typed_dictionary_anew(alloc: Global, array: &ArrayRef) -> Result<bool, VortexError> {
-    let Layout::Dict {
-        codes,
-        values,
-        flag,
-    } = array.layout()
-    else {
-        return Ok(true);
-    };
-    if *flag {
-        return Ok(false);
-    }
-    let again = DictArray::new(alloc, codes.try_clone(alloc)?, values.try_clone(alloc)?)?;
-    Ok(deep().is_alike(again.as_array(), array))
 }
 
 // `ArrayRef::fixed_size_list`.
@@ -147,7 +129,6 @@ impl Calls for Anew {
                 && numbers_anew(alloc, array)?
                 && constant_anew(alloc, array)?
                 && dictionary_anew(alloc, array)?
-                && typed_dictionary_anew(alloc, array)?
                 && fixed_lists_anew(alloc, array)?
                 && lists_anew(alloc, array)?
                 && texts_anew(alloc, array)?,

@@ -7,7 +7,7 @@ use std::alloc::Global;
 use vx_base::{Nullability, PType, Scalar, VortexError};
 use vx_leaves::{ConstantArray, DictArray, DictArrayExt, DictOwnedExt};
 use vx_memory_help::{End, judged};
-use vx_tree::TypedArray;
+use vx_tree::{Layout, TypedArray};
 
 // The values 9, null and 6, by codes.
 fn given(alloc: Global) -> Result<DictArray, VortexError> {
@@ -21,6 +21,21 @@ fn of_slots(alloc: Global, array: &DictArray) -> Result<bool, VortexError> {
     Ok(is_same(&again, array))
 }
 
+// `DictArray::new`.
+fn of_parts(alloc: Global, array: &DictArray) -> Result<bool, VortexError> {
+    let Layout::Dict {
+        codes,
+        values,
+        flag: false,
+    } = array.as_array().layout()
+    else {
+        return Ok(false);
+    };
+    let (codes, values) = (codes.try_clone(alloc)?, values.try_clone(alloc)?);
+    let again = DictArray::new(alloc, codes, values)?;
+    Ok(is_same(&again, array))
+}
+
 // `DictArray::to_data` and `DictOwnedExt::into_parts`.
 fn parts(alloc: Global, array: &DictArray) -> Result<bool, VortexError> {
     array.to_data(alloc)?;
@@ -31,7 +46,8 @@ fn parts(alloc: Global, array: &DictArray) -> Result<bool, VortexError> {
 #[test]
 fn slots_of_a_dictionary(rt: HostRuntime) -> Result<(), End> {
     let (array, copy) = (given(rt.alloc())?, given(rt.alloc())?);
-    judged(of_slots(rt.alloc(), &array), is_same(&array, &copy))
+    judged(of_slots(rt.alloc(), &array), is_same(&array, &copy))?;
+    judged(of_parts(rt.alloc(), &array), is_same(&array, &copy))
 }
 
 #[test]

@@ -135,10 +135,7 @@ fn removed(alloc: Global, records: &StructArray) -> Result<bool, VortexError> {
     let Some((rest, column)) = records.remove_column(alloc, "b")? else {
         return Ok(false);
     };
-    Ok(
-        rest.fields().len() == 1
-            && deep().is_alike(&column, records.unmasked_field_by_name("b")?),
-    )
+    Ok(rest.fields().len() == 1 && deep().is_alike(&column, records.unmasked_field_by_name("b")?))
 }
 
 // `StructArray::remove_column_owned`.
@@ -146,10 +143,7 @@ fn removed_owned(alloc: Global, records: &StructArray) -> Result<bool, VortexErr
     let Some((rest, column)) = records.remove_column_owned(alloc, "b")? else {
         return Ok(false);
     };
-    Ok(
-        rest.fields().len() == 1
-            && deep().is_alike(&column, records.unmasked_field_by_name("b")?),
-    )
+    Ok(rest.fields().len() == 1 && deep().is_alike(&column, records.unmasked_field_by_name("b")?))
 }
 
 #[test]
