@@ -43,19 +43,6 @@ fn parts(alloc: Global, array: &DictArray) -> Result<bool, VortexError> {
     Ok(parts.codes.len() == 3 && parts.values.len() == 2)
 }
 
-#[test]
-fn slots_of_a_dictionary(rt: HostRuntime) -> Result<(), End> {
-    let (array, copy) = (given(rt.alloc())?, given(rt.alloc())?);
-    judged(of_slots(rt.alloc(), &array), is_same(&array, &copy))?;
-    judged(of_parts(rt.alloc(), &array), is_same(&array, &copy))
-}
-
-#[test]
-fn parts_of_a_dictionary(rt: HostRuntime) -> Result<(), End> {
-    let (array, copy) = (given(rt.alloc())?, given(rt.alloc())?);
-    judged(parts(rt.alloc(), &array), is_same(&array, &copy))
-}
-
 // The same dictionary, flagged where every value is referenced.
 fn with_flag(alloc: Global, array: &DictArray) -> Result<DictArray, VortexError> {
     let holds = array.are_all_values_referenced(alloc)?;
@@ -71,12 +58,6 @@ fn flagged(alloc: Global, array: &DictArray) -> Result<bool, VortexError> {
     Ok(flagged.has_all_values_referenced())
 }
 
-#[test]
-fn flag_of_a_dictionary(rt: HostRuntime) -> Result<(), End> {
-    let (array, copy) = (given(rt.alloc())?, given(rt.alloc())?);
-    judged(flagged(rt.alloc(), &array), is_same(&array, &copy))
-}
-
 // `DictArrayExt::compute_referenced_values_mask` and `DictArrayExt::referenced_values_scan`.
 fn scanned(alloc: Global, array: &DictArray) -> Result<bool, VortexError> {
     let named = array.compute_referenced_values_mask(alloc, true)?;
@@ -84,10 +65,21 @@ fn scanned(alloc: Global, array: &DictArray) -> Result<bool, VortexError> {
     Ok(named.len() == 2 && named.true_count() == 2 && others.len() == 2)
 }
 
+// All calls on a dictionary.
+fn calls(alloc: Global, array: &DictArray) -> Result<bool, VortexError> {
+    Ok(
+        of_slots(alloc, array)?
+            && of_parts(alloc, array)?
+            && parts(alloc, array)?
+            && flagged(alloc, array)?
+            && scanned(alloc, array)?,
+    )
+}
+
 #[test]
-fn referenced_values(rt: HostRuntime) -> Result<(), End> {
+fn dictionaries(rt: HostRuntime) -> Result<(), End> {
     let (array, copy) = (given(rt.alloc())?, given(rt.alloc())?);
-    judged(scanned(rt.alloc(), &array), is_same(&array, &copy))
+    judged(calls(rt.alloc(), &array), is_same(&array, &copy))
 }
 
 // Five, twice.
@@ -97,15 +89,9 @@ fn two_fives(alloc: Global) -> Result<ConstantArray, VortexError> {
 }
 
 // `ConstantArray::new`.
-fn constant(alloc: Global) -> Result<bool, VortexError> {
-    let array = two_fives(alloc)?;
+fn has_fives(alloc: Global, array: &ConstantArray) -> Result<bool, VortexError> {
     let fives = ints(alloc, &[5u8, 5])?;
     has_rows(alloc, array.as_array(), &fives, &[Some(0), Some(1)])
-}
-
-#[test]
-fn constants(rt: HostRuntime) -> Result<(), End> {
-    judged(constant(rt.alloc()), true)
 }
 
 // `ConstantArray::to_data` and `ConstantData::try_clone`.
@@ -115,8 +101,13 @@ fn constant_data(alloc: Global, array: &ConstantArray) -> Result<bool, VortexErr
     Ok(data.scalar().as_int() == Some(5) && same.scalar().as_int() == Some(5))
 }
 
+// All calls on a constant.
+fn constant_calls(alloc: Global, array: &ConstantArray) -> Result<bool, VortexError> {
+    Ok(has_fives(alloc, array)? && constant_data(alloc, array)?)
+}
+
 #[test]
-fn rows_of_constants(rt: HostRuntime) -> Result<(), End> {
+fn constants(rt: HostRuntime) -> Result<(), End> {
     let (array, copy) = (two_fives(rt.alloc())?, two_fives(rt.alloc())?);
-    judged(constant_data(rt.alloc(), &array), is_same(&array, &copy))
+    judged(constant_calls(rt.alloc(), &array), is_same(&array, &copy))
 }

@@ -35,7 +35,7 @@ fn made(alloc: Global) -> Result<bool, VortexError> {
 }
 
 #[test]
-fn list_views(rt: HostRuntime) -> Result<(), End> {
+fn list_views_that_are_made(rt: HostRuntime) -> Result<(), End> {
     judged(made(rt.alloc()), true)
 }
 
@@ -50,12 +50,6 @@ fn tested(alloc: Global) -> Result<ListViewArray, VortexError> {
 fn tested_alike(alloc: Global, lists: &ListViewArray) -> Result<bool, VortexError> {
     let again = tested(alloc)?;
     Ok(is_same(&again, lists))
-}
-
-#[test]
-fn list_views_that_are_tested(rt: HostRuntime) -> Result<(), End> {
-    let (given, copy) = (lists(rt.alloc())?, lists(rt.alloc())?);
-    judged(tested_alike(rt.alloc(), &given), is_same(&given, &copy))
 }
 
 // `ListViewArray::to_data` and `ListViewArrayExt::listview_validity`.
@@ -74,18 +68,6 @@ fn has_last(alloc: Global, lists: &ListViewArray) -> Result<bool, VortexError> {
     has_rows(alloc, &last, lists.elements(), &[Some(1), Some(2)])
 }
 
-#[test]
-fn list_views_that_are_read(rt: HostRuntime) -> Result<(), End> {
-    let (given, copy) = (lists(rt.alloc())?, lists(rt.alloc())?);
-    judged(read(rt.alloc(), &given), is_same(&given, &copy))
-}
-
-#[test]
-fn elements_of_a_list(rt: HostRuntime) -> Result<(), End> {
-    let (given, copy) = (lists(rt.alloc())?, lists(rt.alloc())?);
-    judged(has_last(rt.alloc(), &given), is_same(&given, &copy))
-}
-
 // `ListViewArray::slots` and `ListViewArray::into_data_parts`.
 fn parts(alloc: Global, lists: &ListViewArray) -> Result<bool, VortexError> {
     let slots = lists.slots(alloc)?;
@@ -97,10 +79,20 @@ fn parts(alloc: Global, lists: &ListViewArray) -> Result<bool, VortexError> {
     )
 }
 
+// The calls that read a list view.
+fn read_calls(alloc: Global, lists: &ListViewArray) -> Result<bool, VortexError> {
+    Ok(
+        tested_alike(alloc, lists)?
+            && read(alloc, lists)?
+            && has_last(alloc, lists)?
+            && parts(alloc, lists)?,
+    )
+}
+
 #[test]
-fn parts_of_list_views(rt: HostRuntime) -> Result<(), End> {
+fn list_views_that_are_read(rt: HostRuntime) -> Result<(), End> {
     let (given, copy) = (lists(rt.alloc())?, lists(rt.alloc())?);
-    judged(parts(rt.alloc(), &given), is_same(&given, &copy))
+    judged(read_calls(rt.alloc(), &given), is_same(&given, &copy))
 }
 
 // Whether lists have the rows of the given ones.
@@ -120,12 +112,6 @@ fn rebuilt(alloc: Global, lists: &ListViewArray) -> Result<bool, VortexError> {
     Ok(has_all(alloc, &taken, lists)? && has_all(alloc, &runs, lists)?)
 }
 
-#[test]
-fn list_views_that_are_rebuilt(rt: HostRuntime) -> Result<(), End> {
-    let (given, copy) = (lists(rt.alloc())?, lists(rt.alloc())?);
-    judged(rebuilt(rt.alloc(), &given), is_same(&given, &copy))
-}
-
 // `ListViewArray::rebuild`.
 fn rebuilt_by(
     alloc: Global,
@@ -136,27 +122,6 @@ fn rebuilt_by(
     has_all(alloc, &made, lists)
 }
 
-#[test]
-fn list_views_end_to_end(rt: HostRuntime) -> Result<(), End> {
-    let (given, copy) = (lists(rt.alloc())?, lists(rt.alloc())?);
-    let made = rebuilt_by(rt.alloc(), &given, ListViewRebuildMode::MakeZeroCopyToList);
-    judged(made, is_same(&given, &copy))
-}
-
-#[test]
-fn list_views_of_exact_elements(rt: HostRuntime) -> Result<(), End> {
-    let (given, copy) = (lists(rt.alloc())?, lists(rt.alloc())?);
-    let made = rebuilt_by(rt.alloc(), &given, ListViewRebuildMode::MakeExact);
-    judged(made, is_same(&given, &copy))
-}
-
-#[test]
-fn list_views_without_ends(rt: HostRuntime) -> Result<(), End> {
-    let (given, copy) = (lists(rt.alloc())?, lists(rt.alloc())?);
-    let made = rebuilt_by(rt.alloc(), &given, ListViewRebuildMode::TrimElements);
-    judged(made, is_same(&given, &copy))
-}
-
 // `ListViewArrayExt::compute_referenced_elements_mask` and `ListViewArray::trim_elements`.
 fn trimmed(alloc: Global, lists: &ListViewArray) -> Result<bool, VortexError> {
     let mask = lists.compute_referenced_elements_mask(alloc)?;
@@ -165,10 +130,21 @@ fn trimmed(alloc: Global, lists: &ListViewArray) -> Result<bool, VortexError> {
     Ok(mask.true_count() == 4 && has_all(alloc, &trimmed, lists)?)
 }
 
+// The calls that rebuild a list view.
+fn rebuild_calls(alloc: Global, lists: &ListViewArray) -> Result<bool, VortexError> {
+    Ok(
+        rebuilt(alloc, lists)?
+            && rebuilt_by(alloc, lists, ListViewRebuildMode::MakeZeroCopyToList)?
+            && rebuilt_by(alloc, lists, ListViewRebuildMode::MakeExact)?
+            && rebuilt_by(alloc, lists, ListViewRebuildMode::TrimElements)?
+            && trimmed(alloc, lists)?,
+    )
+}
+
 #[test]
-fn list_views_that_are_trimmed(rt: HostRuntime) -> Result<(), End> {
+fn list_views_that_are_rebuilt(rt: HostRuntime) -> Result<(), End> {
     let (given, copy) = (lists(rt.alloc())?, lists(rt.alloc())?);
-    judged(trimmed(rt.alloc(), &given), is_same(&given, &copy))
+    judged(rebuild_calls(rt.alloc(), &given), is_same(&given, &copy))
 }
 
 // The lists [1, 2], null, [5, 6].
@@ -197,12 +173,6 @@ fn fixed_made(alloc: Global, lists: &FixedSizeListArray) -> Result<bool, VortexE
     Ok(is_same(&asked, lists) && is_same(&tested, lists))
 }
 
-#[test]
-fn lists_of_one_size(rt: HostRuntime) -> Result<(), End> {
-    let (given, copy) = (fixed(rt.alloc())?, fixed(rt.alloc())?);
-    judged(fixed_made(rt.alloc(), &given), is_same(&given, &copy))
-}
-
 // `FixedSizeListArray::to_data` and `FixedSizeListArrayExt::fixed_size_list_elements_at`.
 fn fixed_read(alloc: Global, lists: &FixedSizeListArray) -> Result<bool, VortexError> {
     lists.to_data(alloc)?;
@@ -211,12 +181,6 @@ fn fixed_read(alloc: Global, lists: &FixedSizeListArray) -> Result<bool, VortexE
     }
     let last = lists.fixed_size_list_elements_at(alloc, 2)?;
     has_rows(alloc, &last, lists.elements(), &[Some(4), Some(5)])
-}
-
-#[test]
-fn lists_of_one_size_that_are_read(rt: HostRuntime) -> Result<(), End> {
-    let (given, copy) = (fixed(rt.alloc())?, fixed(rt.alloc())?);
-    judged(fixed_read(rt.alloc(), &given), is_same(&given, &copy))
 }
 
 // `FixedSizeListArrayExt::fixed_size_list_validity`.
@@ -240,8 +204,13 @@ fn fixed_parts(alloc: Global, lists: &FixedSizeListArray) -> Result<bool, Vortex
     )
 }
 
+// All calls on lists of one size.
+fn fixed_calls(alloc: Global, lists: &FixedSizeListArray) -> Result<bool, VortexError> {
+    Ok(fixed_made(alloc, lists)? && fixed_read(alloc, lists)? && fixed_parts(alloc, lists)?)
+}
+
 #[test]
-fn parts_of_lists_of_one_size(rt: HostRuntime) -> Result<(), End> {
+fn lists_of_one_size(rt: HostRuntime) -> Result<(), End> {
     let (given, copy) = (fixed(rt.alloc())?, fixed(rt.alloc())?);
-    judged(fixed_parts(rt.alloc(), &given), is_same(&given, &copy))
+    judged(fixed_calls(rt.alloc(), &given), is_same(&given, &copy))
 }

@@ -68,23 +68,21 @@ fn typed_alike(alloc: Global, records: &StructArray) -> Result<bool, VortexError
     Ok(is_same(&made, records))
 }
 
+// The calls that make records.
+fn made_calls(alloc: Global, records: &StructArray) -> Result<bool, VortexError> {
+    Ok(made(alloc, records)? && made_tested(alloc, records)? && typed_alike(alloc, records)?)
+}
+
 #[test]
 fn records_that_are_made(rt: HostRuntime) -> Result<(), End> {
     let (array, copy) = (tested(rt.alloc())?, tested(rt.alloc())?);
-    judged(made(rt.alloc(), &array), is_same(&array, &copy))?;
-    judged(made_tested(rt.alloc(), &array), is_same(&array, &copy))?;
-    judged(typed_alike(rt.alloc(), &array), is_same(&array, &copy))
+    judged(made_calls(rt.alloc(), &array), is_same(&array, &copy))
 }
 
 // `StructArray::new_fieldless_with_len`.
 fn fieldless(alloc: Global) -> Result<bool, VortexError> {
     let empty = StructArray::new_fieldless_with_len(alloc, 3)?;
     Ok(empty.len() == 3)
-}
-
-#[test]
-fn records_of_no_field(rt: HostRuntime) -> Result<(), End> {
-    judged(fieldless(rt.alloc()), true)
 }
 
 // One column under a name.
@@ -110,10 +108,14 @@ fn of_fields_and_validity(alloc: Global) -> Result<bool, VortexError> {
     Ok(made.len() == 3 && !made.as_array().is_valid(alloc, 1)?)
 }
 
+// The calls that make records of fields.
+fn field_calls(alloc: Global) -> Result<bool, VortexError> {
+    Ok(fieldless(alloc)? && of_fields(alloc)? && of_fields_and_validity(alloc)?)
+}
+
 #[test]
 fn records_of_fields(rt: HostRuntime) -> Result<(), End> {
-    judged(of_fields(rt.alloc()), true)?;
-    judged(of_fields_and_validity(rt.alloc()), true)
+    judged(field_calls(rt.alloc()), true)
 }
 
 // `StructArray::project`.
@@ -146,20 +148,6 @@ fn removed_owned(alloc: Global, records: &StructArray) -> Result<bool, VortexErr
     Ok(rest.fields().len() == 1 && deep().is_alike(&column, records.unmasked_field_by_name("b")?))
 }
 
-#[test]
-fn columns_that_are_chosen(rt: HostRuntime) -> Result<(), End> {
-    let (array, copy) = (given(rt.alloc())?, given(rt.alloc())?);
-    judged(projected(rt.alloc(), &array), is_same(&array, &copy))?;
-    judged(widened(rt.alloc(), &array), is_same(&array, &copy))
-}
-
-#[test]
-fn columns_that_are_removed(rt: HostRuntime) -> Result<(), End> {
-    let (array, copy) = (given(rt.alloc())?, given(rt.alloc())?);
-    judged(removed(rt.alloc(), &array), is_same(&array, &copy))?;
-    judged(removed_owned(rt.alloc(), &array), is_same(&array, &copy))
-}
-
 // `StructArray::try_concat`.
 fn joined(alloc: Global, records: &StructArray) -> Result<bool, VortexError> {
     let chunks = [records, records];
@@ -178,16 +166,22 @@ fn pushed(alloc: Global, records: &StructArray) -> Result<bool, VortexError> {
     )
 }
 
-#[test]
-fn records_that_are_joined(rt: HostRuntime) -> Result<(), End> {
-    let (array, copy) = (given(rt.alloc())?, given(rt.alloc())?);
-    judged(joined(rt.alloc(), &array), is_same(&array, &copy))
+// The calls that change columns.
+fn column_calls(alloc: Global, records: &StructArray) -> Result<bool, VortexError> {
+    Ok(
+        projected(alloc, records)?
+            && widened(alloc, records)?
+            && removed(alloc, records)?
+            && removed_owned(alloc, records)?
+            && joined(alloc, records)?
+            && pushed(alloc, records)?,
+    )
 }
 
 #[test]
-fn records_whose_columns_take_their_nulls(rt: HostRuntime) -> Result<(), End> {
+fn columns_that_change(rt: HostRuntime) -> Result<(), End> {
     let (array, copy) = (given(rt.alloc())?, given(rt.alloc())?);
-    judged(pushed(rt.alloc(), &array), is_same(&array, &copy))
+    judged(column_calls(rt.alloc(), &array), is_same(&array, &copy))
 }
 
 // `StructArrayExt::struct_validity` and `StructArray::slots`.
@@ -208,9 +202,13 @@ fn parts(alloc: Global, records: &StructArray) -> Result<bool, VortexError> {
     Ok(are_alike(&parts.fields, records.fields()))
 }
 
+// The calls that take records apart.
+fn part_calls(alloc: Global, records: &StructArray) -> Result<bool, VortexError> {
+    Ok(slots(alloc, records)? && parts(alloc, records)?)
+}
+
 #[test]
 fn parts_of_records(rt: HostRuntime) -> Result<(), End> {
     let (array, copy) = (given(rt.alloc())?, given(rt.alloc())?);
-    judged(slots(rt.alloc(), &array), is_same(&array, &copy))?;
-    judged(parts(rt.alloc(), &array), is_same(&array, &copy))
+    judged(part_calls(rt.alloc(), &array), is_same(&array, &copy))
 }

@@ -51,17 +51,6 @@ fn taken(alloc: Global, given: &Validity) -> Result<bool, VortexError> {
     are_valid(alloc, &turned, &[false, true])
 }
 
-#[test]
-fn validities_of_chosen_rows(rt: HostRuntime) -> Result<(), End> {
-    let (given, copy) = (first_and_last(rt.alloc())?, first_and_last(rt.alloc())?);
-    let is_cut = cut(rt.alloc(), &given);
-    judged(is_cut, deep().is_same_validity(&given, &copy))?;
-    let is_filtered = filtered(rt.alloc(), &given);
-    judged(is_filtered, deep().is_same_validity(&given, &copy))?;
-    let is_taken = taken(rt.alloc(), &given);
-    judged(is_taken, deep().is_same_validity(&given, &copy))
-}
-
 // `Validity::not`, `Validity::try_clone` and `Validity::to_slot`.
 fn turned(alloc: Global, given: &Validity) -> Result<bool, VortexError> {
     let not = given.not(alloc)?;
@@ -74,11 +63,21 @@ fn turned(alloc: Global, given: &Validity) -> Result<bool, VortexError> {
     )
 }
 
+// The calls that choose rows.
+fn row_calls(alloc: Global, given: &Validity) -> Result<bool, VortexError> {
+    Ok(
+        cut(alloc, given)?
+            && filtered(alloc, given)?
+            && taken(alloc, given)?
+            && turned(alloc, given)?,
+    )
+}
+
 #[test]
-fn validities_that_are_turned(rt: HostRuntime) -> Result<(), End> {
+fn validities_of_chosen_rows(rt: HostRuntime) -> Result<(), End> {
     let (given, copy) = (first_and_last(rt.alloc())?, first_and_last(rt.alloc())?);
-    let is_turned = turned(rt.alloc(), &given);
-    judged(is_turned, deep().is_same_validity(&given, &copy))
+    let answer = row_calls(rt.alloc(), &given);
+    judged(answer, deep().is_same_validity(&given, &copy))
 }
 
 // `Validity::execute_mask` and `Validity::to_mask`.
@@ -109,17 +108,6 @@ fn compared(alloc: Global, given: &Validity) -> Result<bool, VortexError> {
     Ok(!given.execute_no_nulls(alloc, 3)? && given.mask_eq(alloc, given, 3)?)
 }
 
-#[test]
-fn validities_that_are_read(rt: HostRuntime) -> Result<(), End> {
-    let (given, copy) = (first_and_last(rt.alloc())?, first_and_last(rt.alloc())?);
-    let are_masks = masks(rt.alloc(), &given);
-    judged(are_masks, deep().is_same_validity(&given, &copy))?;
-    let are_arrays = arrays(rt.alloc(), &given);
-    judged(are_arrays, deep().is_same_validity(&given, &copy))?;
-    let are_compared = compared(rt.alloc(), &given);
-    judged(are_compared, deep().is_same_validity(&given, &copy))
-}
-
 // `Validity::is_valid`, `Validity::is_null`, `Validity::execute_is_valid` and
 // `Validity::execute_is_null`.
 fn asked(alloc: Global, given: &Validity) -> Result<bool, VortexError> {
@@ -131,10 +119,20 @@ fn asked(alloc: Global, given: &Validity) -> Result<bool, VortexError> {
     )
 }
 
+// The calls that read rows.
+fn read_calls(alloc: Global, given: &Validity) -> Result<bool, VortexError> {
+    Ok(
+        masks(alloc, given)?
+            && arrays(alloc, given)?
+            && compared(alloc, given)?
+            && asked(alloc, given)?,
+    )
+}
+
 #[test]
-fn validities_that_are_asked(rt: HostRuntime) -> Result<(), End> {
+fn validities_that_are_read(rt: HostRuntime) -> Result<(), End> {
     let (given, copy) = (first_and_last(rt.alloc())?, first_and_last(rt.alloc())?);
-    let answer = asked(rt.alloc(), &given);
+    let answer = read_calls(rt.alloc(), &given);
     judged(answer, deep().is_same_validity(&given, &copy))
 }
 
@@ -163,12 +161,15 @@ fn of_buffer(alloc: Global, bits: &BitBuffer) -> Result<bool, VortexError> {
     are_valid(alloc, &made, &[true, false, true])
 }
 
+// The calls on bits.
+fn bit_calls(alloc: Global, bits: &BitBuffer) -> Result<bool, VortexError> {
+    Ok(of_mask(alloc, bits)? && of_bits(alloc, bits)? && of_buffer(alloc, bits)?)
+}
+
 #[test]
 fn validities_of_bits(rt: HostRuntime) -> Result<(), End> {
     let (bits, copy) = (three_bits(rt.alloc())?, three_bits(rt.alloc())?);
-    judged(of_mask(rt.alloc(), &bits), bits == copy)?;
-    judged(of_bits(rt.alloc(), &bits), bits == copy)?;
-    judged(of_buffer(rt.alloc(), &bits), bits == copy)
+    judged(bit_calls(rt.alloc(), &bits), bits == copy)
 }
 
 // `Validity::from_iter`.
@@ -186,10 +187,14 @@ fn of_masks(alloc: Global) -> Result<bool, VortexError> {
     are_valid(alloc, &validity, &[true, false])
 }
 
+// The calls on items.
+fn item_calls(alloc: Global) -> Result<bool, VortexError> {
+    Ok(of_items(alloc)? && of_masks(alloc)?)
+}
+
 #[test]
 fn validities_of_items(rt: HostRuntime) -> Result<(), End> {
-    judged(of_items(rt.alloc()), true)?;
-    judged(of_masks(rt.alloc()), true)
+    judged(item_calls(rt.alloc()), true)
 }
 
 // `Validity::and`.
@@ -213,17 +218,6 @@ fn patched(alloc: Global, given: &Validity) -> Result<bool, VortexError> {
     are_valid(alloc, &patched, &[true, true, true])
 }
 
-#[test]
-fn validities_that_are_joined(rt: HostRuntime) -> Result<(), End> {
-    let (given, copy) = (first_and_last(rt.alloc())?, first_and_last(rt.alloc())?);
-    let are_both = both(rt.alloc(), &given);
-    judged(are_both, deep().is_same_validity(&given, &copy))?;
-    let is_plain = plain(rt.alloc(), &given);
-    judged(is_plain, deep().is_same_validity(&given, &copy))?;
-    let is_patched = patched(rt.alloc(), &given);
-    judged(is_patched, deep().is_same_validity(&given, &copy))
-}
-
 // `Validity::concat`.
 fn one_after_another(alloc: Global, given: &Validity) -> Result<bool, VortexError> {
     if !has_three(given) {
@@ -236,10 +230,20 @@ fn one_after_another(alloc: Global, given: &Validity) -> Result<bool, VortexErro
     are_valid(alloc, &joined, &[true, false, true, true])
 }
 
+// The calls that join validities.
+fn joined_calls(alloc: Global, given: &Validity) -> Result<bool, VortexError> {
+    Ok(
+        both(alloc, given)?
+            && plain(alloc, given)?
+            && patched(alloc, given)?
+            && one_after_another(alloc, given)?,
+    )
+}
+
 #[test]
-fn validities_one_after_another(rt: HostRuntime) -> Result<(), End> {
+fn validities_that_are_joined(rt: HostRuntime) -> Result<(), End> {
     let (given, copy) = (first_and_last(rt.alloc())?, first_and_last(rt.alloc())?);
-    let answer = one_after_another(rt.alloc(), &given);
+    let answer = joined_calls(rt.alloc(), &given);
     judged(answer, deep().is_same_validity(&given, &copy))
 }
 
