@@ -1,25 +1,32 @@
 // Arrays made anew of the parts of an array, by layout.
 
 use crate::every_layout::{Calls, on_every_layout};
-use crate::samples::{first_and_last, fives, ints, lists_of, pairs};
+use crate::samples::{bools, fives, ints};
 use std::alloc::Global;
 use vx_base::{
     BitBuffer, BitBufferMut, Buffer, BufferMut, FieldNames, Mask, VortexError, share_buffers,
 };
-use vx_leaves::DictArray;
-use vx_lists::{FixedSizeListArray, ListViewArray};
 use vx_memory_help::{Compare, End, deep, judged};
-use vx_tree::{ArrayRef, IntoArray, Layout, TypedArray, Validity};
+use vx_tree::{ArrayRef, IntoArray, Layout, Validity};
 
-// `ArrayRef::bools` and `ArrayRef::from_parts`.
+// `ArrayRef::bools`.
 fn bools_anew(alloc: Global, array: &ArrayRef) -> Result<bool, VortexError> {
     let Layout::Bool { bits, validity } = array.layout() else {
         return Ok(true);
     };
-    let again = ArrayRef::bools(alloc, bits.try_clone(alloc)?, validity.try_clone(alloc)?)?;
     let (bits, validity) = (bits.try_clone(alloc)?, validity.try_clone(alloc)?);
-    let same = ArrayRef::from_parts(alloc, Layout::Bool { bits, validity })?;
-    Ok(deep().is_alike(&again, array) && deep().is_alike(&same, array))
+    let again = ArrayRef::bools(alloc, bits, validity)?;
+    Ok(deep().is_alike(&again, array))
+}
+
+// `ArrayRef::from_parts`.
+fn from_parts_anew(alloc: Global, array: &ArrayRef) -> Result<bool, VortexError> {
+    let Layout::Bool { bits, validity } = array.layout() else {
+        return Ok(true);
+    };
+    let (bits, validity) = (bits.try_clone(alloc)?, validity.try_clone(alloc)?);
+    let again = ArrayRef::from_parts(alloc, Layout::Bool { bits, validity })?;
+    Ok(deep().is_alike(&again, array))
 }
 
 // `ArrayRef::primitive`.
@@ -58,24 +65,7 @@ fn dictionary_anew(alloc: Global, array: &ArrayRef) -> Result<bool, VortexError>
     };
     let (codes, values) = (codes.try_clone(alloc)?, values.try_clone(alloc)?);
     let again = ArrayRef::dictionary(alloc, codes, values, *flag)?;
-    Ok(deep().is_alike(&again, array) && typed_dictionary_anew(alloc, array)?)
-}
-
-// `DictArray::new`.
-fn typed_dictionary_anew(alloc: Global, array: &ArrayRef) -> Result<bool, VortexError> {
-    let Layout::Dict {
-        codes,
-        values,
-        flag,
-    } = array.layout()
-    else {
-        return Ok(true);
-    };
-    if *flag {
-        return Ok(false);
-    }
-    let again = DictArray::new(alloc, codes.try_clone(alloc)?, values.try_clone(alloc)?)?;
-    Ok(deep().is_alike(again.as_array(), array))
+    Ok(deep().is_alike(&again, array))
 }
 
 // `ArrayRef::fixed_size_list`.
@@ -135,6 +125,7 @@ impl Calls for Anew {
     fn make(&self, alloc: Global, array: &ArrayRef) -> Result<bool, VortexError> {
         Ok(
             bools_anew(alloc, array)?
+                && from_parts_anew(alloc, array)?
                 && numbers_anew(alloc, array)?
                 && constant_anew(alloc, array)?
                 && dictionary_anew(alloc, array)?
@@ -148,29 +139,6 @@ impl Calls for Anew {
 #[test]
 fn arrays_of_their_parts(rt: HostRuntime) -> Result<(), End> {
     on_every_layout(rt.alloc(), &Anew)
-}
-
-// `ArrayRef::structure`, `FixedSizeListArray::try_new` and `ListViewArray::try_new`.
-fn made(alloc: Global) -> Result<bool, VortexError> {
-    let names = FieldNames::try_new(alloc, &[])?;
-    let records = ArrayRef::structure(alloc, names, Vec::new(alloc), Validity::AllValid, 3)?;
-    let elements = ints(alloc, &[1u8, 2, 3, 4, 5, 6])?;
-    let fixed = FixedSizeListArray::try_new(alloc, elements, 2, first_and_last(alloc)?, 3)?;
-    let elements = ints(alloc, &[1u8, 2, 3, 4])?;
-    let (offsets, sizes) = (ints(alloc, &[2u8, 0, 1])?, ints(alloc, &[2u8, 1, 2])?);
-    let valid = Validity::NonNullable;
-    let lists = ListViewArray::try_new(alloc, elements, offsets, sizes, valid)?.into_array();
-    let elements = ints(alloc, &[1u8, 2, 3, 4])?;
-    Ok(
-        records.len() == 3
-            && deep().is_alike(fixed.as_array(), &pairs(alloc)?)
-            && deep().is_alike(&lists, &lists_of(alloc, elements)?),
-    )
-}
-
-#[test]
-fn records_and_lists_of_parts(rt: HostRuntime) -> Result<(), End> {
-    judged(made(rt.alloc()), true)
 }
 
 // `ArrayRef::positions`.
@@ -187,29 +155,70 @@ fn positions(rt: HostRuntime) -> Result<(), End> {
     judged(read(rt.alloc(), &array), deep().is_alike(&array, &copy))
 }
 
-// `IntoArray::into_array`.
-fn turned(alloc: Global) -> Result<bool, VortexError> {
-    let bits = BitBuffer::from_bools(alloc, &[true, false])?;
-    let mask = Mask::from_buffer(alloc, bits.try_clone(alloc)?)?;
+// True and false.
+const TWO: &[bool] = &[true, false];
+
+// The bits of true and false.
+fn two_bits(alloc: Global) -> Result<BitBuffer, VortexError> {
+    BitBuffer::from_bools(alloc, TWO)
+}
+
+// `IntoArray::into_array` of bits.
+fn of_bits(alloc: Global, wanted: &ArrayRef) -> Result<bool, VortexError> {
+    let array = two_bits(alloc)?.into_array(alloc)?;
+    Ok(deep().is_alike(&array, wanted))
+}
+
+// `IntoArray::into_array` of a mask and of its values.
+fn of_mask(alloc: Global, wanted: &ArrayRef) -> Result<bool, VortexError> {
+    let mask = Mask::from_buffer(alloc, two_bits(alloc)?)?;
     let Some(values) = mask.values() else {
         return Ok(false);
     };
     let of_values = values.into_array(alloc)?;
     let of_mask = mask.into_array(alloc)?;
-    let of_bits = bits.into_array(alloc)?;
-    let written = BitBufferMut::new_unset(alloc, 2)?.into_array(alloc)?;
-    let numbers = Buffer::copy_from(alloc, &[3u16, 4])?.into_array(alloc)?;
-    let grown = BufferMut::<u16>::with_capacity(alloc, 2)?.into_array(alloc)?;
-    Ok(
-        deep().is_alike(&of_values, &of_bits)
-            && deep().is_alike(&of_mask, &of_bits)
-            && written.len() == 2
-            && deep().is_alike(&numbers, &ints(alloc, &[3u16, 4])?)
-            && grown.is_empty(),
-    )
+    Ok(deep().is_alike(&of_values, wanted) && deep().is_alike(&of_mask, wanted))
+}
+
+// The calls that make an array of bits.
+fn bit_calls(alloc: Global, wanted: &ArrayRef) -> Result<bool, VortexError> {
+    Ok(of_bits(alloc, wanted)? && of_mask(alloc, wanted)?)
 }
 
 #[test]
-fn bits_and_numbers_as_arrays(rt: HostRuntime) -> Result<(), End> {
-    judged(turned(rt.alloc()), true)
+fn bits_as_arrays(rt: HostRuntime) -> Result<(), End> {
+    let (wanted, copy) = (bools(rt.alloc(), TWO)?, bools(rt.alloc(), TWO)?);
+    let answer = bit_calls(rt.alloc(), &wanted);
+    judged(answer, deep().is_alike(&wanted, &copy))
+}
+
+// `IntoArray::into_array` of bits that are written, and of numbers that are.
+fn of_written(alloc: Global) -> Result<bool, VortexError> {
+    let written = BitBufferMut::new_unset(alloc, 2)?.into_array(alloc)?;
+    let grown = BufferMut::<u16>::with_capacity(alloc, 2)?.into_array(alloc)?;
+    Ok(written.len() == 2 && grown.is_empty())
+}
+
+// `IntoArray::into_array` of numbers.
+fn of_numbers(alloc: Global) -> Result<bool, VortexError> {
+    let numbers = Buffer::copy_from(alloc, &[3u16, 4])?.into_array(alloc)?;
+    let wanted = ints(alloc, &[3u16, 4])?;
+    Ok(deep().is_alike(&numbers, &wanted))
+}
+
+// `ArrayRef::structure`.
+fn records_of_no_field(alloc: Global) -> Result<bool, VortexError> {
+    let names = FieldNames::try_new(alloc, &[])?;
+    let records = ArrayRef::structure(alloc, names, Vec::new(alloc), Validity::AllValid, 3)?;
+    Ok(records.len() == 3)
+}
+
+// The calls that make arrays of nothing that is lent.
+fn made_calls(alloc: Global) -> Result<bool, VortexError> {
+    Ok(of_written(alloc)? && of_numbers(alloc)? && records_of_no_field(alloc)?)
+}
+
+#[test]
+fn arrays_that_are_made(rt: HostRuntime) -> Result<(), End> {
+    judged(made_calls(rt.alloc()), true)
 }

@@ -2,55 +2,60 @@
 
 use crate::rows::has_rows;
 use crate::samples::{dictionary, ints};
+use crate::typed::{is_same, typed};
 use std::alloc::Global;
 use vx_base::{Nullability, PType, Scalar, VortexError};
 use vx_leaves::{ConstantArray, DictArray, DictArrayExt, DictOwnedExt};
-use vx_memory_help::{Compare, End, deep, judged};
-use vx_tree::TypedArray;
+use vx_memory_help::{End, judged};
+use vx_tree::{Layout, TypedArray};
 
 // The values 9, null and 6, by codes.
 fn given(alloc: Global) -> Result<DictArray, VortexError> {
-    match DictArray::try_from_array(dictionary(alloc)?) {
-        Ok(array) => Ok(array),
-        Err(_) => Err(VortexError::MismatchedTypes),
-    }
+    typed(dictionary(alloc)?)
 }
 
-// Whether both are alike.
-fn is_same(one: &DictArray, other: &DictArray) -> bool {
-    deep().is_alike(one.as_array(), other.as_array())
-}
-
-// `DictArray::try_new`, `DictArray::slots`, `DictArray::to_data` and `DictOwnedExt::into_parts`.
-fn parts(alloc: Global, array: &DictArray) -> Result<bool, VortexError> {
+// `DictArray::try_new` and `DictArray::slots`.
+fn of_slots(alloc: Global, array: &DictArray) -> Result<bool, VortexError> {
     let slots = array.slots(alloc)?;
     let again = DictArray::try_new(alloc, slots.codes, slots.values)?;
-    let data = array.to_data(alloc)?;
-    drop(data);
-    let parts = array.try_clone(alloc)?.into_parts(alloc)?;
-    Ok(is_same(&again, array) && parts.codes.len() == 3 && parts.values.len() == 2)
+    Ok(is_same(&again, array))
 }
 
-#[test]
-fn parts_of_a_dictionary(rt: HostRuntime) -> Result<(), End> {
-    let (array, copy) = (given(rt.alloc())?, given(rt.alloc())?);
-    judged(parts(rt.alloc(), &array), is_same(&array, &copy))
+// `DictArray::new`.
+fn of_parts(alloc: Global, array: &DictArray) -> Result<bool, VortexError> {
+    let Layout::Dict {
+        codes,
+        values,
+        flag: false,
+    } = array.as_array().layout()
+    else {
+        return Ok(false);
+    };
+    let (codes, values) = (codes.try_clone(alloc)?, values.try_clone(alloc)?);
+    let again = DictArray::new(alloc, codes, values)?;
+    Ok(is_same(&again, array))
+}
+
+// `DictArray::to_data` and `DictOwnedExt::into_parts`.
+fn parts(alloc: Global, array: &DictArray) -> Result<bool, VortexError> {
+    array.to_data(alloc)?;
+    let parts = array.try_clone(alloc)?.into_parts(alloc)?;
+    Ok(parts.codes.len() == 3 && parts.values.len() == 2)
+}
+
+// The same dictionary, flagged where every value is referenced.
+fn with_flag(alloc: Global, array: &DictArray) -> Result<DictArray, VortexError> {
+    let holds = array.are_all_values_referenced(alloc)?;
+    let same = array.try_clone(alloc)?;
+    same.set_all_values_referenced(alloc, holds)
 }
 
 // `DictArray::are_all_values_referenced`, `DictArray::set_all_values_referenced` and
 // `DictArrayExt::validate_all_values_referenced`.
 fn flagged(alloc: Global, array: &DictArray) -> Result<bool, VortexError> {
-    let holds = array.are_all_values_referenced(alloc)?;
-    let flagged = array.try_clone(alloc)?;
-    let flagged = flagged.set_all_values_referenced(alloc, holds)?;
+    let flagged = with_flag(alloc, array)?;
     flagged.validate_all_values_referenced(alloc)?;
-    Ok(holds && flagged.has_all_values_referenced())
-}
-
-#[test]
-fn flag_of_a_dictionary(rt: HostRuntime) -> Result<(), End> {
-    let (array, copy) = (given(rt.alloc())?, given(rt.alloc())?);
-    judged(flagged(rt.alloc(), &array), is_same(&array, &copy))
+    Ok(flagged.has_all_values_referenced())
 }
 
 // `DictArrayExt::compute_referenced_values_mask` and `DictArrayExt::referenced_values_scan`.
@@ -60,25 +65,49 @@ fn scanned(alloc: Global, array: &DictArray) -> Result<bool, VortexError> {
     Ok(named.len() == 2 && named.true_count() == 2 && others.len() == 2)
 }
 
-#[test]
-fn referenced_values(rt: HostRuntime) -> Result<(), End> {
-    let (array, copy) = (given(rt.alloc())?, given(rt.alloc())?);
-    judged(scanned(rt.alloc(), &array), is_same(&array, &copy))
-}
-
-// `ConstantArray::new`, `ConstantArray::to_data` and `ConstantData::try_clone`.
-fn constant(alloc: Global) -> Result<bool, VortexError> {
-    let five = Scalar::int(5, PType::U8, Nullability::NonNullable);
-    let array = ConstantArray::new(alloc, five, 2)?;
-    let data = array.to_data(alloc)?.try_clone(alloc)?;
-    let fives = ints(alloc, &[5u8, 5])?;
+// All calls on a dictionary.
+fn calls(alloc: Global, array: &DictArray) -> Result<bool, VortexError> {
     Ok(
-        data.scalar().as_int() == Some(5)
-            && has_rows(alloc, array.as_array(), &fives, &[Some(0), Some(1)])?,
+        of_slots(alloc, array)?
+            && of_parts(alloc, array)?
+            && parts(alloc, array)?
+            && flagged(alloc, array)?
+            && scanned(alloc, array)?,
     )
 }
 
 #[test]
+fn dictionaries(rt: HostRuntime) -> Result<(), End> {
+    let (array, copy) = (given(rt.alloc())?, given(rt.alloc())?);
+    judged(calls(rt.alloc(), &array), is_same(&array, &copy))
+}
+
+// Five, twice.
+fn two_fives(alloc: Global) -> Result<ConstantArray, VortexError> {
+    let five = Scalar::int(5, PType::U8, Nullability::NonNullable);
+    ConstantArray::new(alloc, five, 2)
+}
+
+// `ConstantArray::new`.
+fn has_fives(alloc: Global, array: &ConstantArray) -> Result<bool, VortexError> {
+    let fives = ints(alloc, &[5u8, 5])?;
+    has_rows(alloc, array.as_array(), &fives, &[Some(0), Some(1)])
+}
+
+// `ConstantArray::to_data` and `ConstantData::try_clone`.
+fn constant_data(alloc: Global, array: &ConstantArray) -> Result<bool, VortexError> {
+    let data = array.to_data(alloc)?;
+    let same = data.try_clone(alloc)?;
+    Ok(data.scalar().as_int() == Some(5) && same.scalar().as_int() == Some(5))
+}
+
+// All calls on a constant.
+fn constant_calls(alloc: Global, array: &ConstantArray) -> Result<bool, VortexError> {
+    Ok(has_fives(alloc, array)? && constant_data(alloc, array)?)
+}
+
+#[test]
 fn constants(rt: HostRuntime) -> Result<(), End> {
-    judged(constant(rt.alloc()), true)
+    let (array, copy) = (two_fives(rt.alloc())?, two_fives(rt.alloc())?);
+    judged(constant_calls(rt.alloc(), &array), is_same(&array, &copy))
 }

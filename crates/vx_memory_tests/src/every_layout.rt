@@ -1,11 +1,11 @@
 // Calls on an array of each layout.
 
 use crate::rows::has_rows;
-use crate::samples::{bools, first_and_last, ints, samples, some_ints};
+use crate::samples::{bools, ints, samples, some_ints};
 use std::alloc::Global;
 use vx_base::{BitBuffer, Mask, Selection, VortexError};
 use vx_memory_help::{Compare, End, are_alike, deep, judged};
-use vx_tree::{ArrayRef, Validity};
+use vx_tree::ArrayRef;
 
 // Calls on an array.
 pub(crate) trait Calls {
@@ -23,38 +23,57 @@ pub(crate) fn on_every_layout(alloc: Global, calls: &impl Calls) -> Result<(), E
     Ok(())
 }
 
-// `ArrayRef::slice`, `ArrayRef::try_clone` and `ArrayRef::execute_scalar`.
-struct Slices;
+// `ArrayRef::slice` and `ArrayRef::execute_scalar`.
+fn cut(alloc: Global, array: &ArrayRef) -> Result<bool, VortexError> {
+    let cut = array.slice(alloc, 1..3)?;
+    has_rows(alloc, &cut, array, &[Some(1), Some(2)])
+}
 
-impl Calls for Slices {
-    fn make(&self, alloc: Global, array: &ArrayRef) -> Result<bool, VortexError> {
-        let cut = array.slice(alloc, 1..3)?;
-        let shared = array.try_clone(alloc)?;
-        Ok(deep().is_alike(&shared, array) && has_rows(alloc, &cut, array, &[Some(1), Some(2)])?)
+// `ArrayRef::try_clone`.
+fn shared(alloc: Global, array: &ArrayRef) -> Result<bool, VortexError> {
+    let shared = array.try_clone(alloc)?;
+    Ok(deep().is_alike(&shared, array))
+}
+
+// `ArrayRef::take`, by indices without null.
+fn turned(alloc: Global, array: &ArrayRef) -> Result<bool, VortexError> {
+    let places = ints(alloc, &[2u8, 0])?;
+    let turned = array.take(alloc, &places)?;
+    has_rows(alloc, &turned, array, &[Some(2), Some(0)])
+}
+
+// `ArrayRef::take`, by indices with null.
+fn nulled(alloc: Global, array: &ArrayRef) -> Result<bool, VortexError> {
+    let places = some_ints(alloc, &[Some(2u8), None])?;
+    let nulled = array.take(alloc, &places)?;
+    has_rows(alloc, &nulled, array, &[Some(2), None])
+}
+
+// `ArrayRef::select`.
+fn selected(alloc: Global, array: &ArrayRef) -> Result<bool, VortexError> {
+    if array.len() != 3 {
+        return Ok(false);
     }
+    let turned = array.select(alloc, &Selection::at_positions(&[2, 0]))?;
+    has_rows(alloc, &turned, array, &[Some(2), Some(0)])
 }
 
-#[test]
-fn slice(rt: HostRuntime) -> Result<(), End> {
-    on_every_layout(rt.alloc(), &Slices)
-}
-
-// `ArrayRef::take`, by indices without null and with null.
 struct Takes;
 
 impl Calls for Takes {
     fn make(&self, alloc: Global, array: &ArrayRef) -> Result<bool, VortexError> {
-        let turned = array.take(alloc, &ints(alloc, &[2u8, 0])?)?;
-        let nulled = array.take(alloc, &some_ints(alloc, &[Some(2u8), None])?)?;
         Ok(
-            has_rows(alloc, &turned, array, &[Some(2), Some(0)])?
-                && has_rows(alloc, &nulled, array, &[Some(2), None])?,
+            cut(alloc, array)?
+                && shared(alloc, array)?
+                && turned(alloc, array)?
+                && nulled(alloc, array)?
+                && selected(alloc, array)?,
         )
     }
 }
 
 #[test]
-fn take(rt: HostRuntime) -> Result<(), End> {
+fn rows_that_are_taken(rt: HostRuntime) -> Result<(), End> {
     on_every_layout(rt.alloc(), &Takes)
 }
 
@@ -70,66 +89,78 @@ fn rows_of_run(
     array.take_runs(alloc, &[run])
 }
 
-// `ArrayRef::select` and `ArrayRef::take_runs`.
-struct Selects;
-
-impl Calls for Selects {
-    fn make(&self, alloc: Global, array: &ArrayRef) -> Result<bool, VortexError> {
-        if array.len() != 3 {
-            return Ok(false);
-        }
-        let turned = array.select(alloc, &Selection::at_positions(&[2, 0]))?;
-        let last = rows_of_run(alloc, array, (1, 3))?;
-        Ok(
-            has_rows(alloc, &turned, array, &[Some(2), Some(0)])?
-                && has_rows(alloc, &last, array, &[Some(1), Some(2)])?,
-        )
-    }
+// `ArrayRef::take_runs`.
+fn taken_by_run(alloc: Global, array: &ArrayRef) -> Result<bool, VortexError> {
+    let last = rows_of_run(alloc, array, (1, 3))?;
+    has_rows(alloc, &last, array, &[Some(1), Some(2)])
 }
 
-#[test]
-fn select(rt: HostRuntime) -> Result<(), End> {
-    on_every_layout(rt.alloc(), &Selects)
+// `ArrayRef::filter`.
+fn filtered(alloc: Global, array: &ArrayRef) -> Result<bool, VortexError> {
+    let bits = BitBuffer::from_bools(alloc, &[true, false, true])?;
+    let mask = Mask::from_buffer(alloc, bits)?;
+    let left = array.filter(alloc, &mask)?;
+    has_rows(alloc, &left, array, &[Some(0), Some(2)])
 }
 
-// `ArrayRef::filter` and `ArrayRef::mask`.
+// `ArrayRef::mask`.
+fn masked(alloc: Global, array: &ArrayRef) -> Result<bool, VortexError> {
+    let mask = bools(alloc, &[false, true, true])?;
+    let nulled = array.mask(alloc, &mask)?;
+    has_rows(alloc, &nulled, array, &[None, Some(1), Some(2)])
+}
+
 struct Filters;
 
 impl Calls for Filters {
     fn make(&self, alloc: Global, array: &ArrayRef) -> Result<bool, VortexError> {
-        let bits = BitBuffer::from_bools(alloc, &[true, false, true])?;
-        let left = array.filter(alloc, &Mask::from_buffer(alloc, bits)?)?;
-        let nulled = array.mask(alloc, &bools(alloc, &[false, true, true])?)?;
-        Ok(
-            has_rows(alloc, &left, array, &[Some(0), Some(2)])?
-                && has_rows(alloc, &nulled, array, &[None, Some(1), Some(2)])?,
-        )
+        Ok(taken_by_run(alloc, array)? && filtered(alloc, array)? && masked(alloc, array)?)
     }
 }
 
 #[test]
-fn filter_and_mask(rt: HostRuntime) -> Result<(), End> {
+fn rows_that_are_filtered(rt: HostRuntime) -> Result<(), End> {
     on_every_layout(rt.alloc(), &Filters)
 }
 
-// `ArrayRef::concat` and `ArrayRef::to_canonical`.
+// `ArrayRef::to_canonical`.
+fn made_plain(alloc: Global, array: &ArrayRef) -> Result<bool, VortexError> {
+    let plain = array.to_canonical(alloc)?;
+    has_rows(alloc, &plain, array, &[Some(0), Some(1), Some(2)])
+}
+
+// `ArrayRef::to_canonical` of an array whose second row is made null.
+fn masked_made_plain(alloc: Global, array: &ArrayRef) -> Result<bool, VortexError> {
+    let valid = bools(alloc, &[true, false, true])?;
+    let nulled = array.mask(alloc, &valid)?;
+    made_plain(alloc, &nulled)
+}
+
+// An array, and its last row.
+fn chunks(alloc: Global, array: &ArrayRef) -> Result<Vec<ArrayRef>, VortexError> {
+    let mut chunks = Vec::with_capacity(alloc, 2)?;
+    chunks.push(array.try_clone(alloc)?)?;
+    chunks.push(array.slice(alloc, 2..3)?)?;
+    Ok(chunks)
+}
+
+// `ArrayRef::concat`.
+fn joined(alloc: Global, array: &ArrayRef) -> Result<bool, VortexError> {
+    let chunks = chunks(alloc, array)?;
+    let joined = ArrayRef::concat(alloc, &chunks)?;
+    has_rows(alloc, &joined, array, &[Some(0), Some(1), Some(2), Some(2)])
+}
+
 struct Joins;
 
 impl Calls for Joins {
     fn make(&self, alloc: Global, array: &ArrayRef) -> Result<bool, VortexError> {
-        let plain = array.to_canonical(alloc)?;
-        let both = vec![in alloc; array.try_clone(alloc)?, array.slice(alloc, 2..3)?]?;
-        let joined = ArrayRef::concat(alloc, &both)?;
-        let places = [Some(0), Some(1), Some(2), Some(2)];
-        Ok(
-            has_rows(alloc, &plain, array, &places[..3])?
-                && has_rows(alloc, &joined, array, &places)?,
-        )
+        Ok(made_plain(alloc, array)? && masked_made_plain(alloc, array)? && joined(alloc, array)?)
     }
 }
 
 #[test]
-fn concat_and_to_canonical(rt: HostRuntime) -> Result<(), End> {
+fn rows_that_are_made_plain(rt: HostRuntime) -> Result<(), End> {
     on_every_layout(rt.alloc(), &Joins)
 }
 
@@ -152,24 +183,4 @@ impl Calls for Validities {
 #[test]
 fn validity(rt: HostRuntime) -> Result<(), End> {
     on_every_layout(rt.alloc(), &Validities)
-}
-
-// Rows of a list view of each layout, whose second row is null, read and rebuilt from validities
-// of its own.
-struct Masks;
-
-impl Calls for Masks {
-    fn make(&self, alloc: Global, array: &ArrayRef) -> Result<bool, VortexError> {
-        let Validity::Array(valid) = first_and_last(alloc)? else {
-            return Ok(false);
-        };
-        let nulled = array.mask(alloc, &valid)?;
-        let plain = nulled.to_canonical(alloc)?;
-        has_rows(alloc, &plain, &nulled, &[Some(0), Some(1), Some(2)])
-    }
-}
-
-#[test]
-fn masked_rows_made_plain(rt: HostRuntime) -> Result<(), End> {
-    on_every_layout(rt.alloc(), &Masks)
 }

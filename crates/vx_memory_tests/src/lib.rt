@@ -24,6 +24,8 @@ mod text_arrays;
 #[cfg(test)]
 mod truths;
 #[cfg(test)]
+mod typed;
+#[cfg(test)]
 mod validities;
 #[cfg(test)]
 mod without;

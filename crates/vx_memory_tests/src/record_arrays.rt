@@ -5,24 +5,17 @@ ghost use Rattle.vx_base.specs.Refusals.{Gives};
 ghost use Rattle.vx_tree.specs.Meaning.{tree_len};
 
 use crate::rows::has_rows;
-use crate::samples::{first_and_last, numbers, records};
+use crate::samples::{first_and_last, numbers, one_name, records};
+use crate::typed::{is_same, typed};
 use std::alloc::Global;
-use vx_base::{FieldName, FieldNames, VortexError};
+use vx_base::{FieldNames, VortexError};
 use vx_lists::{StructArray, StructArrayExt};
-use vx_memory_help::{Compare, End, deep, judged};
+use vx_memory_help::{Compare, End, are_alike, deep, judged};
 use vx_tree::{ArrayRef, TypedArray, Validity};
 
 // Records of numbers `a` and truth values `b`, the second null.
 fn given(alloc: Global) -> Result<StructArray, VortexError> {
-    match StructArray::try_from_array(records(alloc)?) {
-        Ok(array) => Ok(array),
-        Err(_) => Err(VortexError::MismatchedTypes),
-    }
-}
-
-// Whether both are alike.
-fn is_same(one: &StructArray, other: &StructArray) -> bool {
-    deep().is_alike(one.as_array(), other.as_array())
+    typed(records(alloc)?)
 }
 
 // One column.
@@ -43,118 +36,179 @@ fn asked(alloc: Global, column: ArrayRef) -> Result<StructArray, VortexError>
     StructArray::new(alloc, names, columns.into_iter(), 3, Validity::AllValid)
 }
 
-// `StructArray::new`, `StructArray::try_new`, `StructArray::try_new_with_dtype` and
-// `StructArray::new_fieldless_with_len`.
-fn made(alloc: Global, given: &StructArray) -> Result<bool, VortexError> {
+// Records of numbers `a`, tested.
+fn tested(alloc: Global) -> Result<StructArray, VortexError> {
+    let names = FieldNames::try_new(alloc, &["a"])?;
+    let columns = one(alloc, numbers(alloc)?)?.into_iter();
+    StructArray::try_new(alloc, names, columns, 3, Validity::AllValid)
+}
+
+// `StructArray::new`.
+fn made(alloc: Global, records: &StructArray) -> Result<bool, VortexError> {
     let column = numbers(alloc)?;
     if column.len() != 3 {
         return Ok(false);
     }
-    let few = asked(alloc, column)?;
-    let names = FieldNames::try_new(alloc, &["a"])?;
-    let columns = one(alloc, numbers(alloc)?)?.into_iter();
-    let tested = StructArray::try_new(alloc, names, columns, 3, Validity::AllValid)?;
-    let fields = tested.struct_fields().try_clone(alloc)?;
+    let made = asked(alloc, column)?;
+    Ok(is_same(&made, records))
+}
+
+// `StructArray::try_new`.
+fn made_tested(alloc: Global, records: &StructArray) -> Result<bool, VortexError> {
+    let made = tested(alloc)?;
+    Ok(is_same(&made, records))
+}
+
+// `StructArray::try_new_with_dtype`.
+fn typed_alike(alloc: Global, records: &StructArray) -> Result<bool, VortexError> {
+    let fields = records.struct_fields().try_clone(alloc)?;
     let columns = one(alloc, numbers(alloc)?)?.into_iter();
     let valid = Validity::AllValid;
-    let typed = StructArray::try_new_with_dtype(alloc, columns, fields, 3, valid)?;
-    let empty = StructArray::new_fieldless_with_len(alloc, 3)?;
-    Ok(
-        is_same(&few, &tested)
-            && is_same(&typed, &tested)
-            && empty.len() == given.len()
-            && deep().is_alike(
-                tested.unmasked_field_by_name("a")?,
-                given.unmasked_field_by_name("a")?,
-            ),
-    )
+    let made = StructArray::try_new_with_dtype(alloc, columns, fields, 3, valid)?;
+    Ok(is_same(&made, records))
+}
+
+// The calls that make records.
+fn made_calls(alloc: Global, records: &StructArray) -> Result<bool, VortexError> {
+    Ok(made(alloc, records)? && made_tested(alloc, records)? && typed_alike(alloc, records)?)
 }
 
 #[test]
 fn records_that_are_made(rt: HostRuntime) -> Result<(), End> {
-    let (array, copy) = (given(rt.alloc())?, given(rt.alloc())?);
-    judged(made(rt.alloc(), &array), is_same(&array, &copy))
+    let (array, copy) = (tested(rt.alloc())?, tested(rt.alloc())?);
+    judged(made_calls(rt.alloc(), &array), is_same(&array, &copy))
 }
 
-// `StructArray::from_fields`, `StructArray::try_from_iter` and
-// `StructArray::try_from_iter_with_validity`.
+// `StructArray::new_fieldless_with_len`.
+fn fieldless(alloc: Global) -> Result<bool, VortexError> {
+    let empty = StructArray::new_fieldless_with_len(alloc, 3)?;
+    Ok(empty.len() == 3)
+}
+
+// One column under a name.
+fn named(alloc: Global) -> Result<Vec<(&'static str, ArrayRef)>, VortexError> {
+    let mut fields = Vec::with_capacity(alloc, 1)?;
+    fields.push(("a", numbers(alloc)?))?;
+    Ok(fields)
+}
+
+// `StructArray::from_fields` and `StructArray::try_from_iter`.
 fn of_fields(alloc: Global) -> Result<bool, VortexError> {
-    let fields = vec![in alloc; ("a", numbers(alloc)?)]?;
+    let fields = named(alloc)?;
     let listed = StructArray::from_fields(alloc, &fields)?;
     let items = StructArray::try_from_iter(alloc, fields.into_iter())?;
-    let fields = vec![in alloc; ("a", numbers(alloc)?)]?.into_iter();
+    Ok(is_same(&listed, &items))
+}
+
+// `StructArray::try_from_iter_with_validity`.
+fn of_fields_and_validity(alloc: Global) -> Result<bool, VortexError> {
+    let fields = named(alloc)?.into_iter();
     let valid = first_and_last(alloc)?;
-    let some = StructArray::try_from_iter_with_validity(alloc, fields, valid)?;
-    Ok(is_same(&listed, &items) && some.len() == 3 && !some.as_array().is_valid(alloc, 1)?)
+    let made = StructArray::try_from_iter_with_validity(alloc, fields, valid)?;
+    Ok(made.len() == 3 && !made.as_array().is_valid(alloc, 1)?)
+}
+
+// The calls that make records of fields.
+fn field_calls(alloc: Global) -> Result<bool, VortexError> {
+    Ok(fieldless(alloc)? && of_fields(alloc)? && of_fields_and_validity(alloc)?)
 }
 
 #[test]
 fn records_of_fields(rt: HostRuntime) -> Result<(), End> {
-    judged(of_fields(rt.alloc()), true)
+    judged(field_calls(rt.alloc()), true)
 }
 
-// `StructArray::project`, `StructArray::with_column`, `StructArray::remove_column` and
-// `StructArray::remove_column_owned`.
-fn changed(alloc: Global, records: &StructArray) -> Result<bool, VortexError> {
-    let names = vec![in alloc; FieldName::try_new(alloc, "b")?]?;
+// `StructArray::project`.
+fn projected(alloc: Global, records: &StructArray) -> Result<bool, VortexError> {
+    let names = one_name(alloc, "b")?;
     let chosen = records.project(alloc, &names)?;
-    let wider = records.with_column(alloc, "c", numbers(alloc)?)?;
-    let Some((rest, column)) = wider.remove_column(alloc, "c")? else {
+    Ok(chosen.fields().len() == 1)
+}
+
+// `StructArray::with_column`.
+fn widened(alloc: Global, records: &StructArray) -> Result<bool, VortexError> {
+    let column = numbers(alloc)?;
+    let wider = records.with_column(alloc, "c", column)?;
+    Ok(wider.fields().len() == 3)
+}
+
+// `StructArray::remove_column`.
+fn removed(alloc: Global, records: &StructArray) -> Result<bool, VortexError> {
+    let Some((rest, column)) = records.remove_column(alloc, "b")? else {
         return Ok(false);
     };
-    let Some((same, other)) = wider.remove_column_owned(alloc, "c")? else {
+    Ok(rest.fields().len() == 1 && deep().is_alike(&column, records.unmasked_field_by_name("b")?))
+}
+
+// `StructArray::remove_column_owned`.
+fn removed_owned(alloc: Global, records: &StructArray) -> Result<bool, VortexError> {
+    let Some((rest, column)) = records.remove_column_owned(alloc, "b")? else {
         return Ok(false);
     };
+    Ok(rest.fields().len() == 1 && deep().is_alike(&column, records.unmasked_field_by_name("b")?))
+}
+
+// `StructArray::try_concat`.
+fn joined(alloc: Global, records: &StructArray) -> Result<bool, VortexError> {
+    let chunks = [records, records];
+    let both = StructArray::try_concat(alloc, chunks.iter().copied())?;
+    let places = [Some(0), Some(1), Some(2), Some(0), Some(1), Some(2)];
+    has_rows(alloc, both.as_array(), records.as_array(), &places)
+}
+
+// `StructArray::push_validity_into_children`.
+fn pushed(alloc: Global, records: &StructArray) -> Result<bool, VortexError> {
+    let pushed = records.push_validity_into_children(alloc, false)?;
+    let places = [Some(0), Some(1), Some(2)];
     Ok(
-        chosen.fields().len() == 1
-            && wider.fields().len() == 3
-            && is_same(&rest, records)
-            && is_same(&same, records)
-            && deep().is_alike(&column, &other),
+        has_rows(alloc, pushed.as_array(), records.as_array(), &places)?
+            && !pushed.unmasked_field_by_name("b")?.is_valid(alloc, 1)?,
+    )
+}
+
+// The calls that change columns.
+fn column_calls(alloc: Global, records: &StructArray) -> Result<bool, VortexError> {
+    Ok(
+        projected(alloc, records)?
+            && widened(alloc, records)?
+            && removed(alloc, records)?
+            && removed_owned(alloc, records)?
+            && joined(alloc, records)?
+            && pushed(alloc, records)?,
     )
 }
 
 #[test]
 fn columns_that_change(rt: HostRuntime) -> Result<(), End> {
     let (array, copy) = (given(rt.alloc())?, given(rt.alloc())?);
-    judged(changed(rt.alloc(), &array), is_same(&array, &copy))
+    judged(column_calls(rt.alloc(), &array), is_same(&array, &copy))
 }
 
-// `StructArray::try_concat` and `StructArray::push_validity_into_children`.
-fn joined(alloc: Global, records: &StructArray) -> Result<bool, VortexError> {
-    let chunks = [records, records];
-    let both = StructArray::try_concat(alloc, chunks.iter().copied())?;
-    let places = [Some(0), Some(1), Some(2), Some(0), Some(1), Some(2)];
-    let pushed = records.push_validity_into_children(alloc, false)?;
-    let (all, given) = (both.as_array(), records.as_array());
-    Ok(
-        has_rows(alloc, all, given, &places)?
-            && has_rows(alloc, pushed.as_array(), given, &places[..3])?
-            && !pushed.unmasked_field_by_name("b")?.is_valid(alloc, 1)?,
-    )
-}
-
-#[test]
-fn records_that_are_joined(rt: HostRuntime) -> Result<(), End> {
-    let (array, copy) = (given(rt.alloc())?, given(rt.alloc())?);
-    judged(joined(rt.alloc(), &array), is_same(&array, &copy))
-}
-
-// `StructArrayExt::struct_validity`, `StructArray::slots` and `StructArray::into_data_parts`.
-fn parts(alloc: Global, records: &StructArray) -> Result<bool, VortexError> {
+// `StructArrayExt::struct_validity` and `StructArray::slots`.
+fn slots(alloc: Global, records: &StructArray) -> Result<bool, VortexError> {
     let validity = records.struct_validity(alloc)?;
     let slots = records.slots(alloc)?;
-    let parts = records.try_clone(alloc)?.into_data_parts(alloc)?;
     Ok(
-        deep().is_same_validity(&validity, &parts.validity)
+        matches!(validity, Validity::Array(_))
             && slots.validity.is_some()
-            && slots.fields.len() == 2
-            && parts.fields.len() == 2,
+            && slots.fields.len() == 2,
     )
+}
+
+// `StructArray::into_data_parts`.
+fn parts(alloc: Global, records: &StructArray) -> Result<bool, VortexError> {
+    let same = records.try_clone(alloc)?;
+    let parts = same.into_data_parts(alloc)?;
+    Ok(are_alike(&parts.fields, records.fields()))
+}
+
+// The calls that take records apart.
+fn part_calls(alloc: Global, records: &StructArray) -> Result<bool, VortexError> {
+    Ok(slots(alloc, records)? && parts(alloc, records)?)
 }
 
 #[test]
 fn parts_of_records(rt: HostRuntime) -> Result<(), End> {
     let (array, copy) = (given(rt.alloc())?, given(rt.alloc())?);
-    judged(parts(rt.alloc(), &array), is_same(&array, &copy))
+    judged(part_calls(rt.alloc(), &array), is_same(&array, &copy))
 }

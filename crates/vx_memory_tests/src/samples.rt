@@ -1,19 +1,18 @@
 // An array of each layout, and records of a list view of texts: three rows each.
 
 use std::alloc::Global;
-use vx_base::{NativePType, Nullability, PType, Scalar, VortexError};
+use vx_base::{BitBuffer, Buffer, FieldName, NativePType, Nullability, PType, Scalar, VortexError};
 use vx_leaves::{BoolArray, DictArray, PrimitiveArray};
 use vx_lists::{FixedSizeListArray, ListViewArray, StructArray};
 use vx_text::VarBinViewArray;
-use vx_tree::{ArrayRef, TypedArray, Validity};
+use vx_tree::{ArrayRef, IntoArray, TypedArray, Validity};
 
 // A text that a view has no room for.
 pub(crate) const LONG: &str = "a text that no view has room for";
 
 // Numbers, none of them null.
 pub(crate) fn ints<T: NativePType>(alloc: Global, items: &[T]) -> Result<ArrayRef, VortexError> {
-    let items = items.iter().copied();
-    Ok(PrimitiveArray::from_iter(alloc, items)?.into_array())
+    Buffer::copy_from(alloc, items)?.into_array(alloc)
 }
 
 // Numbers, null for `None`.
@@ -27,8 +26,7 @@ pub(crate) fn some_ints<T: NativePType>(
 
 // Truth values, none of them null.
 pub(crate) fn bools(alloc: Global, items: &[bool]) -> Result<ArrayRef, VortexError> {
-    let items = items.iter().copied();
-    Ok(BoolArray::from_iter(alloc, items)?.into_array())
+    BitBuffer::from_bools(alloc, items)?.into_array(alloc)
 }
 
 // The truth values true, null, false.
@@ -81,6 +79,13 @@ pub(crate) fn texts(alloc: Global) -> Result<ArrayRef, VortexError> {
     let items = [Some("hi"), None, Some(LONG)];
     let items = items.iter().copied();
     Ok(VarBinViewArray::from_iter_nullable_str(alloc, items)?.into_array())
+}
+
+// A name.
+pub(crate) fn one_name(alloc: Global, name: &str) -> Result<Vec<FieldName>, VortexError> {
+    let mut names = Vec::with_capacity(alloc, 1)?;
+    names.push(FieldName::try_new(alloc, name)?)?;
+    Ok(names)
 }
 
 // Records of numbers and of truth values, the second null.

@@ -1,6 +1,6 @@
 // Lists of steps, and scripts.
 
-use crate::samples::{bools, ints, lists_of, numbers, records};
+use crate::samples::{bools, ints, lists_of, numbers, one_name, records};
 use std::alloc::Global;
 use std::io::Cursor;
 use vx_base::{FieldName, VortexError};
@@ -11,14 +11,13 @@ use vx_tree::ArrayRef;
 
 // Numbers, indices, truth values, list views and records, as arrays 0 to 4.
 fn given(alloc: Global) -> Result<Vec<ArrayRef>, VortexError> {
-    let elements = ints(alloc, &[1u16, 2, 3, 4])?;
-    Ok(vec![in alloc;
-        numbers(alloc)?,
-        ints(alloc, &[2u8, 0])?,
-        bools(alloc, &[true, false, true])?,
-        lists_of(alloc, elements)?,
-        records(alloc)?,
-    ]?)
+    let mut arrays = Vec::with_capacity(alloc, 5)?;
+    arrays.push(numbers(alloc)?)?;
+    arrays.push(ints(alloc, &[2u8, 0])?)?;
+    arrays.push(bools(alloc, &[true, false, true])?)?;
+    arrays.push(lists_of(alloc, ints(alloc, &[1u16, 2, 3, 4])?)?)?;
+    arrays.push(records(alloc)?)?;
+    Ok(arrays)
 }
 
 // A step of each kind that arrays alone need.
@@ -47,25 +46,22 @@ fn steps(alloc: Global) -> Result<Vec<Step>, VortexError> {
 
 // A step of each kind on records.
 fn record_steps(alloc: Global) -> Result<Vec<Step>, VortexError> {
-    let names = vec![in alloc; FieldName::try_new(alloc, "b")?]?;
-    let name = FieldName::try_new(alloc, "c")?;
-    let removed = FieldName::try_new(alloc, "a")?;
-    Ok(vec![in alloc;
-        Step::Project { array: 4, names },
-        Step::WithColumn {
-            array: 4,
-            name,
-            column: 0
-        },
-        Step::RemoveColumn {
-            array: 4,
-            name: removed
-        },
-        Step::PushValidity {
-            array: 4,
-            remove: true
-        },
-    ]?)
+    let mut steps = Vec::with_capacity(alloc, 4)?;
+    let names = one_name(alloc, "b")?;
+    steps.push(Step::Project { array: 4, names })?;
+    let (name, column) = (FieldName::try_new(alloc, "c")?, 0);
+    steps.push(Step::WithColumn {
+        array: 4,
+        name,
+        column,
+    })?;
+    let name = FieldName::try_new(alloc, "a")?;
+    steps.push(Step::RemoveColumn { array: 4, name })?;
+    steps.push(Step::PushValidity {
+        array: 4,
+        remove: true,
+    })?;
+    Ok(steps)
 }
 
 // What a list of steps gives, and whether the arrays that stand are the first ones of these.

@@ -1,6 +1,10 @@
 // Validities.
 
-use crate::samples::{first_and_last, ints};
+ghost use Rattle.std.specs.Prelude.{IsTrue};
+ghost use Rattle.vx_tree.specs.Formed.{IsLenOf};
+ghost use Rattle.vx_tree.specs.Parts.{valid_of};
+
+use crate::samples::{bools, first_and_last, ints};
 use std::alloc::Global;
 use vx_base::{BitBuffer, Mask, Nullability, VortexError};
 use vx_memory_help::{End, deep, judged};
@@ -16,64 +20,92 @@ fn are_valid(alloc: Global, validity: &Validity, wanted: &[bool]) -> Result<bool
     Ok(true)
 }
 
-// `Validity::slice`, `Validity::filter`, `Validity::not`, `Validity::take`, `Validity::try_clone`
-// and `Validity::to_slot`.
-fn selected(alloc: Global, given: &Validity) -> Result<bool, VortexError> {
-    let bits = BitBuffer::from_bools(alloc, &[true, true, false])?;
+// Whether there is an array of three rows.
+fn has_three(validity: &Validity) -> bool
+    ensures { IsTrue result → IsLenOf (valid_of validity.now) 3 }
+{
+    match validity {
+        Validity::Array(array) => array.len() == 3,
+        _ => false,
+    }
+}
+
+// `Validity::slice`.
+fn cut(alloc: Global, given: &Validity) -> Result<bool, VortexError> {
     let cut = given.slice(alloc, 1..3)?;
-    let left = given.filter(alloc, &Mask::from_buffer(alloc, bits)?)?;
-    let turned = given.take(alloc, &ints(alloc, &[1u8, 0])?)?;
+    are_valid(alloc, &cut, &[false, true])
+}
+
+// `Validity::filter`.
+fn filtered(alloc: Global, given: &Validity) -> Result<bool, VortexError> {
+    let bits = BitBuffer::from_bools(alloc, &[true, true, false])?;
+    let mask = Mask::from_buffer(alloc, bits)?;
+    let left = given.filter(alloc, &mask)?;
+    are_valid(alloc, &left, &[true, false])
+}
+
+// `Validity::take`.
+fn taken(alloc: Global, given: &Validity) -> Result<bool, VortexError> {
+    let places = ints(alloc, &[1u8, 0])?;
+    let turned = given.take(alloc, &places)?;
+    are_valid(alloc, &turned, &[false, true])
+}
+
+// `Validity::not`, `Validity::try_clone` and `Validity::to_slot`.
+fn turned(alloc: Global, given: &Validity) -> Result<bool, VortexError> {
     let not = given.not(alloc)?;
+    let same = given.try_clone(alloc)?;
     let slot = given.to_slot(alloc, 3)?;
     Ok(
-        are_valid(alloc, &cut, &[false, true])?
-            && are_valid(alloc, &left, &[true, false])?
-            && are_valid(alloc, &turned, &[false, true])?
-            && are_valid(alloc, &not, &[false, true, false])?
-            && deep().is_same_validity(&given.try_clone(alloc)?, given)
+        are_valid(alloc, &not, &[false, true, false])?
+            && deep().is_same_validity(&same, given)
             && slot.is_some(),
+    )
+}
+
+// The calls that choose rows.
+fn row_calls(alloc: Global, given: &Validity) -> Result<bool, VortexError> {
+    Ok(
+        cut(alloc, given)?
+            && filtered(alloc, given)?
+            && taken(alloc, given)?
+            && turned(alloc, given)?,
     )
 }
 
 #[test]
 fn validities_of_chosen_rows(rt: HostRuntime) -> Result<(), End> {
     let (given, copy) = (first_and_last(rt.alloc())?, first_and_last(rt.alloc())?);
-    judged(
-        selected(rt.alloc(), &given),
-        deep().is_same_validity(&given, &copy),
-    )
+    let answer = row_calls(rt.alloc(), &given);
+    judged(answer, deep().is_same_validity(&given, &copy))
 }
 
-// `Validity::execute_mask`, `Validity::to_mask`, `Validity::to_array`,
-// `Validity::execute_no_nulls` and `Validity::mask_eq`.
-fn read(alloc: Global, given: &Validity) -> Result<bool, VortexError> {
-    let Validity::Array(array) = given else {
-        return Ok(false);
-    };
-    if array.len() != 3 {
+// `Validity::execute_mask` and `Validity::to_mask`.
+fn masks(alloc: Global, given: &Validity) -> Result<bool, VortexError> {
+    if !has_three(given) {
         return Ok(false);
     }
     let mask = given.execute_mask(alloc, 3)?;
     let same = given.to_mask(alloc, 3)?;
-    let array = given.to_array(alloc, 3)?;
-    let nulls = Validity::AllInvalid.to_array(alloc, 3)?;
-    Ok(
-        mask.runs() == [(0, 1), (2, 3)].as_slice()
-            && mask == same
-            && array.len() == 3
-            && nulls.len() == 3
-            && !given.execute_no_nulls(alloc, 3)?
-            && given.mask_eq(alloc, given, 3)?,
-    )
+    Ok(mask.runs() == [(0, 1), (2, 3)].as_slice() && mask == same)
 }
 
-#[test]
-fn validities_that_are_read(rt: HostRuntime) -> Result<(), End> {
-    let (given, copy) = (first_and_last(rt.alloc())?, first_and_last(rt.alloc())?);
-    judged(
-        read(rt.alloc(), &given),
-        deep().is_same_validity(&given, &copy),
-    )
+// `Validity::to_array`.
+fn arrays(alloc: Global, given: &Validity) -> Result<bool, VortexError> {
+    if !has_three(given) {
+        return Ok(false);
+    }
+    let array = given.to_array(alloc, 3)?;
+    let nulls = Validity::AllInvalid.to_array(alloc, 3)?;
+    Ok(array.len() == 3 && nulls.len() == 3)
+}
+
+// `Validity::execute_no_nulls` and `Validity::mask_eq`.
+fn compared(alloc: Global, given: &Validity) -> Result<bool, VortexError> {
+    if !has_three(given) {
+        return Ok(false);
+    }
+    Ok(!given.execute_no_nulls(alloc, 3)? && given.mask_eq(alloc, given, 3)?)
 }
 
 // `Validity::is_valid`, `Validity::is_null`, `Validity::execute_is_valid` and
@@ -87,81 +119,108 @@ fn asked(alloc: Global, given: &Validity) -> Result<bool, VortexError> {
     )
 }
 
-#[test]
-fn validities_that_are_asked(rt: HostRuntime) -> Result<(), End> {
-    let (given, copy) = (first_and_last(rt.alloc())?, first_and_last(rt.alloc())?);
-    judged(
-        asked(rt.alloc(), &given),
-        deep().is_same_validity(&given, &copy),
-    )
-}
-
-// `Validity::from_buffer`, `Validity::from_bit_buffer`, `Validity::from_mask` and
-// `Validity::from_iter`.
-fn made(alloc: Global) -> Result<bool, VortexError> {
-    let wanted = [true, false, true];
-    let nullable = Nullability::Nullable;
-    let bits = BitBuffer::from_bools(alloc, &wanted)?;
-    let mask = Mask::from_buffer(alloc, bits.try_clone(alloc)?)?;
-    let of_mask = Validity::from_mask(alloc, mask, nullable)?;
-    let of_bits = Validity::from_bit_buffer(alloc, bits.try_clone(alloc)?, nullable)?;
-    let of_buffer = Validity::from_buffer(alloc, bits)?;
-    let of_items = Validity::from_iter(alloc, wanted.iter().copied())?;
+// The calls that read rows.
+fn read_calls(alloc: Global, given: &Validity) -> Result<bool, VortexError> {
     Ok(
-        are_valid(alloc, &of_mask, &wanted)?
-            && are_valid(alloc, &of_bits, &wanted)?
-            && are_valid(alloc, &of_buffer, &wanted)?
-            && are_valid(alloc, &of_items, &wanted)?,
+        masks(alloc, given)?
+            && arrays(alloc, given)?
+            && compared(alloc, given)?
+            && asked(alloc, given)?,
     )
 }
 
 #[test]
-fn validities_that_are_made(rt: HostRuntime) -> Result<(), End> {
-    judged(made(rt.alloc()), true)
+fn validities_that_are_read(rt: HostRuntime) -> Result<(), End> {
+    let (given, copy) = (first_and_last(rt.alloc())?, first_and_last(rt.alloc())?);
+    let answer = read_calls(rt.alloc(), &given);
+    judged(answer, deep().is_same_validity(&given, &copy))
+}
+
+// The bits of the first and the last of three rows.
+fn three_bits(alloc: Global) -> Result<BitBuffer, VortexError> {
+    BitBuffer::from_bools(alloc, &[true, false, true])
+}
+
+// `Validity::from_mask`.
+fn of_mask(alloc: Global, bits: &BitBuffer) -> Result<bool, VortexError> {
+    let mask = Mask::from_buffer(alloc, bits.try_clone(alloc)?)?;
+    let made = Validity::from_mask(alloc, mask, Nullability::Nullable)?;
+    are_valid(alloc, &made, &[true, false, true])
+}
+
+// `Validity::from_bit_buffer`.
+fn of_bits(alloc: Global, bits: &BitBuffer) -> Result<bool, VortexError> {
+    let bits = bits.try_clone(alloc)?;
+    let made = Validity::from_bit_buffer(alloc, bits, Nullability::Nullable)?;
+    are_valid(alloc, &made, &[true, false, true])
+}
+
+// `Validity::from_buffer`.
+fn of_buffer(alloc: Global, bits: &BitBuffer) -> Result<bool, VortexError> {
+    let made = Validity::from_buffer(alloc, bits.try_clone(alloc)?)?;
+    are_valid(alloc, &made, &[true, false, true])
+}
+
+// The calls on bits.
+fn bit_calls(alloc: Global, bits: &BitBuffer) -> Result<bool, VortexError> {
+    Ok(of_mask(alloc, bits)? && of_bits(alloc, bits)? && of_buffer(alloc, bits)?)
+}
+
+#[test]
+fn validities_of_bits(rt: HostRuntime) -> Result<(), End> {
+    let (bits, copy) = (three_bits(rt.alloc())?, three_bits(rt.alloc())?);
+    judged(bit_calls(rt.alloc(), &bits), bits == copy)
+}
+
+// `Validity::from_iter`.
+fn of_items(alloc: Global) -> Result<bool, VortexError> {
+    let wanted = [true, false, true];
+    let made = Validity::from_iter(alloc, wanted.iter().copied())?;
+    are_valid(alloc, &made, &wanted)
 }
 
 // `Validity::from_mask_iter`.
-fn made_of_masks(alloc: Global) -> Result<bool, VortexError> {
+fn of_masks(alloc: Global) -> Result<bool, VortexError> {
     let masks = [Mask::new_true(1), Mask::new_false(1)];
     let masks = Vec::from_array(alloc, masks)?.into_iter();
     let validity = Validity::from_mask_iter(alloc, masks)?;
     are_valid(alloc, &validity, &[true, false])
 }
 
-#[test]
-fn validities_of_masks(rt: HostRuntime) -> Result<(), End> {
-    judged(made_of_masks(rt.alloc()), true)
+// The calls on items.
+fn item_calls(alloc: Global) -> Result<bool, VortexError> {
+    Ok(of_items(alloc)? && of_masks(alloc)?)
 }
 
-// `Validity::and`, `Validity::execute`, `Validity::concat` and `Validity::patch`.
-fn joined(alloc: Global, given: &Validity) -> Result<bool, VortexError> {
-    let both = given.try_clone(alloc)?.and(alloc, first_and_last(alloc)?)?;
+#[test]
+fn validities_of_items(rt: HostRuntime) -> Result<(), End> {
+    judged(item_calls(rt.alloc()), true)
+}
+
+// `Validity::and`.
+fn both(alloc: Global, given: &Validity) -> Result<bool, VortexError> {
+    let other = first_and_last(alloc)?;
+    let both = given.try_clone(alloc)?.and(alloc, other)?;
+    are_valid(alloc, &both, &[true, false, true])
+}
+
+// `Validity::execute`.
+fn plain(alloc: Global, given: &Validity) -> Result<bool, VortexError> {
     let plain = given.try_clone(alloc)?.execute(alloc)?;
-    let places = ints(alloc, &[0u8, 1])?;
-    let patched = given.try_clone(alloc)?;
-    let patched = patched.patch(alloc, 3, 0, &places, &Validity::AllValid)?;
-    Ok(
-        are_valid(alloc, &both, &[true, false, true])?
-            && are_valid(alloc, &plain, &[true, false, true])?
-            && are_valid(alloc, &patched, &[true, true, true])?,
-    )
+    are_valid(alloc, &plain, &[true, false, true])
 }
 
-#[test]
-fn validities_that_are_joined(rt: HostRuntime) -> Result<(), End> {
-    let (given, copy) = (first_and_last(rt.alloc())?, first_and_last(rt.alloc())?);
-    judged(
-        joined(rt.alloc(), &given),
-        deep().is_same_validity(&given, &copy),
-    )
+// `Validity::patch`.
+fn patched(alloc: Global, given: &Validity) -> Result<bool, VortexError> {
+    let places = ints(alloc, &[0u8, 1])?;
+    let same = given.try_clone(alloc)?;
+    let patched = same.patch(alloc, 3, 0, &places, &Validity::AllValid)?;
+    are_valid(alloc, &patched, &[true, true, true])
 }
 
 // `Validity::concat`.
 fn one_after_another(alloc: Global, given: &Validity) -> Result<bool, VortexError> {
-    let Validity::Array(array) = given else {
-        return Ok(false);
-    };
-    if array.len() != 3 {
+    if !has_three(given) {
         return Ok(false);
     }
     let parts = vec![in alloc; (given.try_clone(alloc)?, 3), (Validity::AllValid, 1)]?;
@@ -171,26 +230,31 @@ fn one_after_another(alloc: Global, given: &Validity) -> Result<bool, VortexErro
     are_valid(alloc, &joined, &[true, false, true, true])
 }
 
-#[test]
-fn validities_one_after_another(rt: HostRuntime) -> Result<(), End> {
-    let (given, copy) = (first_and_last(rt.alloc())?, first_and_last(rt.alloc())?);
-    judged(
-        one_after_another(rt.alloc(), &given),
-        deep().is_same_validity(&given, &copy),
+// The calls that join validities.
+fn joined_calls(alloc: Global, given: &Validity) -> Result<bool, VortexError> {
+    Ok(
+        both(alloc, given)?
+            && plain(alloc, given)?
+            && patched(alloc, given)?
+            && one_after_another(alloc, given)?,
     )
+}
+
+#[test]
+fn validities_that_are_joined(rt: HostRuntime) -> Result<(), End> {
+    let (given, copy) = (first_and_last(rt.alloc())?, first_and_last(rt.alloc())?);
+    let answer = joined_calls(rt.alloc(), &given);
+    judged(answer, deep().is_same_validity(&given, &copy))
 }
 
 // Three valid rows, by an array.
 fn three_valid(alloc: Global) -> Result<Validity, VortexError> {
-    Ok(Validity::Array(crate::samples::bools(alloc, &[true, true, true])?))
+    Ok(Validity::Array(bools(alloc, &[true, true, true])?))
 }
 
 // `Validity::into_non_nullable` and `Validity::cast_nullability`.
 fn cast(alloc: Global, given: &Validity) -> Result<bool, VortexError> {
-    let Validity::Array(array) = given else {
-        return Ok(false);
-    };
-    if array.len() != 3 {
+    if !has_three(given) {
         return Ok(false);
     }
     let plain = Nullability::NonNullable;
@@ -202,8 +266,6 @@ fn cast(alloc: Global, given: &Validity) -> Result<bool, VortexError> {
 #[test]
 fn validities_that_are_cast(rt: HostRuntime) -> Result<(), End> {
     let (given, copy) = (three_valid(rt.alloc())?, three_valid(rt.alloc())?);
-    judged(
-        cast(rt.alloc(), &given),
-        deep().is_same_validity(&given, &copy),
-    )
+    let answer = cast(rt.alloc(), &given);
+    judged(answer, deep().is_same_validity(&given, &copy))
 }
