@@ -44,16 +44,15 @@ fn parts(alloc: Global, array: &DictArray) -> Result<bool, VortexError> {
 }
 
 // The same dictionary, flagged where every value is referenced.
-fn with_flag(alloc: Global, array: &DictArray) -> Result<DictArray, VortexError> {
+fn with_flag(alloc: Global, array: DictArray) -> Result<DictArray, VortexError> {
     let holds = array.are_all_values_referenced(alloc)?;
-    let same = array.try_clone(alloc)?;
-    same.set_all_values_referenced(alloc, holds)
+    array.set_all_values_referenced(alloc, holds)
 }
 
 // `DictArray::are_all_values_referenced`, `DictArray::set_all_values_referenced` and
 // `DictArrayExt::validate_all_values_referenced`.
 fn flagged(alloc: Global, array: &DictArray) -> Result<bool, VortexError> {
-    let flagged = with_flag(alloc, array)?;
+    let flagged = with_flag(alloc, array.try_clone(alloc)?)?;
     flagged.validate_all_values_referenced(alloc)?;
     Ok(flagged.has_all_values_referenced())
 }

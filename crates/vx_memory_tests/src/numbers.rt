@@ -95,6 +95,9 @@ fn numbers_that_are_made(rt: HostRuntime) -> Result<(), End> {
 
 // `PrimitiveArray::to_buffer` and `PrimitiveArray::into_buffer`.
 fn to_buffers(alloc: Global, array: &PrimitiveArray) -> Result<bool, VortexError> {
+    let PType::U16 = array.ptype() else {
+        return Ok(false);
+    };
     let read = array.to_buffer::<u16>(alloc)?;
     let taken = array.try_clone(alloc)?.into_buffer::<u16>(alloc)?;
     Ok(read.as_slice() == [3, 4].as_slice() && taken.as_slice() == [3, 4].as_slice())
@@ -102,6 +105,9 @@ fn to_buffers(alloc: Global, array: &PrimitiveArray) -> Result<bool, VortexError
 
 // `PrimitiveArray::into_buffer_mut` and `PrimitiveArray::try_into_buffer_mut`.
 fn to_written_buffers(alloc: Global, array: PrimitiveArray) -> Result<bool, VortexError> {
+    let PType::U16 = array.ptype() else {
+        return Ok(false);
+    };
     let tried = array.try_clone(alloc)?.try_into_buffer_mut::<u16>(alloc)?;
     let written = array.into_buffer_mut::<u16>(alloc)?;
     Ok(tried.is_ok() && written.as_slice() == [3, 4].as_slice())
@@ -171,6 +177,9 @@ fn numbers_of_bytes(rt: HostRuntime) -> Result<(), End> {
 
 // `PrimitiveData::to_buffer`, `PrimitiveData::into_buffer` and `PrimitiveData::try_clone`.
 fn data_to_buffers(alloc: Global, data: &PrimitiveData) -> Result<bool, VortexError> {
+    let PType::U16 = data.ptype() else {
+        return Ok(false);
+    };
     let read = data.to_buffer::<u16>(alloc)?;
     let taken = data.try_clone(alloc)?.into_buffer::<u16>(alloc)?;
     Ok(read.as_slice() == [3, 4].as_slice() && taken.as_slice() == [3, 4].as_slice())
@@ -178,6 +187,9 @@ fn data_to_buffers(alloc: Global, data: &PrimitiveData) -> Result<bool, VortexEr
 
 // `PrimitiveData::into_buffer_mut` and `PrimitiveData::try_into_buffer_mut`.
 fn data_to_written_buffers(alloc: Global, data: PrimitiveData) -> Result<bool, VortexError> {
+    let PType::U16 = data.ptype() else {
+        return Ok(false);
+    };
     let tried = data.try_clone(alloc)?.try_into_buffer_mut::<u16>(alloc)?;
     let written = data.into_buffer_mut::<u16>(alloc)?;
     Ok(tried.is_ok() && written.as_slice() == [3, 4].as_slice())

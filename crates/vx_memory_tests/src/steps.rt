@@ -74,7 +74,7 @@ fn outcome(
         Ok(arrays) => judged(Ok(are_alike(&arrays, wanted)), true),
         Err(fault) => {
             let stand = fault.arrays.len();
-            if stand > wanted.len() || given + fault.step != stand {
+            if stand > wanted.len() || stand.checked_sub(fault.step) != Some(given) {
                 return Err(End::Wrong);
             }
             let is_kept = are_alike(&fault.arrays, &wanted[..stand]);
