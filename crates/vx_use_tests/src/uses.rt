@@ -5,13 +5,13 @@ mod foreign_texts;
 mod layouts;
 mod refusals;
 mod repacked;
+mod tables;
 
-use std::alloc::Global;
 use std::test::Fail;
 use vx_base::{BitBuffer, Buffer, ByteBuffer, Mask, Nullability, PType, Scalar, VortexError};
-use vx_leaves::BoolArray;
 use vx_lists::ListViewArray;
-use vx_tree::{ArrayRef, TypedArray, Validity};
+use vx_test_help::{bools, has_numbers_or_nulls};
+use vx_tree::{TypedArray, Validity};
 use vx_uses::converter::lists_end_to_end;
 use vx_uses::first::{column, third_list};
 use vx_uses::kernel::{
@@ -20,26 +20,6 @@ use vx_uses::kernel::{
 use vx_uses::reader::{Lists, column_of_bytes, nullable_column, read_lists};
 use vx_uses::texts::text_of_row;
 use vx_views::BinaryView;
-
-// Whether these are the rows of a column of numbers.
-fn has_numbers(array: &ArrayRef, wanted: &[Option<i128>]) -> bool {
-    if !array.dtype().is_int() || array.len() != wanted.len() {
-        return false;
-    }
-    for (i, number) in wanted.iter().enumerate() {
-        if array.int_at(i) != *number {
-            return false;
-        }
-    }
-    true
-}
-
-// Truth values, none of them null.
-fn column_of_bits(alloc: Global, items: &[bool]) -> Result<ArrayRef, VortexError> {
-    let bits = BitBuffer::from_bools(alloc, items)?;
-    let column = BoolArray::try_new(alloc, bits, Validity::NonNullable)?;
-    Ok(column.into_array())
-}
 
 #[test]
 fn the_third_list_is_read(rt: HostRuntime) -> Result<(), Fail> {
@@ -51,7 +31,7 @@ fn the_third_list_is_read(rt: HostRuntime) -> Result<(), Fail> {
 fn bytes_are_numbers(rt: HostRuntime) -> Result<(), Fail> {
     let bytes = ByteBuffer::copy_from(rt.alloc(), b"\x01\x02\xFE\xFF\x09")?;
     let column = column_of_bytes::<i16>(rt.alloc(), &bytes)?;
-    assert!(rt; has_numbers(&column, &[Some(513), Some(-2)]));
+    assert!(rt; has_numbers_or_nulls(&column, &[Some(513), Some(-2)]));
     Ok(())
 }
 
@@ -61,7 +41,9 @@ fn unset_bits_are_nulls(rt: HostRuntime) -> Result<(), Fail> {
     let bits = ByteBuffer::copy_from(alloc, b"\x05")?;
     let valid = BitBuffer::new_with_offset(alloc, bits, 3, 0)?;
     let column = nullable_column(alloc, Buffer::copy_from(alloc, &[7u8, 8, 9])?, valid)?;
-    assert!(rt; has_numbers(&column, &[Some(7), None, Some(9)]) && valid_count(&column) == 2);
+    assert!(rt;
+        has_numbers_or_nulls(&column, &[Some(7), None, Some(9)]) && valid_count(&column) == 2
+    );
     let short = BitBuffer::from_bools(alloc, &[true])?;
     let refused = nullable_column(alloc, Buffer::copy_from(alloc, &[7u8, 8])?, short);
     assert!(rt; matches!(refused, Err(VortexError::LengthMismatch { .. })));
@@ -116,12 +98,12 @@ fn pages_are_ordered(rt: HostRuntime) -> Result<(), Fail> {
     let column_of_five = column::<i64>(alloc, &[10, 11, 12, 13, 14])?;
     let order = column::<u8>(alloc, &[2, 0, 0])?;
     let page = ordered_page(alloc, &column_of_five, 1..4, &order)?;
-    assert!(rt; has_numbers(&page, &[Some(13), Some(11), Some(11)]));
+    assert!(rt; has_numbers_or_nulls(&page, &[Some(13), Some(11), Some(11)]));
     let past = column::<u8>(alloc, &[2, 3])?;
     let refused = ordered_page(alloc, &column_of_five, 1..4, &past);
     assert!(rt; matches!(refused, Err(VortexError::OutOfBounds { index: 3, len: 3 })));
     let page = inner_page(alloc, &column_of_five, 1..4, 1..3)?;
-    assert!(rt; has_numbers(&page, &[Some(12), Some(13)]));
+    assert!(rt; has_numbers_or_nulls(&page, &[Some(12), Some(13)]));
     let refused = inner_page(alloc, &column_of_five, 1..4, 1..4);
     assert!(rt; matches!(refused, Err(VortexError::OutOfBounds { index: 4, len: 3 })));
     Ok(())
@@ -131,7 +113,7 @@ fn pages_are_ordered(rt: HostRuntime) -> Result<(), Fail> {
 fn rows_repeat(rt: HostRuntime) -> Result<(), Fail> {
     let seven = Scalar::int(7, PType::U8, Nullability::NonNullable);
     let column = repeated_row(rt.alloc(), seven, 3)?;
-    assert!(rt; has_numbers(&column, &[Some(7), Some(7), Some(7)]));
+    assert!(rt; has_numbers_or_nulls(&column, &[Some(7), Some(7), Some(7)]));
     Ok(())
 }
 
@@ -140,7 +122,7 @@ fn vectors_are_parts_of_their_column(rt: HostRuntime) -> Result<(), Fail> {
     let alloc = rt.alloc();
     let numbers = column::<i32>(alloc, &[1, 2, 3, 4, 5, 6])?;
     assert!(rt;
-        has_numbers(
+        has_numbers_or_nulls(
             &vector_at(alloc, numbers.try_clone(alloc)?, 3, 2, 1)?,
             &[Some(4), Some(5), Some(6)]
         )
@@ -156,13 +138,13 @@ fn rows_of_lists_are_their_elements(rt: HostRuntime) -> Result<(), Fail> {
     let elements = column::<i32>(alloc, &[1, 2, 3])?;
     let offsets = column::<u8>(alloc, &[1, 0])?;
     let sizes = column::<u8>(alloc, &[2, 3])?;
-    let valid = column_of_bits(alloc, &[true, false])?;
+    let valid = bools(alloc, &[true, false])?;
     let lists = ListViewArray::try_new(alloc, elements, offsets, sizes, Validity::Array(valid))?;
     assert!(rt; lists.len() == 2);
     let Some(first) = list_of_row(alloc, &lists, 0)? else {
         return Err(VortexError::HasNulls.into());
     };
-    assert!(rt; has_numbers(&first, &[Some(2), Some(3)]));
+    assert!(rt; has_numbers_or_nulls(&first, &[Some(2), Some(3)]));
     assert!(rt; list_of_row(alloc, &lists, 1)?.is_none());
     Ok(())
 }
@@ -177,7 +159,7 @@ fn lists_lie_end_to_end(rt: HostRuntime) -> Result<(), Fail> {
     let stored = lists_end_to_end(alloc, &lists)?;
     assert!(rt; stored.offsets.as_slice() == [0, 2, 3, 5].as_slice());
     let elements = [Some(3), Some(4), Some(1), Some(2), Some(3)];
-    assert!(rt; has_numbers(&stored.elements, &elements));
+    assert!(rt; has_numbers_or_nulls(&stored.elements, &elements));
     Ok(())
 }
 

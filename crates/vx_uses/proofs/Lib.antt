@@ -9,5 +9,6 @@ pub mod FirstLists
 pub mod RebuildModes
 pub mod PackedRows
 pub mod SliceSteps
+pub mod JoinedTables
 pub mod TwoFaults
 pub mod ReadTexts

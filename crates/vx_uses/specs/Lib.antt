@@ -1,3 +1,4 @@
 pub mod Uses
 pub mod Packed
 pub mod ForeignTexts
+pub mod Tables

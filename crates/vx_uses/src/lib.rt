@@ -12,5 +12,6 @@ pub mod modes;
 pub mod part_by_steps;
 pub mod reader;
 pub mod repacking;
+pub mod tables;
 pub mod texts;
 pub mod writer;

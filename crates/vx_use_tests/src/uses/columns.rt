@@ -1,9 +1,9 @@
 // Columns that are encoded and written.
 
-use super::{column_of_bits, has_numbers};
 use std::test::Fail;
 use vx_base::{Buffer, ByteBuffer, DType, PType, VortexError};
 use vx_leaves::{DictArrayExt, PrimitiveArray};
+use vx_test_help::{bools, has_numbers_or_nulls};
 use vx_tree::{TypedArray, Validity};
 use vx_uses::encoder::{flagged_dictionary, narrowed_column};
 use vx_uses::first::column;
@@ -15,8 +15,8 @@ fn numbers_get_the_narrowest_type(rt: HostRuntime) -> Result<(), Fail> {
     let alloc = rt.alloc();
     let narrowed = narrowed_column(alloc, column::<i64>(alloc, &[-1, 128])?)?;
     assert!(rt; matches!(narrowed.dtype(), DType::Primitive(PType::I16, _)));
-    assert!(rt; has_numbers(&narrowed, &[Some(-1), Some(128)]));
-    let bits = narrowed_column(alloc, column_of_bits(alloc, &[true, false])?)?;
+    assert!(rt; has_numbers_or_nulls(&narrowed, &[Some(-1), Some(128)]));
+    let bits = narrowed_column(alloc, bools(alloc, &[true, false])?)?;
     assert!(rt; matches!(bits.dtype(), DType::Bool(_)) && bits.len() == 2);
     Ok(())
 }
@@ -24,12 +24,12 @@ fn numbers_get_the_narrowest_type(rt: HostRuntime) -> Result<(), Fail> {
 #[test]
 fn a_null_row_widens_no_type(rt: HostRuntime) -> Result<(), Fail> {
     let alloc = rt.alloc();
-    let valid = column_of_bits(alloc, &[true, false])?;
+    let valid = bools(alloc, &[true, false])?;
     let numbers = Buffer::copy_from(alloc, &[7u32, 70000])?;
     let column = PrimitiveArray::try_new(alloc, numbers, Validity::Array(valid))?;
     let narrowed = narrowed_column(alloc, column.into_array())?;
     assert!(rt; matches!(narrowed.dtype(), DType::Primitive(PType::U8, _)));
-    assert!(rt; has_numbers(&narrowed, &[Some(7), None]));
+    assert!(rt; has_numbers_or_nulls(&narrowed, &[Some(7), None]));
     Ok(())
 }
 
@@ -40,7 +40,7 @@ fn the_flag_tells_that_all_values_are_in_use(rt: HostRuntime) -> Result<(), Fail
     let codes = column::<u8>(alloc, &[1, 0, 1])?;
     let all = flagged_dictionary(alloc, codes, values.try_clone(alloc)?)?;
     assert!(rt; all.has_all_values_referenced());
-    assert!(rt; has_numbers(all.as_array(), &[Some(6), Some(5), Some(6)]));
+    assert!(rt; has_numbers_or_nulls(all.as_array(), &[Some(6), Some(5), Some(6)]));
     let codes = column::<u8>(alloc, &[1, 1])?;
     let some = flagged_dictionary(alloc, codes, values.try_clone(alloc)?)?;
     assert!(rt; !some.has_all_values_referenced());
@@ -70,7 +70,7 @@ fn two_steps_cut_a_part_of_a_part(rt: HostRuntime) -> Result<(), Fail> {
         1..4,
         1..3,
     )?;
-    assert!(rt; has_numbers(&part, &[Some(12), Some(13)]));
+    assert!(rt; has_numbers_or_nulls(&part, &[Some(12), Some(13)]));
     let refused = part_of_part(
         alloc,
         column::<u8>(alloc, &[10, 11, 12, 13, 14])?,

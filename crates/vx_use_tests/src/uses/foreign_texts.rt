@@ -1,9 +1,9 @@
 // Texts of foreign views, accepted and read, or refused.
 
-use super::column_of_bits;
 use std::alloc::Global;
 use std::test::Fail;
 use vx_base::{Buffer, ByteBuffer, VortexError};
+use vx_test_help::bools;
 use vx_tree::Validity;
 use vx_uses::foreign_texts::foreign_texts;
 use vx_views::BinaryView;
@@ -31,13 +31,13 @@ fn foreign_views_are_read(rt: HostRuntime) -> Result<(), Fail> {
     let anything = BinaryView::new_ref(99, *b"????", 7, 5);
     let views = Buffer::copy_from(alloc, &[short, long, anything])?;
     let buffers = [ByteBuffer::copy_from(alloc, b"..a longer text.")?];
-    let validity = Validity::Array(column_of_bits(alloc, &[true, true, false])?);
+    let validity = Validity::Array(bools(alloc, &[true, true, false])?);
     let texts = foreign_texts(alloc, &views, &buffers, &validity)?;
     assert!(rt; texts.len() == 3 && texts[2].is_none());
     assert!(rt; is_text(&texts[0], "abc") && is_text(&texts[1], "a longer text"));
     assert!(rt; views.value(2) == anything);
     assert!(rt; buffers[0].as_slice() == b"..a longer text.".as_slice());
-    let short_by_one = Validity::Array(column_of_bits(alloc, &[true, true])?);
+    let short_by_one = Validity::Array(bools(alloc, &[true, true])?);
     let refused = foreign_texts(alloc, &views, &buffers, &short_by_one);
     assert!(rt; matches!(refused, Err(VortexError::LengthMismatch { .. })));
     Ok(())

@@ -1,10 +1,10 @@
 // Columns of lists that are compared, and told by offsets alone.
 
-use super::{column_of_bits, has_numbers};
 use std::alloc::Global;
 use std::test::Fail;
 use vx_base::VortexError;
 use vx_lists::{ListViewArray, ListViewRebuildMode};
+use vx_test_help::{bools, has_numbers_or_nulls};
 use vx_tree::{TypedArray, Validity};
 use vx_uses::comparison::have_same_lists;
 use vx_uses::converter::lists_by_offsets;
@@ -23,7 +23,7 @@ fn two_lists(alloc: Global, valid: &[bool]) -> Result<ListViewArray, VortexError
     let elements = column::<u8>(alloc, &[7])?;
     let offsets = column::<u8>(alloc, &[0, 0])?;
     let sizes = column::<u8>(alloc, &[1, 0])?;
-    let validity = Validity::Array(column_of_bits(alloc, valid)?);
+    let validity = Validity::Array(bools(alloc, valid)?);
     ListViewArray::try_new(alloc, elements, offsets, sizes, validity)
 }
 
@@ -85,7 +85,7 @@ fn flagged_lists_keep_their_elements(rt: HostRuntime) -> Result<(), Fail> {
     assert!(rt; lists.is_zero_copy_to_list());
     assert!(rt; stored.offsets.as_slice() == [2, 3, 5].as_slice());
     let elements = [Some(3), Some(4), Some(1), Some(2), Some(3)];
-    assert!(rt; has_numbers(&stored.elements, &elements));
+    assert!(rt; has_numbers_or_nulls(&stored.elements, &elements));
     Ok(())
 }
 
@@ -95,7 +95,7 @@ fn other_lists_are_laid_out_first(rt: HostRuntime) -> Result<(), Fail> {
     let stored = lists_by_offsets(alloc, &scattered_lists(alloc)?)?;
     assert!(rt; stored.offsets.as_slice() == [0, 2, 3, 5].as_slice());
     let elements = [Some(3), Some(4), Some(1), Some(2), Some(3)];
-    assert!(rt; has_numbers(&stored.elements, &elements));
+    assert!(rt; has_numbers_or_nulls(&stored.elements, &elements));
     Ok(())
 }
 
