@@ -1,25 +1,31 @@
 -- Rows in plain layout of which only the validity is given.
-use Rattle.std.proofs.Common.{ℕ, suc, ◌*◌, ◌^◌, ◌<◌, ◌≡◌, Bool, true, false, List, [], ◌∷◌, length, map, replicate, None, refl, sym, ◌∙◌, ap, subst, arith}
-use Rattle.std.specs.Prelude.{pos, nat_lt, slice_index_or, ◌||◌}
+use Rattle.std.proofs.Common.{ℕ, zero, suc, ◌*◌, ◌^◌, ◌<◌, ◌≡◌, Bool, true, false, List, [], ◌∷◌, length, map, take, replicate, get_or, ◌+◌, ◌++◌, ◌≤◌, Option, Some, None, refl, sym, ◌∙◌, ap, subst, arith}
+use Rattle.std.specs.Prelude.{pos, nat_lt, count_by, is_some, slice_index_or, ◌||◌, if◌then◌else◌}
+use Rattle.std.specs.List.{flat_map}
 use Rattle.std.proofs.Math.Bool.{or_self}
 use Rattle.std.proofs.lemmas.Bool.{lt-ltb}
-use Rattle.std.proofs.lemmas.List.{length-map, length-replicate, get_or-replicate}
+use Rattle.std.proofs.lemmas.List.{length-map, length-replicate, get_or-replicate, map-append, replicate-append-replicate, take_all, take_more}
+use Rattle.vx_base.proofs.Repeated.{map_repeated}
 use Rattle.vx_base.specs.declared.ptypes.PType.{PType}
+use Rattle.vx_base.specs.declared.scalar_value.ScalarValue.{ScalarValue}
 use Rattle.vx_base.specs.Integers.{numbers}
 use Rattle.vx_base.specs.Kinds.{Kind, booleans, integers, lists, fixed_lists, texts, binaries, records, Kinds, no_kinds, kind, is_nullable_kind, or_nullable, Fits}
+use Rattle.vx_base.specs.Refusals.{overflow, or_else}
 use Rattle.vx_base.specs.Rows.{Row, null}
+use Rattle.vx_base.specs.ValueRows.{option_row, row_under}
 use Rattle.vx_views.specs.Views.{number_le, view_of}
 use Rattle.vx_views.specs.Sound.{IsSoundView}
-use Rattle.vx_tree.specs.Tree.{Tree, bools, primitive, constant, fixed_list, list_view, structure, view_array, Valid, all_invalid}
+use Rattle.vx_tree.specs.Tree.{Tree, bools, primitive, constant, fixed_list, list_view, structure, view_array, Valid, non_nullable, all_invalid}
 use Rattle.vx_tree.specs.Meaning.{kind_of, kinds_of, is_valid_at, nullable, trees_from, is_texts}
 use Rattle.vx_tree.specs.Formed.{ValidFits, AllLen, IsStruct, WellFormed, column_count, value_kind}
 use Rattle.vx_tree.specs.Plain.{IsPlain, ArePlain, IsPlainValid}
 use Rattle.vx_tree.specs.Shapes.{state_of, tree_state, taken_state}
 use Rattle.vx_tree.specs.Operations.{IsZeroes, IsValidityOf, IsValidNulls}
-use Rattle.vx_tree.specs.Canonical.{IsCanonical, IsCanonicalValid, IsBlank, IsBlankPart, AreBlankParts, IsPlainNulls}
-use Rattle.vx_tree.specs.PlainValues.{ArePlainValues, rows_fault, fields_fault}
+use Rattle.vx_tree.specs.Canonical.{IsCanonical, IsCanonicalValid, IsBlank, IsBlankPart, AreBlankParts, IsPlainNulls, plain_overflow, fields_overflow}
+use Rattle.vx_tree.specs.RowParts.{items_or_nulls}
+use Rattle.vx_tree.specs.PlainValues.{ArePlainValues, rows_fault, fields_fault, buffers_overflow, values_valid}
 use Rattle.vx_tree.specs.Extents.{extent_of, extents_of, rows_extent, extent, fixed_list_extent, struct_extent}
-use Rattle.vx_tree.proofs.RowNames.{rows_extent-nulls}
+use Rattle.vx_tree.proofs.RowNames.{none_long, no_items, sized_nulls, nulls_at, rows_extent-nulls}
 use Rattle.vx_tree.proofs.Canonical.{same_nullable}
 use Rattle.vx_tree.proofs.Nulled.{null_row, nullable_nulled}
 use Rattle.vx_tree.proofs.Worked.{are_below, are_text}
@@ -203,6 +209,25 @@ mutual
   fields_fault-none no_kinds c = refl
   fields_fault-none (kind k ks) c = rw (rows_fault-none k) (fields_fault-none ks (suc c))
 
+-- nulls need the elements that so many rows of the kind need
+mutual
+  pub rows_fault-nulls : (k : Kind) (n : ℕ) → rows_fault k (replicate n null) ≡ plain_overflow k n
+  rows_fault-nulls (booleans m) n = refl
+  rows_fault-nulls (integers t m) n = refl
+  rows_fault-nulls (texts m) n = ap buffers_overflow (none_long n)
+  rows_fault-nulls (binaries m) n = ap buffers_overflow (none_long n)
+  rows_fault-nulls (lists k m) n = ap (rows_fault k) (no_items n) ∙ rows_fault-none k
+  rows_fault-nulls (fixed_lists k size m) n =
+      let each = ap (rows_fault k) (sized_nulls size n) ∙ rows_fault-nulls k (n * size) in
+      λ i. if nat_lt (length-replicate n null i * size) (2 ^ 64) then each i else Some overflow
+  rows_fault-nulls (records names ks m) n = fields_fault-nulls ks 0 n
+
+  fields_fault-nulls : (ks : Kinds) (c n : ℕ) → fields_fault ks c (replicate n null) ≡ fields_overflow ks n
+  fields_fault-nulls no_kinds c n = refl
+  fields_fault-nulls (kind k ks) c n =
+      let here = ap (rows_fault k) (nulls_at c n) ∙ rows_fault-nulls k n in
+      λ i. or_else (here i) (fields_fault-nulls ks (suc c) n i)
+
 -- rows like no values
 pub blank_of_none : (k : Kind) (t r : Tree) (v : Valid) (n : ℕ) → nullable v ≡ is_nullable_kind k → ArePlainValues k [] t → IsBlank (or_nullable (nullable v) (kind_of t)) (extent_of t) n v r → IsBlank k (rows_extent k []) n v r
 blank_of_none k t r v n may x h =
@@ -272,3 +297,82 @@ null_canonical k n r may h =
     }
 
 pub ruleset null_rows = (null_canonical, null_fits)
+
+-- ---- rows of no value
+
+map-missing : (n : ℕ) → map option_row (replicate n None) ≡ replicate n null
+map-missing n = map_repeated option_row None n
+
+missing_are : (n : ℕ) → map is_some (replicate {A = Option ScalarValue} n None) ≡ replicate n false
+missing_are n = map_repeated is_some None n
+
+none_true : (n : ℕ) → count_by (λ b. b) (replicate n false) ≡ 0
+none_true zero = refl
+none_true (suc n) = none_true n
+
+missing_valid : (n : ℕ) → 0 < n → values_valid true (replicate n None) ≡ all_invalid
+missing_valid zero h = absurd (omega h)
+missing_valid (suc n) h = rw (missing_are n, none_true n) refl
+
+-- the validity of rows of no value
+missing_state : (b : Bool) (n : ℕ) → 0 < n → state_of (if b then all_invalid else non_nullable) ≡ state_of (values_valid b (replicate n None))
+missing_state true n h = ap state_of (sym (missing_valid n h))
+missing_state false n h = refl
+
+nullable-missing : (b : Bool) → nullable (if b then all_invalid else non_nullable) ≡ b
+nullable-missing true = refl
+nullable-missing false = refl
+
+pub missing_may : (k : Kind) (t : Tree) (v : Valid) → ArePlainValues k [] t → v ≡ (if is_nullable_kind k then all_invalid else non_nullable) → MayHaveNulls t v
+missing_may k t v x e may = ap nullable e ∙ nullable-missing (is_nullable_kind k) ∙ ap is_nullable_kind (sym x.kind) ∙ may
+
+pub missing_plain : (b : Bool) (v : Valid) → v ≡ (if b then all_invalid else non_nullable) → IsPlainValid v
+missing_plain true v e = rw e tt
+missing_plain false v e = rw e tt
+
+pub missing_made : (k : Kind) (n : ℕ) (t r : Tree) (v : Valid) → 0 < n → v ≡ (if is_nullable_kind k then all_invalid else non_nullable) → ArePlainValues k [] t → IsBlank (or_nullable (nullable v) (kind_of t)) (extent_of t) n v r
+    → ArePlainValues k (replicate n None) r
+missing_made k n t r v some e x h =
+    let may : nullable v ≡ is_nullable_kind k = ap nullable e ∙ nullable-missing (is_nullable_kind k) in
+    record {
+      len = h.len ∙ sym (length-replicate {A = Option ScalarValue} n None);
+      kind = h.kind ∙ ap (or_nullable (nullable v)) x.kind ∙ ap (λ b. or_nullable b k) may ∙ or_nullable-own k;
+      plain = h.plain;
+      state = h.state ∙ ap state_of e ∙ missing_state (is_nullable_kind k) n some;
+      extent = h.extent ∙ x.extent ∙ sym (rows_extent-nulls k n) ∙ sym (ap (rows_extent k) (map-missing n));
+      flag = h.flag;
+      rows = λ i l fits.
+          let inside : i < n = rw (length-replicate {A = Option ScalarValue} n None) at l in
+          let here : slice_index_or (replicate n None) i None ≡ None = get_or-replicate {A = Option ScalarValue} n i None None inside in
+          let stands : is_nullable_kind k ≡ true = null_fits k null (subst (λ o. Fits k (row_under k o)) here fits) refl in
+          h.nulls i inside (ap (λ w. is_valid_at w i) (e ∙ ap (λ b. if b then all_invalid else non_nullable) stands))
+          ∙ sym (ap (row_under k) here);
+    }
+
+none_row : (v : Option ScalarValue) → is_some v ≡ false → option_row v ≡ null
+none_row None e = refl
+none_row (Some x) e = absurd (cc)
+
+pub missing-next : (vs : List (Option ScalarValue)) (i : ℕ) (v : Option ScalarValue) → i < length vs → v ≡ get_or vs i v → is_some v ≡ false → map option_row (take i vs) ≡ replicate i null → map option_row (take (i + 1) vs) ≡ replicate (i + 1) null
+missing-next vs i v inside same none before =
+    ap (map option_row) (take_more vs i v inside) ∙ map-append option_row (take i vs) (get_or vs i v ∷ [])
+    ∙ (λ j. before j ++ (ap option_row (sym same) ∙ none_row v none) j ∷ [])
+    ∙ replicate-append-replicate i 1 null
+
+pub missing-all : (vs : List (Option ScalarValue)) (i : ℕ) → length vs ≤ i → i ≤ length vs → map option_row (take i vs) ≡ replicate i null → map option_row vs ≡ replicate (length vs) null
+missing-all vs i upto from h =
+    let same : i ≡ length vs = omega arith in
+    sym (ap (map option_row) (take_all i vs upto)) ∙ h ∙ ap (λ n. replicate n null) same
+
+-- the items of lists of which none is there
+pub missing_items : (size count : ℕ) (vs : List (Option ScalarValue)) → map option_row vs ≡ replicate (length vs) null → count ≡ length vs * size → map option_row (replicate count None) ≡ flat_map (items_or_nulls size) (map option_row vs)
+missing_items size count vs none e = map-missing count ∙ ap (λ m. replicate m null) e ∙ sym (sized_nulls size (length vs)) ∙ sym (ap (flat_map (items_or_nulls size)) none)
+
+pub missing_fault : (k : Kind) (size count : ℕ) (m : Bool) (vs : List (Option ScalarValue)) → map option_row vs ≡ replicate (length vs) null → count ≡ length vs * size → count < 2 ^ 64
+    → plain_overflow k count ≡ rows_fault (fixed_lists k size m) (map option_row vs)
+missing_fault k size count m vs none e few =
+    let same : plain_overflow (fixed_lists k size m) (length vs) ≡ plain_overflow k count =
+        ap (λ c. if nat_lt c (2 ^ 64) then plain_overflow k c else Some overflow) (sym e) ∙ ap (λ b. if b then plain_overflow k count else Some overflow) (lt-ltb count (2 ^ 64) few) in
+    sym same ∙ sym (rows_fault-nulls (fixed_lists k size m) (length vs)) ∙ sym (ap (rows_fault (fixed_lists k size m)) none)
+
+pub ruleset missing = (missing_may, missing_plain, missing_made)

@@ -162,19 +162,19 @@ mutual
 
 -- ---- rows of null have no parts
 
-none_long : (n : ℕ) → count_by is_long_row (replicate n null) ≡ 0
+pub none_long : (n : ℕ) → count_by is_long_row (replicate n null) ≡ 0
 none_long n = sum_by-replicate (λ y. cond (is_long_row y) 1 0) n null ∙ omega arith
 
-no_items : (n : ℕ) → flat_map items_in (replicate n null) ≡ []
+pub no_items : (n : ℕ) → flat_map items_in (replicate n null) ≡ []
 no_items zero = refl
 no_items (suc n) = no_items n
 
-sized_nulls : (size n : ℕ) → flat_map (items_or_nulls size) (replicate n null) ≡ replicate (n * size) null
+pub sized_nulls : (size n : ℕ) → flat_map (items_or_nulls size) (replicate n null) ≡ replicate (n * size) null
 sized_nulls size zero = ap (λ m. replicate m null) {x = 0} {y = 0 * size} (omega arith)
 sized_nulls size (suc n) =
     ap (λ rs. replicate size null ++ rs) (sized_nulls size n) ∙ replicate-append-replicate size (n * size) null ∙ ap (λ m. replicate m null) {x = size + n * size} {y = suc n * size} (omega arith)
 
-nulls_at : (c n : ℕ) → map (field_in c) (replicate n null) ≡ replicate n null
+pub nulls_at : (c n : ℕ) → map (field_in c) (replicate n null) ≡ replicate n null
 nulls_at c zero = refl
 nulls_at c (suc n) = ap (λ rs. null ∷ rs) (nulls_at c n)
 

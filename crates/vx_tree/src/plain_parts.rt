@@ -1,6 +1,6 @@
 // Values that are lists or records, one a row, in plain layout: one recursion through data types.
 
-ghost use Rattle.std.specs.Prelude.{◌≡◌, ◌<◌, ◌*◌, ◌^◌, ◌++◌, [], length, map, replicate, IfOk};
+ghost use Rattle.std.specs.Prelude.{◌≡◌, ◌<◌, ◌*◌, ◌^◌, ◌++◌, [], true, length, map, replicate, IfOk};
 ghost use Rattle.std.specs.List.{All, flat_map};
 ghost use Rattle.vx_base.specs.DTypes.{dtype_meaning, field_kinds, field_names, is_nullable, kinds_of};
 ghost use Rattle.vx_base.specs.Kinds.{fixed_lists, lists, records};
@@ -13,6 +13,7 @@ ghost use Rattle.vx_tree.specs.PlainValues.{fields_fault, rows_fault};
 
 use crate::array::ArrayRef;
 use crate::layouts::list_view::counts_array;
+use crate::plain_rows::missing_rows;
 use crate::plain_values::{plain_numbers, plain_texts, plain_truths, validity_of_values};
 use std::alloc::Global;
 use vx_base::{DType, Nullability, ScalarValue, StructFields, VortexError};
@@ -62,7 +63,8 @@ fn plain_lists(
     Ok(ArrayRef::list_view(alloc, elements, offsets, sizes, validity, false)?)
 }
 
-// Lists of one size: a null has so many rows of null.
+// Lists of one size: a null has so many rows of null. Where no value is there these are made of
+// zeroes.
 #[cycle(plain_values)]
 fn plain_fixed_lists(
     alloc: Global,
@@ -79,6 +81,13 @@ fn plain_fixed_lists(
     let Some(count) = values.len().checked_mul(size as usize) else {
         return Err(VortexError::Overflow);
     };
+    if count > 0 && are_missing(values) {
+        let none = plain_values(alloc, items, &[])?;
+        let elements = missing_rows(alloc, items, &none, count)?;
+        let validity = validity_of_values(alloc, nullability, values)?;
+        let len = values.len();
+        return Ok(ArrayRef::fixed_size_list(alloc, elements, size, validity, len)?);
+    }
     let rows = spread_fixed_lists(alloc, values, size as usize, count)?;
     let elements = plain_values(alloc, items, &rows)?;
     let validity = validity_of_values(alloc, nullability, values)?;
@@ -123,6 +132,18 @@ fn plain_fields(
         columns.push(plain_values(alloc, dtype, &rows)?)?;
     }
     Ok(columns)
+}
+
+// Whether no value is there.
+fn are_missing(values: &[Option<ScalarValue>]) -> bool
+    ensures { result ≡ true → map option_row values.now ≡ replicate (length values.now) null }
+{
+    for value in values {
+        if value.is_some() {
+            return false;
+        }
+    }
+    true
 }
 
 // The rows of lists, one list after another; a null has none. The place and the length of each are

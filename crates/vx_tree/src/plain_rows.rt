@@ -1,10 +1,12 @@
 // Rows in plain layout, of which only the validity is given.
 
-ghost use Rattle.std.specs.Prelude.{◌≡◌, ◌<◌, ℕ, [], None, Some, true, false, if◌then◌else◌};
+ghost use Rattle.std.specs.Prelude.{◌≡◌, ◌<◌, ℕ, [], None, Some, true, false, replicate, IfOk, if◌then◌else◌};
 ghost use Rattle.std.specs.List.{All};
-ghost use Rattle.vx_base.specs.DTypes.{dtype_meaning, kinds_of};
+ghost use Rattle.vx_base.specs.DTypes.{dtype_meaning, is_nullable, kinds_of};
 ghost use Rattle.vx_base.specs.Kinds.{is_nullable_kind, or_nullable};
-ghost use Rattle.vx_base.specs.Refusals.{Gives, overflow};
+ghost use Rattle.vx_base.specs.Refusals.{Gives, Refuses, overflow};
+ghost use Rattle.vx_tree.specs.Tree.{all_invalid, non_nullable};
+ghost use Rattle.vx_tree.specs.PlainValues.{ArePlainValues};
 ghost use Rattle.vx_tree.specs.Meaning.{kind_of, is_valid_at, nullable, trees_from};
 ghost use Rattle.vx_tree.specs.Shapes.{state_of, tree_state, taken_state};
 ghost use Rattle.vx_tree.specs.Formed.{ValidFits};
@@ -16,7 +18,7 @@ ghost use Rattle.vx_tree.specs.Canonical.{IsBlank, IsBlankPart, AreBlankParts, I
 use crate::array::{ArrayRef, Layout, Validity};
 use crate::plain_parts::plain_values;
 use std::alloc::Global;
-use vx_base::{BitBuffer, DType, VortexError, zero_numbers};
+use vx_base::{BitBuffer, DType, Nullability, VortexError, zero_numbers};
 
 impl ArrayRef {
     // Rows of this validity in plain layout, made of zeroes: lists have no elements and texts no
@@ -142,6 +144,36 @@ impl ArrayRef {
             made.push(column.blank_part(alloc, len)?)?;
         }
         Ok(made)
+    }
+}
+
+// Rows of no value in plain layout, null where null may stand, in the layout of this, which has no
+// row. Asks for one row at least.
+#[tactic(auto, using(crate::proofs::Blanks::missing))]
+pub(crate) fn missing_rows(
+    alloc: Global,
+    dtype: &DType,
+    none: &ArrayRef,
+    len: usize,
+) -> Result<ArrayRef, VortexError>
+    requires none { ArePlainValues (dtype_meaning dtype.now) [] none.now }
+    requires some { 0 < len }
+    ensures made { IfOk result (ArePlainValues (dtype_meaning dtype.now) (replicate len None)) }
+    ensures refuses { Refuses result (plain_overflow (dtype_meaning dtype.now) len) }
+{
+    if !is_countable(dtype, len) {
+        return Err(VortexError::Overflow);
+    }
+    Ok(none.blank_like(alloc, len, missing_validity(dtype.nullability()))?)
+}
+
+// The validity of rows of no value.
+fn missing_validity(nullability: Nullability) -> Validity
+    ensures { valid_of result ≡ (if is_nullable nullability then all_invalid else non_nullable) }
+{
+    match nullability {
+        Nullability::NonNullable => Validity::NonNullable,
+        Nullability::Nullable => Validity::AllInvalid,
     }
 }
 

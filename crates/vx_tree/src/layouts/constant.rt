@@ -175,7 +175,7 @@ fn constant_or_null(
 }
 
 // The one row in plain layout.
-fn plain_row(alloc: Global, scalar: &Scalar) -> Result<ArrayRef, VortexError>
+pub(crate) fn plain_row(alloc: Global, scalar: &Scalar) -> Result<ArrayRef, VortexError>
     ensures ok { IfOk result (IsCanonical (constant scalar.now.kind scalar.now.row 1)) }
     ensures refuses { Refuses result (rows_fault scalar.now.kind (scalar.now.row ∷ [])) }
 {
@@ -185,7 +185,7 @@ fn plain_row(alloc: Global, scalar: &Scalar) -> Result<ArrayRef, VortexError>
 
 // Rows of null of a data type in plain layout.
 #[tactic(auto, using(crate::proofs::Blanks::null_rows))]
-fn null_rows(alloc: Global, dtype: &DType, len: usize) -> Result<ArrayRef, VortexError>
+pub(crate) fn null_rows(alloc: Global, dtype: &DType, len: usize) -> Result<ArrayRef, VortexError>
     requires { is_nullable_kind (dtype_meaning dtype.now) ≡ true }
     ensures ok { IfOk result (IsCanonical (constant (dtype_meaning dtype.now) null len)) }
     ensures refuses { Refuses result (plain_overflow (dtype_meaning dtype.now) len) }

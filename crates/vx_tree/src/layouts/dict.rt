@@ -3,9 +3,10 @@
 ghost use Rattle.std.specs.Prelude.{◌≡◌, ◌<◌, ◌≤◌, ◌-◌, ℕ, true, false, IfOk, IfSome, IsSome, is_some};
 ghost use Rattle.vx_base.specs.Refusals.{Gives, Refuses};
 ghost use Rattle.vx_base.specs.ValueRows.{row_under};
-ghost use Rattle.vx_base.specs.Kinds.{booleans, is_integers, is_plain_integers};
-ghost use Rattle.vx_base.specs.Rows.{is_present, position_in};
-ghost use Rattle.vx_tree.specs.Tree.{by_array, dictionary};
+ghost use Rattle.vx_base.specs.DTypes.{dtype_meaning};
+ghost use Rattle.vx_base.specs.Kinds.{booleans, is_integers, is_nullable_kind, is_plain_integers};
+ghost use Rattle.vx_base.specs.Rows.{is_present, null, position_in};
+ghost use Rattle.vx_tree.specs.Tree.{by_array, constant, dictionary};
 ghost use Rattle.vx_tree.specs.Layouts.{is_dictionary};
 ghost use Rattle.vx_tree.specs.Meaning.{tree_len, kind_of, row_at, is_valid_at};
 ghost use Rattle.vx_tree.specs.Formed.{ValidFits, IsCode, IsDictionary};
@@ -17,9 +18,11 @@ ghost use Rattle.vx_tree.specs.Operations.{IsSlice, IsSelected, IsNulled, IsNull
 
 use crate::array::{ArrayRef, Layout, Validity};
 use crate::indices::to_position;
+use crate::layouts::constant::{null_rows, plain_row};
+use crate::plain_rows::is_countable;
 use crate::validity::constant_truth;
 use std::alloc::Global;
-use vx_base::{ScalarValue, Selection, VortexError};
+use vx_base::{DType, Scalar, ScalarValue, Selection, VortexError};
 
 impl ArrayRef {
     /// The values at the positions that the codes name, null where a code is null. Asks that the
@@ -124,7 +127,7 @@ impl ArrayRef {
         ArrayRef::dictionary(alloc, codes, values, false)
     }
 
-    // The canonical values, taken by the codes.
+    // The canonical values, taken by the codes; of a constant its one row.
     #[cycle(canonical)]
     pub(crate) fn canonical_dictionary(&self, alloc: Global) -> Result<ArrayRef, VortexError>
         requires { is_dictionary self.now ≡ true }
@@ -134,6 +137,9 @@ impl ArrayRef {
         let Layout::Dict { codes, values, .. } = self.layout() else {
             unreachable!();
         };
+        if let Layout::Constant { scalar, len } = values.layout() {
+            return Ok(scalar_named(alloc, scalar, *len, codes)?);
+        }
         let values = values.canonical(alloc)?;
         let named = values.named_by(alloc, codes)?;
         Ok(named)
@@ -241,6 +247,50 @@ impl Validity {
             }
         }
     }
+}
+
+// The row that codes name in a constant, null where a code is null, in plain layout: it is made plain
+// once, however long the constant is.
+#[tactic(auto, using(crate::proofs::CanonicalDictionaries::one_row))]
+fn scalar_named(
+    alloc: Global,
+    scalar: &Scalar,
+    len: usize,
+    codes: &ArrayRef,
+) -> Result<ArrayRef, VortexError>
+    requires { IsDictionary codes.now (constant scalar.now.kind scalar.now.row len) false }
+    ensures ok { IfOk result (IsCanonical (dictionary codes.now (constant scalar.now.kind scalar.now.row len) false)) }
+    ensures refuses { Refuses result (canonical_fault (dictionary codes.now (constant scalar.now.kind scalar.now.row len) false)) }
+{
+    if scalar.is_null() {
+        return null_named(alloc, scalar.dtype(), len, codes);
+    }
+    let row = plain_row(alloc, scalar)?;
+    if !is_countable(scalar.dtype(), len) {
+        return Err(VortexError::Overflow);
+    }
+    let nulls = codes.validity(alloc)?;
+    let zeroes = ArrayRef::zero_codes(alloc, codes.len(), &nulls)?;
+    Ok(row.named_by(alloc, &zeroes)?)
+}
+
+// The same of a row of null.
+#[tactic(auto, using(crate::proofs::CanonicalDictionaries::one_row))]
+fn null_named(
+    alloc: Global,
+    dtype: &DType,
+    len: usize,
+    codes: &ArrayRef,
+) -> Result<ArrayRef, VortexError>
+    requires may { is_nullable_kind (dtype_meaning dtype.now) ≡ true }
+    requires codes { IsDictionary codes.now (constant (dtype_meaning dtype.now) null len) false }
+    ensures ok { IfOk result (IsCanonical (dictionary codes.now (constant (dtype_meaning dtype.now) null len) false)) }
+    ensures refuses { Refuses result (canonical_fault (dictionary codes.now (constant (dtype_meaning dtype.now) null len) false)) }
+{
+    if !is_countable(dtype, len) {
+        return Err(VortexError::Overflow);
+    }
+    null_rows(alloc, dtype, codes.len())
 }
 
 impl ArrayRef {
