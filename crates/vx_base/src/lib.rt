@@ -14,7 +14,7 @@ mod dtypes;
 mod errors;
 mod field_names;
 mod gather;
-mod laws;
+pub mod laws;
 mod mask;
 mod mask_rows;
 mod mask_runs;

@@ -1,4 +1,4 @@
-// Laws of arrays, each proved as the contract of a function that does nothing.
+//! Laws of arrays and of their validities: functions that do nothing, and whose contract is the law.
 
 ghost use Rattle.std.specs.Prelude.{◌≡◌, ◌<◌, ◌≤◌, ◌-◌, ◌^◌, ℕ, Some, None};
 ghost use Rattle.vx_base.specs.Kinds.{Fits};
@@ -17,6 +17,9 @@ ghost use Rattle.vx_tree.specs.Worked.{some_records, record_rows, some_texts, te
 ghost use Rattle.vx_tree.specs.Worked.{faulty_indices, negative_indices, null_indices};
 
 use crate::array::ArrayRef;
+pub use crate::validity::{
+    and_associates, and_commutes, and_has_a_unit, and_repeats, trivial_casts_are_casts,
+};
 
 /// The rows of every array fit its data type.
 #[tactic(auto, using(crate::proofs::Fitting::rows_fit))]

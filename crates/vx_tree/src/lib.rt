@@ -10,7 +10,7 @@ mod filter;
 mod indices;
 mod into_array;
 mod join;
-mod laws;
+pub mod laws;
 mod layouts;
 mod mask;
 mod nulls;
