@@ -121,7 +121,7 @@ AreCanonical-from_each n ts us i lens h l =
 
 -- ---- faults of columns, one after another
 
-or_none : (a b : Option Refusal) → or_else a b ≡ None → (a ≡ None) × (b ≡ None)
+pub or_none : (a b : Option Refusal) → or_else a b ≡ None → (a ≡ None) × (b ≡ None)
 or_none None b h = (refl, h)
 or_none (Some r) b h = cc
 

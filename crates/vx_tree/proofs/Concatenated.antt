@@ -19,7 +19,7 @@ use Rattle.vx_tree.specs.Fitting.{AllFormed}
 use Rattle.vx_tree.specs.Canonical.{IsCanonical, columns_fault}
 use Rattle.vx_tree.specs.Flags.{is_flagged}
 use Rattle.vx_tree.specs.Joined.{joined_len, joined_state, joined_states, joined_row, parts_join_fault, join_fault, IsJoined, AreJoinable}
-use Rattle.vx_tree.specs.Extents.{extent_of}
+use Rattle.vx_tree.specs.Extents.{extent_of, joined_extent}
 use Rattle.vx_tree.specs.Concatenated.{are_alike, given_fault, extents_fault, plain_fault, concat_fault}
 use Rattle.vx_tree.proofs.RowLists.{length-rows, get_or-rows}
 use Rattle.vx_tree.proofs.JoinedRows.{length-joined, joined_item, joined_same, joined-here, joined-later}
@@ -129,6 +129,13 @@ rows_joined k ts r joined =
     let n : i < joined_len ts = omega (arith, joined.len) in
     get_or-rows r i d m ∙ joined.rows i n ∙ rows_listed ts i d n)
 
+-- the extents are those in plain layout
+pub extents_same : (ts ps : List Tree) → AllZip IsCanonical ts ps → map extent_of ps ≡ map extent_of ts
+extents_same [] [] h = refl
+extents_same [] (p ∷ ps) h = absurd h
+extents_same (t ∷ ts) [] h = absurd h
+extents_same (t ∷ ts) (p ∷ ps) h = let rest = extents_same ts ps h.1 in λ i. h.0.extent i ∷ rest i
+
 -- plain layouts that are joined are the arrays joined
 plain_joined : (k : Kind) (ts ps : List Tree) (r : Tree) → AllZip IsCanonical ts ps → IsJoined k ps r → IsJoined k ts r
 plain_joined k ts ps r h joined =
@@ -137,6 +144,7 @@ plain_joined k ts ps r h joined =
       kind = joined.kind;
       plain = joined.plain;
       state = λ some. joined.state (omega (arith, plain_count ts ps h)) ∙ plain_states ts ps h;
+      extent = joined.extent ∙ ap (joined_extent k) (extents_same ts ps h);
       flag = joined.flag;
       rows = λ i l. joined.rows i (omega (arith, plain_len ts ps h)) ∙ plain_row ts ps h i l;
     }
@@ -160,13 +168,6 @@ first_fault : (a b : Option Refusal) (e : VortexError) → IsMemoryOr a e → Is
 first_fault a b e (inl memory) = inl memory
 first_fault None b e (inr same) = inl (memory_only None e refl (inr same))
 first_fault (Some r) b e (inr same) = inr same
-
--- the extents are those in plain layout
-extents_same : (ts ps : List Tree) → AllZip IsCanonical ts ps → map extent_of ps ≡ map extent_of ts
-extents_same [] [] h = refl
-extents_same [] (p ∷ ps) h = absurd h
-extents_same (t ∷ ts) [] h = absurd h
-extents_same (t ∷ ts) (p ∷ ps) h = let rest = extents_same ts ps h.1 in λ i. h.0.extent i ∷ rest i
 
 plain_fault-first : (ts : List Tree) (t : Tree) → 0 < length ts → t ≡ get_or ts 0 t → extents_fault (kind_of t) (joined_len ts) (map extent_of ts) ≡ plain_fault ts
 plain_fault-first [] t l e = absurd (omega arith)
@@ -214,6 +215,10 @@ ok_plain (Err e) k ps joined = tt
 pub ok_state : (r : Result Tree VortexError) (k : Kind) (ts ps : List Tree) → AllZip IsCanonical ts ps → 0 < length ps → IfOk r (IsJoined k ps) → IfOk r (λ a. tree_state a ≡ joined_state ts)
 ok_state (Ok a) k ts ps h some joined = joined.state some ∙ plain_states ts ps h
 ok_state (Err e) k ts ps h some joined = tt
+
+pub ok_extent : (r : Result Tree VortexError) (k : Kind) (ts ps : List Tree) → AllZip IsCanonical ts ps → IfOk r (IsJoined k ps) → IfOk r (λ a. extent_of a ≡ joined_extent (kind_of a) (map extent_of ts))
+ok_extent (Ok a) k ts ps h joined = (plain_joined k ts ps a h joined).extent ∙ ap (λ j. joined_extent j (map extent_of ts)) (sym joined.kind)
+ok_extent (Err e) k ts ps h joined = tt
 
 pub ok_flag : (r : Result Tree VortexError) (k : Kind) (ps : List Tree) → IfOk r (IsJoined k ps) → IfOk r (λ a. is_flagged a ≡ false)
 ok_flag (Ok a) k ps joined = joined.flag

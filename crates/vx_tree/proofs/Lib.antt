@@ -36,6 +36,7 @@ pub mod Patched
 pub mod Joins
 pub mod JoinedRows
 pub mod JoinedStates
+pub mod ExtentParts
 pub mod JoinedLeaves
 pub mod JoinedLists
 pub mod JoinedRecords
@@ -47,3 +48,4 @@ pub mod JoinedExtents
 pub mod JoinedNumbers
 pub mod Concatenated
 pub mod PlainTests
+pub mod ConcatenatedTwice

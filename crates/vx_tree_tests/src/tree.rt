@@ -8,6 +8,7 @@ ghost use Rattle.vx_tree.specs.Tree.{bools, primitive, non_nullable, by_array};
 use std::alloc::Global;
 use std::process::Abort;
 use vx_base::{BitBuffer, ByteBuffer, DType, Nullability, PType, Scalar, Selection, VortexError};
+use vx_tree::laws::concats_of_concats_are_concats;
 use vx_tree::{
     ArrayRef, Layout, Validity, dictionaries_keep_their_values, faults_of_worked_arrays,
     rows_fit_their_dtype, rows_fit_their_kind, rows_of_worked_arrays,
@@ -490,6 +491,7 @@ fn laws() {
     worked_arrays_are_formed();
     slices_of_slices_are_slices();
     selections_of_selections_are_selections();
+    concats_of_concats_are_concats();
     dictionaries_keep_their_values();
     faults_of_worked_arrays();
 }
