@@ -28,6 +28,8 @@ pub mod PlainValues
 pub mod PlainTexts
 pub mod PlainParts
 pub mod CanonicalDictionaries
+pub mod CanonicalAt
+pub mod CanonicalFaults
 pub mod Filtered
 pub mod Runs
 pub mod Validities
