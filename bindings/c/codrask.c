@@ -451,5 +451,7 @@ const char *codrask_fault_name(uint32_t number) {
         return names[number];
     if (number == CODRASK_BAD_ARROW)
         return "BadArrow";
+    if (number == CODRASK_NOT_END_TO_END)
+        return "NotEndToEnd";
     return number >= 32 && number - 32 < sizeof own / sizeof *own ? own[number - 32] : "";
 }

@@ -95,7 +95,8 @@ enum codrask_number {
     CODRASK_MISSING_NODES = 34,  /* the nodes that follow are fewer arrays than the node has parts */
     CODRASK_NOT_ONE_ARRAY = 35,  /* the nodes are no array, or several */
     CODRASK_TOO_MANY_NODES = 36, /* more than 4096 */
-    CODRASK_BAD_ARROW = 64       /* of codrask_check_arrow: not a schema and an array that are read here */
+    CODRASK_BAD_ARROW = 64,      /* of Arrow: not a schema and an array that are read here, or a column that is not written */
+    CODRASK_NOT_END_TO_END = 65  /* of codrask_to_arrow: lists that offsets alone cannot tell */
 };
 
 /* The version of the proved calls and of the table: 1. */
@@ -163,6 +164,20 @@ void codrask_table_free(struct codrask_table *table);
 
 /* Makes the table, checks it, and gives it back. */
 uint32_t codrask_check_arrow(const struct ArrowSchema *schema, const struct ArrowArray *array, struct codrask_fault *fault);
+
+/* How codrask_to_arrow writes. */
+enum codrask_arrow_flags {
+    CODRASK_BY_VIEWS = 0,  /* texts and byte lists as "vu", "vz", lists as "+vL" */
+    CODRASK_BY_OFFSETS = 1 /* as "u", "z" or, where they are large, "U", "Z"; as "+l" or "+L" */
+};
+
+/* Writes a column as an Arrow array that has blocks of its own, to be given back by its release, as its schema is by its
+ * own. The table is checked first, and copied. Answers 0; the number of the first fault; CODRASK_NOT_END_TO_END where lists
+ * are to be written by offsets and one does not begin where the one before it ends; CODRASK_BAD_ARROW where codes, offsets, sizes
+ * or a validity are themselves a dictionary, or a name holds a byte 0. Where the answer is not 0, *fault has it, and nothing is
+ * to be released. */
+uint32_t codrask_to_arrow(const struct codrask_node *nodes, size_t node_count, uint32_t flags, struct ArrowSchema *schema,
+                          struct ArrowArray *array, struct codrask_fault *fault);
 
 #ifdef __cplusplus
 }

@@ -1,11 +1,12 @@
 /* Each allocation of a call fails in turn: the call answers Memory, or as it does with ample memory, and every block is
- * given back. Linked with --wrap of malloc, realloc and free. The last line is 'N passed, M failed'. */
+ * given back. Linked with --wrap of malloc, calloc, realloc and free. The last line is 'N passed, M failed'. */
 #include "tables.h"
 
 #include <stdio.h>
 
 void *__real_malloc(size_t size);
 void *__real_realloc(void *block, size_t size);
+void *__real_calloc(size_t count, size_t width);
 void __real_free(void *block);
 
 static long left = -1, held, tried;
@@ -30,6 +31,12 @@ void *__wrap_realloc(void *old, size_t size) {
     return got;
 }
 
+void *__wrap_calloc(size_t count, size_t width) {
+    void *got = refused() ? NULL : __real_calloc(count, width);
+    held += counting && got;
+    return got;
+}
+
 void __wrap_free(void *old) {
     held -= counting && old;
     __real_free(old);
@@ -37,31 +44,55 @@ void __wrap_free(void *old) {
 
 static struct made made;
 
-static uint32_t check(long fail_at, struct codrask_fault *fault) {
+typedef uint32_t call(struct codrask_fault *fault);
+
+static uint32_t check(struct codrask_fault *fault) {
+    return codrask_check(made.nodes, made.count, fault);
+}
+
+static uint32_t to_arrow(struct codrask_fault *fault) {
+    struct ArrowSchema schema;
+    struct ArrowArray array;
+    uint32_t number = codrask_to_arrow(made.nodes, made.count, CODRASK_BY_OFFSETS, &schema, &array, fault);
+    if (schema.release)
+        schema.release(&schema);
+    if (array.release)
+        array.release(&array);
+    return number;
+}
+
+/* Makes a call with one request for memory refused, or with none. */
+static uint32_t try_call(call *made_call, long fail_at, struct codrask_fault *fault) {
     left = fail_at, held = tried = 0, counting = true;
-    uint32_t number = codrask_check(made.nodes, made.count, fault);
+    uint32_t number = made_call(fault);
     counting = false, left = -1;
     return number;
+}
+
+/* Whether a call answers Memory where memory is refused, or as ever, and keeps nothing. */
+static bool gives_back(call *made_call, uint64_t seed) {
+    struct codrask_fault fault, other;
+    uint32_t wanted = try_call(made_call, -1, &fault);
+    long calls = tried;
+    bool good = held == 0;
+    for (long i = 0; i < calls; i++) {
+        uint32_t number = try_call(made_call, i, &other);
+        good = good && held == 0 && (number == CODRASK_MEMORY || (number == wanted && !memcmp(&fault, &other, sizeof fault)));
+    }
+    if (!good)
+        printf("seed %llu: %ld calls, %ld blocks held\n", (unsigned long long)seed, calls, held);
+    return good;
 }
 
 int main(void) {
     size_t passed = 0, failed = 0;
     for (uint64_t seed = 1; seed <= 200; seed++) {
-        struct codrask_fault fault, other;
         state = seed;
         put_column(&made, 1 + random_below(12), 0);
         if (seed % 2)
             made.nodes[random_below(made.count)].length++;
-        uint32_t wanted = check(-1, &fault);
-        long calls = tried;
-        bool good = held == 0;
-        for (long i = 0; i < calls; i++) {
-            uint32_t number = check(i, &other);
-            good = good && held == 0 && (number == CODRASK_MEMORY || (number == wanted && !memcmp(&fault, &other, sizeof fault)));
-        }
-        good ? passed++ : failed++;
-        if (!good)
-            printf("seed %llu: %ld calls, %ld blocks held\n", (unsigned long long)seed, calls, held);
+        gives_back(check, seed) ? passed++ : failed++;
+        gives_back(to_arrow, seed) ? passed++ : failed++;
         let_go(&made);
     }
     printf("%zu passed, %zu failed\n", passed, failed);

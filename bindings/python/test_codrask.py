@@ -63,6 +63,41 @@ def test_records():
     assert refused(Column.records([(b"\xff", i32(1))], 1)) == ("NotUtf8", 13, 0, 0)
 
 
+def there_and_back(column, by_offsets):
+    made = column.to_arrow(by_offsets)
+    return Column.from_arrow(made.schema_pointer, made.array_pointer, made).to_pylist()
+
+
+def test_arrow():
+    texts = Column.views(b"\3\0\0\0abc" + bytes(9) + b"\r\0\0\0a lo\0\0\0\0\2\0\0\0", [b"..a longer text"])
+    numbers = Column.numbers("u8", b"ab", Column.bools(b"\2", 2))
+    pairs = Column.fixed_size_lists(i32(1, 2, 3, 4), 2, 2)
+    lists = Column.list_views(i32(1, 2, 3, 4), i32(1, 2), i32(1, 2), Column.bools(b"\1", 2))
+    named = Column.dictionary(Column.numbers("i8", b"\1\0"), texts)
+    records = Column.records({"t": texts, "n": numbers, "p": pairs, "l": lists, "d": named}, 2)
+    wanted = [
+        {"t": "abc", "n": None, "p": [1, 2], "l": [2], "d": "a longer text"},
+        {"t": "a longer text", "n": 98, "p": [3, 4], "l": None, "d": "abc"},
+    ]
+    for by_offsets in (False, True):
+        assert there_and_back(records, by_offsets) == wanted, there_and_back(records, by_offsets)
+    assert records.to_arrow(True).array.n_children == 5
+    formats = [records.to_arrow(True).schema.children[i].contents.format for i in range(5)]
+    assert formats == [b"u", b"C", b"+w:2", b"+l", b"c"], formats
+
+
+def test_arrow_refused():
+    apart = Column.list_views(i32(1, 2, 3, 4), i32(2, 0), i32(1, 1))
+    assert there_and_back(apart, False) == [[3], [1]]
+    for column, name in ((apart, "NotEndToEnd"), (Column.numbers("i32", b"abc"), "LengthMismatch")):
+        try:
+            column.to_arrow(by_offsets=True)
+        except Refused as refusal:
+            assert refusal.name == name, refusal
+        else:
+            raise AssertionError(name)
+
+
 def test_names():
     assert (fault_name(13), fault_name(32), version()) == ("NotUtf8", "UnknownKind", 1)
 

@@ -1,10 +1,12 @@
-"""Columns that GDAL makes: each field of a layer, whole and by its rows, as GDAL hands it over by Arrow's C Data Interface. It runs
-where GDAL 3.6 or later is installed (Debian: python3-gdal). The last line is 'N passed, M failed'."""
+"""Columns that GDAL makes: each field of a layer, whole and by its rows, as GDAL hands it over by Arrow's C Data Interface; and
+GDAL reads what is written of them. It runs where GDAL 3.6 or later is installed (Debian: python3-gdal). The last line is
+'N passed, M failed'."""
 
 import ctypes
 import traceback
 
-from osgeo import gdal, ogr
+import numpy
+from osgeo import gdal, gdal_array, ogr
 
 from codrask import Column, Refused
 
@@ -122,6 +124,39 @@ def test_records():
     got = batch.whole().to_pylist()
     assert [{name: row[name] for name in FIELDS} for row in got] == wanted, got
     assert [row["OGC_FID"] for row in got] == [0, 1, 2], got
+
+
+def read_by_gdal(column):
+    """The fields of records as GDAL reads them, null as None."""
+    made = column.to_arrow(by_offsets=True)
+    fields = gdal_array._RecordBatchAsNumpy(made.array_pointer, made.schema_pointer, made)
+    return {name: plain_field(field) for name, field in fields.items()}
+
+
+def plain_field(field):
+    """The rows of a field, which is an array, or one with a mask that is true at nulls."""
+    if isinstance(field, dict):
+        return [plain_value(value, masked) for value, masked in zip(field["data"], field["mask"])]
+    return [plain_value(value, False) for value in field]
+
+
+def plain_value(value, masked):
+    if masked or value is None:
+        return None
+    if isinstance(value, numpy.ndarray):
+        value = value.tolist()
+    elif isinstance(value, numpy.generic):
+        value = value.item()
+    if isinstance(value, list):
+        return [plain_value(item, False) for item in value]
+    return value.decode() if isinstance(value, bytes) else value
+
+
+def test_written_fields():
+    batch = Batch(list(FIELDS))
+    read = read_by_gdal(batch.whole())
+    for name in FIELDS:
+        assert read[name] == rows_of(name), (name, read[name])
 
 
 def test_offset_that_falls():

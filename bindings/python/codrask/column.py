@@ -2,7 +2,7 @@
 
 import ctypes
 
-from .library import Bytes, Fault, Node, Table, load
+from .library import ArrowArray, ArrowSchema, Bytes, Fault, Node, Table, load
 
 BOOL, DICTIONARY, FIXED_SIZE_LIST, LIST_VIEW, STRUCT = 0, 11, 12, 13, 14
 UTF8_VIEW, BINARY_VIEW = 9, 10
@@ -155,6 +155,14 @@ class Column:
             raise fault
         return self
 
+    def to_arrow(self, by_offsets=False):
+        """This column as an `Arrow`, in blocks of its own. Raises `Refused` where it is no column. Texts, byte lists and lists
+        are written by views, or by offsets, and then `NotEndToEnd` is raised where lists do not lie one after another."""
+        nodes, fault, made = (Node * len(self._nodes))(*self._nodes), Fault(), Arrow()
+        if load().codrask_to_arrow(nodes, len(self._nodes), int(by_offsets), made.schema, made.array, ctypes.byref(fault)):
+            raise Refused(fault.number, fault.node, fault.place)
+        return made
+
     def to_pylist(self):
         """The rows, null as None. The column is checked first: only what has passed is read."""
         if not self._checked:
@@ -162,6 +170,32 @@ class Column:
         rows, left = _rows(self._nodes, 0)
         assert left == len(self._nodes)
         return rows
+
+
+class Arrow:
+    """An ArrowSchema and an ArrowArray, given back with this object where nobody took them over."""
+
+    def __init__(self):
+        self.schema, self.array = ArrowSchema(), ArrowArray()
+
+    @property
+    def schema_pointer(self):
+        """The address of the ArrowSchema."""
+        return ctypes.addressof(self.schema)
+
+    @property
+    def array_pointer(self):
+        """The address of the ArrowArray."""
+        return ctypes.addressof(self.array)
+
+    def release(self):
+        """Gives both back, once."""
+        for part in (self.array, self.schema):
+            if part.release:
+                part.release(part)
+
+    def __del__(self):
+        self.release()
 
 
 class _Owned:

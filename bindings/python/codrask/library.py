@@ -32,6 +32,39 @@ class Table(ctypes.Structure):
     _fields_ = [("nodes", ctypes.POINTER(Node)), ("count", ctypes.c_size_t), ("memory", ctypes.c_void_p)]
 
 
+class ArrowSchema(ctypes.Structure):
+    pass
+
+
+class ArrowArray(ctypes.Structure):
+    pass
+
+
+ArrowSchema._fields_ = [
+    ("format", ctypes.c_char_p),
+    ("name", ctypes.c_char_p),
+    ("metadata", ctypes.c_char_p),
+    ("flags", ctypes.c_int64),
+    ("n_children", ctypes.c_int64),
+    ("children", ctypes.POINTER(ctypes.POINTER(ArrowSchema))),
+    ("dictionary", ctypes.POINTER(ArrowSchema)),
+    ("release", ctypes.CFUNCTYPE(None, ctypes.POINTER(ArrowSchema))),
+    ("private_data", ctypes.c_void_p),
+]
+ArrowArray._fields_ = [
+    ("length", ctypes.c_int64),
+    ("null_count", ctypes.c_int64),
+    ("offset", ctypes.c_int64),
+    ("n_buffers", ctypes.c_int64),
+    ("n_children", ctypes.c_int64),
+    ("buffers", ctypes.POINTER(ctypes.c_void_p)),
+    ("children", ctypes.POINTER(ctypes.POINTER(ArrowArray))),
+    ("dictionary", ctypes.POINTER(ArrowArray)),
+    ("release", ctypes.CFUNCTYPE(None, ctypes.POINTER(ArrowArray))),
+    ("private_data", ctypes.c_void_p),
+]
+
+
 def find():
     """The shared object: where CODRASK_LIBRARY says, or beside this file."""
     return os.environ.get("CODRASK_LIBRARY") or os.path.join(os.path.dirname(__file__), "libcodrask.so")
@@ -55,5 +88,14 @@ def load():
         lib.codrask_table_from_arrow.argtypes = [ctypes.c_void_p, ctypes.c_void_p, ctypes.POINTER(Table)]
         lib.codrask_table_free.restype = None
         lib.codrask_table_free.argtypes = [ctypes.POINTER(Table)]
+        lib.codrask_to_arrow.restype = ctypes.c_uint32
+        lib.codrask_to_arrow.argtypes = [
+            ctypes.POINTER(Node),
+            ctypes.c_size_t,
+            ctypes.c_uint32,
+            ctypes.POINTER(ArrowSchema),
+            ctypes.POINTER(ArrowArray),
+            ctypes.POINTER(Fault),
+        ]
         _loaded = lib
     return _loaded
