@@ -1,6 +1,6 @@
 -- The rows at positions in plain layout, layout by layout.
-use Rattle.std.proofs.Common.{ℕ, zero, suc, ◌+◌, ◌*◌, ◌<◌, ◌≤◌, ◌≡◌, Bool, true, false, List, [], ◌∷◌, length, take, Option, Some, None, refl, sym, ◌∙◌, ap, subst, arith}
-use Rattle.std.specs.Prelude.{slice_index, if◌then◌else◌}
+use Rattle.std.proofs.Common.{ℕ, ◌+◌, ◌*◌, ◌<◌, ◌≤◌, ◌≡◌, Bool, true, false, List, [], ◌∷◌, length, take, None, refl, sym, ◌∙◌, ap, subst, arith}
+use Rattle.std.specs.Prelude.{slice_index}
 use Rattle.std.specs.List.{AllZip, flat_map}
 use Rattle.vx_base.specs.Kinds.{Kind, lists, fixed_lists, records}
 use Rattle.vx_base.specs.Rows.{Row, items, count_in}
@@ -8,7 +8,7 @@ use Rattle.vx_base.specs.Selections.{list_positions}
 use Rattle.vx_tree.specs.Tree.{Tree, bools, primitive, constant, dictionary, fixed_list, list_view, structure, view_array, Trees, Valid}
 use Rattle.vx_tree.specs.Layouts.{is_bools, is_primitive, is_view_array}
 use Rattle.vx_tree.specs.Meaning.{tree_len, kind_of, row_at, is_valid_at, nullable, trees_from}
-use Rattle.vx_tree.specs.Shapes.{Shape, bool_shape, primitive_shape, view_shape, shape_of, selected_shape}
+use Rattle.vx_tree.specs.Shapes.{Shape, view_shape, shape_of, selected_shape}
 use Rattle.vx_tree.specs.Flags.{is_flagged, kept_flag}
 use Rattle.vx_tree.specs.Formed.{IsListView}
 use Rattle.vx_tree.specs.Extents.{Extent, extent_of, leaf_extent, view_extent, list_extent, fixed_list_extent, struct_extent}

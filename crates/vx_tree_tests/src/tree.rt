@@ -19,6 +19,7 @@ mod fixed_size_lists;
 mod into_array;
 mod joined_arrays;
 mod joined_validities;
+mod many_values;
 mod masks;
 mod no_values;
 mod null_indices;

@@ -172,13 +172,12 @@ impl ArrayRef {
         ensures ok { IfOk result (IsCanonical (dictionary codes.now self.now false)) }
         ensures refuses { Refuses result (canonical_fault (dictionary codes.now self.now false)) }
     {
-        if self.len() <= codes.len() {
-            let values = self.canonical(alloc)?;
-            let named = values.named_by(alloc, codes)?;
-            return Ok(named);
-        }
         if !is_countable(self.dtype(), codes.len()) {
             return Err(VortexError::Overflow);
+        }
+        if self.len() <= codes.len() {
+            let values = self.canonical(alloc)?;
+            return Ok(values.named_by(alloc, codes)?);
         }
         let nulls = codes.validity(alloc)?.canonical(alloc, codes.len())?;
         let positions = codes.code_positions(alloc, self.len())?;
@@ -186,18 +185,16 @@ impl ArrayRef {
         Ok(picked.nulled(alloc, &nulls)?)
     }
 
-    // The values that codes name, in plain layout. Asks that the values are in plain layout.
+    // The values that codes name, in plain layout. Asks that the values are in plain layout, and
+    // that so many of them can be counted.
     #[tactic(auto, using(crate::proofs::PlainKinds::plain_kinds))]
-    pub(crate) fn named_by(&self, alloc: Global, codes: &ArrayRef) -> Result<ArrayRef, VortexError>
+    fn named_by(&self, alloc: Global, codes: &ArrayRef) -> Result<ArrayRef, VortexError>
         requires plain { IsPlain self.now }
         requires codes { IsDictionary codes.now self.now false }
-        ensures ok { IfOk result (IsCanonical (dictionary codes.now self.now false)) }
-        ensures refuses { Refuses result (plain_overflow (kind_of self.now) (tree_len codes.now)) }
+        requires countable { plain_overflow (kind_of self.now) (tree_len codes.now) ≡ None }
+        ensures { Gives result (IsCanonical (dictionary codes.now self.now false)) }
     {
         self.known();
-        if !self.can_select(codes.len()) {
-            return Err(VortexError::Overflow);
-        }
         let nulls = codes.validity(alloc)?.canonical(alloc, codes.len())?;
         if self.is_empty() {
             return Ok(self.plain_nulls(alloc, codes.len(), &nulls)?);

@@ -143,17 +143,23 @@ canonical_dictionary_at-returns-clause-refuses t c =
     let some : plain_overflow k (tree_len d) ≡ None = ap (plain_overflow k) c.in_ok-picked.ensures.len ∙ sym (plain_overflow-or_nullable (is_nullable_kind (kind_of parts.codes)) k n) ∙ none in
     sym (dictionary_fault-counted c.args.self.now parts.codes d parts.values parts.flag same all some) ∙ c.in_ok-named.ensures.refuses
 
-pub canonical_named-returns-then-len-clause-ok : goal.canonical_named-returns-then-len-clause-ok
-canonical_named-returns-then-len-clause-ok t c =
-    let v = c.args.self.now in
-    let codes = c.args.codes.now in
-    dictionary_canonical (dictionary codes v false) c.in_ok-named.named codes v c.in_ok-values.values false refl c.requires c.in_ok-values.ensures.ok c.in_ok-named.ensures.ok
-
 pub canonical_named-returns-then-not-is_countable-clause-refuses : goal.canonical_named-returns-then-not-is_countable-clause-refuses
 canonical_named-returns-then-not-is_countable-clause-refuses t c =
     let v = c.args.self.now in
     let codes = c.args.codes.now in
-    inr (dictionary_uncounted (dictionary codes v false) codes v false refl (sym (λ i. plain_overflow (c.dtype.ensures i) (c.len-3.ensures i)) ∙ (rw c.if-not-is_countable.true at c.is_countable.ensures)))
+    inr (dictionary_uncounted (dictionary codes v false) codes v false refl (sym (λ i. plain_overflow (c.dtype.ensures i) (c.len.ensures i)) ∙ (rw c.if-not-is_countable.true at c.is_countable.ensures)))
+
+pub canonical_named-named_by-requires-clause-countable : goal.canonical_named-named_by-requires-clause-countable
+canonical_named-named_by-requires-clause-countable t c =
+    let codes = c.args.codes.now in
+    let all : plain_overflow (kind_of c.args.self.now) (tree_len codes) ≡ None = sym (λ i. plain_overflow (c.dtype.ensures i) (c.len.ensures i)) ∙ (rw c.if-not-is_countable.false at c.is_countable.ensures) in
+    ap (λ k. plain_overflow k (tree_len codes)) c.in_ok-values.ensures.ok.same.kind ∙ all
+
+pub canonical_named-returns-then-len-clause-ok : goal.canonical_named-returns-then-len-clause-ok
+canonical_named-returns-then-len-clause-ok t c =
+    let v = c.args.self.now in
+    let codes = c.args.codes.now in
+    dictionary_canonical (dictionary codes v false) c.in_ok-named_by.field-0 codes v c.in_ok-values.values false refl c.requires c.in_ok-values.ensures.ok c.in_ok-named_by.ensures
 
 pub canonical_named-canonical_at-requires : goal.canonical_named-canonical_at-requires
 canonical_named-canonical_at-requires t c =
@@ -161,8 +167,8 @@ canonical_named-canonical_at-requires t c =
     let codes = c.args.codes.now in
     let ps = c.in_ok-positions.positions in
     let are : AreIndices codes (tree_len v) ps = rw c.len-5.ensures at c.in_ok-positions.ensures in
-    let some : 0 < tree_len v = omega (arith, c.len.ensures, c.if-len.false) in
-    let all : plain_overflow (kind_of v) (tree_len codes) ≡ None = sym (λ i. plain_overflow (c.dtype.ensures i) (c.len-3.ensures i)) ∙ (rw c.if-not-is_countable.false at c.is_countable.ensures) in
+    let some : 0 < tree_len v = omega (arith, c.len-2.ensures, c.if-len.false) in
+    let all : plain_overflow (kind_of v) (tree_len codes) ≡ None = sym (λ i. plain_overflow (c.dtype.ensures i) (c.len.ensures i)) ∙ (rw c.if-not-is_countable.false at c.is_countable.ensures) in
     (search rules, rw c.selection.ensures (positions_below codes (tree_len v) ps are some, ap (plain_overflow (kind_of v)) are.len ∙ all))
 
 pub canonical_named-returns-clause-ok : goal.canonical_named-returns-clause-ok
