@@ -8,7 +8,7 @@ use Rattle.vx_base.specs.Kinds.{Kind, integers, is_integers}
 use Rattle.vx_base.specs.SameKind.{kind_eq, kind_eq-Decides}
 use Rattle.vx_base.specs.Rows.{Row, null}
 use Rattle.vx_base.specs.Booleans.{count_fault}
-use Rattle.vx_base.specs.Refusals.{Refusal, or_else, IsMemoryOr, differing_dtypes}
+use Rattle.vx_base.specs.Refusals.{Refusal, or_else, IsMemoryOr, differing_dtypes, overflow}
 use Rattle.vx_base.specs.declared.errors.VortexError.{VortexError}
 use Rattle.vx_base.specs.declared.ptypes.PType.{PType}
 use Rattle.vx_tree.specs.Tree.{Tree}
@@ -16,7 +16,7 @@ use Rattle.vx_tree.specs.Meaning.{tree_len, kind_of, row_at, rows, trees_from}
 use Rattle.vx_tree.specs.Shapes.{tree_state}
 use Rattle.vx_tree.specs.Plain.{IsPlain}
 use Rattle.vx_tree.specs.Fitting.{AllFormed}
-use Rattle.vx_tree.specs.Canonical.{IsCanonical, columns_fault}
+use Rattle.vx_tree.specs.Canonical.{IsCanonical, plain_overflow, columns_fault}
 use Rattle.vx_tree.specs.Flags.{is_flagged}
 use Rattle.vx_tree.specs.Joined.{joined_len, joined_state, joined_states, joined_row, parts_join_fault, join_fault, IsJoined, AreJoinable}
 use Rattle.vx_tree.specs.Extents.{extent_of, joined_extent}
@@ -25,6 +25,7 @@ use Rattle.vx_tree.proofs.RowLists.{length-rows, get_or-rows}
 use Rattle.vx_tree.proofs.JoinedRows.{length-joined, joined_item, joined_same, joined-here, joined-later}
 use Rattle.vx_tree.proofs.JoinedExtents.{extents_fault-of}
 use Rattle.vx_tree.proofs.JoinedNumbers.{columns_faultless}
+use Rattle.vx_tree.proofs.Overflows.{columns_only, or_later, too_many_rows}
 use Rattle.vx_tree.proofs.Dictionaries.{memory_only}
 
 -- ---- kinds
@@ -181,6 +182,15 @@ join_fault-concat ts ps t k h joinable same l first short none =
     let few : count_fault (joined_len ps) ≡ None = ap count_fault long ∙ short in
     ap (λ f. or_else f (parts_join_fault k ps)) few ∙ extents_fault-of k ps joinable few ∙ (λ i. extents_fault (same i) (long i) (extents i)) ∙ plain_fault-first ts t l first
     ∙ sym (ap (λ f. or_else f (plain_fault ts)) none)
+
+-- of lists of one size the rows alone tell that they have too many elements
+pub rows_refused : (ts : List Tree) (t : Tree) (countable : Bool) → 0 < length ts → t ≡ get_or ts 0 t → are_alike (kind_of t) ts ≡ true → count_fault (joined_len ts) ≡ None
+    → plain_overflow (kind_of t) (joined_len ts) ≡ (if countable then None else Some overflow) → countable ≡ false → concat_fault ts ≡ Some overflow
+rows_refused ts t countable l first alike none told not_so =
+    let many : plain_overflow (kind_of t) (joined_len ts) ≡ Some overflow = told ∙ ap (λ (b : Bool). if b then None else Some overflow) not_so in
+    let extents : plain_fault ts ≡ Some overflow = sym (plain_fault-first ts t l first) ∙ too_many_rows (kind_of t) (joined_len ts) (map extent_of ts) many in
+    let given : given_fault ts ≡ columns_fault (trees_from ts) = given_alike ts t l first alike ∙ ap (λ f. or_else f (columns_fault (trees_from ts))) none in
+    ap (λ f. or_else f (plain_fault ts)) given ∙ or_later (columns_fault (trees_from ts)) (plain_fault ts) (columns_only (trees_from ts)) extents
 
 -- numbers have none, where they can be counted
 pub numbers_concatenated : (ts : List Tree) (t : Tree) (p : PType) (n : Bool) → kind_of t ≡ integers p n → 0 < length ts → t ≡ get_or ts 0 t → are_alike (kind_of t) ts ≡ true → count_fault (joined_len ts) ≡ None → concat_fault ts ≡ None

@@ -48,6 +48,7 @@ pub mod JoinedParts
 pub mod JoinedViews
 pub mod JoinedExtents
 pub mod JoinedNumbers
+pub mod Overflows
 pub mod Concatenated
 pub mod PlainTests
 pub mod ConcatenatedTwice

@@ -17,6 +17,7 @@ mod numbers;
 
 use crate::array::ArrayRef;
 use crate::join::{all_formed, joined_len};
+use crate::plain_rows::is_countable;
 use std::alloc::Global;
 use vx_base::{DType, VortexError};
 
@@ -51,6 +52,9 @@ impl ArrayRef {
         let len = joined_len(arrays)?;
         if let DType::Primitive(ptype, nullability) = first.dtype() {
             return Ok(ArrayRef::concat_numbers(alloc, *ptype, *nullability, arrays, len)?);
+        }
+        if !is_countable(first.dtype(), len) {
+            return Err(VortexError::Overflow);
         }
         let plain = plain_arrays(alloc, arrays)?;
         all_formed(&plain);

@@ -34,7 +34,7 @@ pub(crate) fn no_elements(alloc: Global, size: u32, len: usize) -> Result<ArrayR
 }
 
 // One list of 1048576 lists of 2147483648 zeroes each.
-fn huge_list(alloc: Global) -> Result<ArrayRef, VortexError> {
+pub(crate) fn huge_list(alloc: Global) -> Result<ArrayRef, VortexError> {
     let scalar = Scalar::int(0, PType::U8, Nullability::NonNullable);
     let zeroes = ArrayRef::constant(alloc, scalar, 2251799813685248)?;
     let validity = Validity::NonNullable;

@@ -1,6 +1,6 @@
 // Arrays one after another, of each layout once, with rows written by hand.
 
-use super::fixed_size_lists::{expect_elements, pairs};
+use super::fixed_size_lists::{expect_elements, huge_list, pairs};
 use super::records::{expect_pair, records};
 use super::views::{LONG, is_null, is_text, texts};
 use super::{booleans, dictionary, expect_bool, expect_list, indices, lists, number};
@@ -225,4 +225,18 @@ fn huge_constants(rt: HostRuntime) {
         constant,
     );
     assert!(rt; matches!(joined, Err(VortexError::Overflow)));
+}
+
+// Together they have 2^64 zeroes.
+#[test]
+fn huge_lists_of_one_size(rt: HostRuntime) -> Result<(), VortexError> {
+    let alloc = rt.alloc();
+    let list = huge_list(alloc)?;
+    let mut arrays = Vec::new(alloc);
+    for _ in 0..8192 {
+        arrays.push(list.try_clone(alloc)?)?;
+    }
+    let joined = ArrayRef::concat(alloc, &arrays);
+    assert!(rt; matches!(joined, Err(VortexError::Overflow)));
+    Ok(())
 }
