@@ -15,7 +15,11 @@ use vx_tree::{ArrayRef, Layout};
 fn codes(alloc: Global) -> Result<ArrayRef, VortexError>
     ensures { IfOk result (λ a. a ≡ constant (integers U8 false) (whole (pos 0)) 2) }
 {
-    ArrayRef::constant(alloc, Scalar::int(0, PType::U8, Nullability::NonNullable), 2)
+    ArrayRef::constant(
+        alloc,
+        Scalar::int(0, PType::U8, Nullability::NonNullable),
+        2,
+    )
 }
 
 // The truth value true, again and again.
@@ -50,4 +54,22 @@ fn only_what_codes_name_is_joined(rt: HostRuntime) -> Result<(), VortexError> {
     };
     assert!(rt; bits.len() == 4 && bits.true_count() == 4);
     Ok(())
+}
+
+// The number 7, twice, of more values than any memory could hold.
+fn named_number(alloc: Global) -> Result<ArrayRef, VortexError> {
+    let seven = Scalar::int(7, PType::U8, Nullability::NonNullable);
+    let values = ArrayRef::constant(alloc, seven, 1 << 60)?;
+    ArrayRef::dictionary(alloc, codes(alloc)?, values, false)
+}
+
+#[test]
+fn only_the_numbers_that_codes_name_are_joined(rt: HostRuntime) {
+    let alloc = rt.alloc();
+    let array = named_number(alloc).expect(&rt, "made");
+    let joined = ArrayRef::concat(alloc, &[array]).expect(&rt, "made");
+    let Layout::Primitive { ptype, bytes, .. } = joined.layout() else {
+        panic!(rt; "no numbers");
+    };
+    assert!(rt; *ptype == PType::U8 && bytes.as_slice() == b"\x07\x07".as_slice());
 }
