@@ -1,5 +1,6 @@
 // Each caller on values worked by hand.
 
+mod appended;
 mod columns;
 mod foreign_texts;
 mod layouts;
