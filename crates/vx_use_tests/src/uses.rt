@@ -8,6 +8,7 @@ mod refusals;
 mod repacked;
 mod tables;
 
+use std::test::Fail;
 use vx_base::{BitBuffer, Buffer, ByteBuffer, Mask, Nullability, PType, Scalar, VortexError};
 use vx_lists::ListViewArray;
 use vx_test_help::{bools, has_numbers_or_nulls};
@@ -177,16 +178,17 @@ fn lists_lie_end_to_end(rt: HostRuntime) {
 }
 
 #[test]
-fn texts_are_read_once_checked(rt: HostRuntime) {
+fn texts_are_read_once_checked(rt: HostRuntime) -> Result<(), Fail> {
     let alloc = rt.alloc();
-    let buffers = [ByteBuffer::copy_from(alloc, b"..a longer text.").expect(&rt, "made")];
+    let buffers = [ByteBuffer::copy_from(alloc, b"..a longer text.")?];
     let views = [
         BinaryView::make_view(b"abc", 0, 0),
         BinaryView::make_view(b"a longer text", 0, 2),
     ];
     let mask = Mask::new_true(2);
-    let text = text_of_row(alloc, &views, &mask, &buffers, 1).expect(&rt, "made");
+    let text = text_of_row(alloc, &views, &mask, &buffers, 1)?;
     assert!(rt; text == Some(b"a longer text".as_slice()));
     let refused = text_of_row(alloc, &views, &mask, &[], 0);
     assert!(rt; refused == Err(VortexError::BadBuffer { row: 1 }));
+    Ok(())
 }
