@@ -35,25 +35,29 @@ fn named(alloc: Global) -> Result<ArrayRef, VortexError> {
 }
 
 #[test]
-fn only_what_codes_name_is_made_plain(rt: HostRuntime) -> Result<(), VortexError> {
-    let plain = named(rt.alloc())?.to_canonical(rt.alloc())?;
+fn only_what_codes_name_is_made_plain(rt: HostRuntime) {
+    let plain = named(rt.alloc())
+        .expect(&rt, "made")
+        .to_canonical(rt.alloc())
+        .expect(&rt, "made");
     let Layout::Bool { bits, .. } = plain.layout() else {
         panic!(rt; "no truth values");
     };
     assert!(rt; bits.len() == 2 && bits.true_count() == 2);
-    Ok(())
 }
 
 #[test]
-fn only_what_codes_name_is_joined(rt: HostRuntime) -> Result<(), VortexError> {
+fn only_what_codes_name_is_joined(rt: HostRuntime) {
     let alloc = rt.alloc();
-    let array = named(alloc)?;
-    let joined = ArrayRef::concat(alloc, &[array.try_clone(alloc)?, array])?;
+    let array = named(alloc).expect(&rt, "made");
+    let joined = ArrayRef::concat(
+        alloc,
+        &[array.try_clone(alloc).expect(&rt, "made"), array],
+    ).expect(&rt, "made");
     let Layout::Bool { bits, .. } = joined.layout() else {
         panic!(rt; "no truth values");
     };
     assert!(rt; bits.len() == 4 && bits.true_count() == 4);
-    Ok(())
 }
 
 // The number 7, twice, of more values than any memory could hold.
