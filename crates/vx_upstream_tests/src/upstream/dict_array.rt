@@ -2,6 +2,7 @@
 
 use super::numbers;
 use std::alloc::Global;
+use std::test::Fail;
 use vx_base::{BitBuffer, Mask, VortexError};
 use vx_leaves::{DictArray, DictArrayExt, PrimitiveArray};
 use vx_test_help::{has_numbers, ints, valid_where};
@@ -64,24 +65,20 @@ fn nullable_codes_and_non_null_values(rt: HostRuntime) {
 
 // Upstream appends the rows to a builder; here they are laid out.
 #[test]
-fn test_dict_utf8_append_to_varbin_builder(rt: HostRuntime) {
+fn test_dict_utf8_append_to_varbin_builder(rt: HostRuntime) -> Result<(), Fail> {
     let alloc = rt.alloc();
     let texts = ["zero", "one", "two"];
-    let values = VarBinViewArray::from_iter_str(alloc, texts.iter().copied())
-        .expect(&rt, "made")
-        .into_array();
-    let codes = ints::<u8>(alloc, &[2, 0, 2, 1]).expect(&rt, "made");
-    let rows = DictArray::try_new(alloc, codes, values)
-        .expect(&rt, "made")
-        .into_array();
-    let Ok(plain) = VarBinViewArray::try_from_array(rows.to_canonical(alloc).expect(&rt, "made"))
-    else {
-        panic!(rt; "another layout");
+    let values = VarBinViewArray::from_iter_str(alloc, texts.iter().copied())?.into_array();
+    let codes = ints::<u8>(alloc, &[2, 0, 2, 1])?;
+    let rows = DictArray::try_new(alloc, codes, values)?.into_array();
+    let Ok(plain) = VarBinViewArray::try_from_array(rows.to_canonical(alloc)?) else {
+        return Err(VortexError::MismatchedTypes.into());
     };
     assert!(rt; plain.len() == 4);
     for (row, want) in ["two", "zero", "two", "one"].iter().enumerate() {
         assert_eq!(rt; plain.as_array().bytes_at(row), Some(want.as_bytes()));
     }
+    Ok(())
 }
 
 // Two rows of a dictionary of the values 7 and 2^63.
