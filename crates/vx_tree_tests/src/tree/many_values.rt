@@ -60,17 +60,23 @@ fn only_what_codes_name_is_joined(rt: HostRuntime) {
     assert!(rt; bits.len() == 4 && bits.true_count() == 4);
 }
 
-// The number 7, twice, of more values than any memory could hold.
-fn named_number(alloc: Global) -> Result<ArrayRef, VortexError> {
+// The number 7, again and again.
+fn sevens(alloc: Global) -> Result<ArrayRef, VortexError>
+    ensures { IfOk result (λ a. a ≡ constant (integers U8 false) (whole (pos 7)) (2 ^ 60)) }
+{
     let seven = Scalar::int(7, PType::U8, Nullability::NonNullable);
-    let values = ArrayRef::constant(alloc, seven, 1 << 60)?;
-    ArrayRef::dictionary(alloc, codes(alloc)?, values, false)
+    ArrayRef::constant(alloc, seven, 1 << 60)
+}
+
+// The number 7, twice.
+fn named_sevens(alloc: Global) -> Result<ArrayRef, VortexError> {
+    ArrayRef::dictionary(alloc, codes(alloc)?, sevens(alloc)?, false)
 }
 
 #[test]
 fn only_the_numbers_that_codes_name_are_joined(rt: HostRuntime) {
     let alloc = rt.alloc();
-    let array = named_number(alloc).expect(&rt, "made");
+    let array = named_sevens(alloc).expect(&rt, "made");
     let joined = ArrayRef::concat(alloc, &[array]).expect(&rt, "made");
     let Layout::Primitive { ptype, bytes, .. } = joined.layout() else {
         panic!(rt; "no numbers");
