@@ -229,9 +229,12 @@ def trim(array: Array) -> Array:
     start = min(array.offsets.rows.different())
     end = max(offset + size for (offset, size), _ in zipped(array.offsets.rows, array.sizes.rows))
     offsets = array.offsets.rows.changed(lambda offset: offset - start)
+    lowered = numbers(array.offsets.kind, offsets)
+    if array.offsets.layout == "constant":
+        lowered = lowered._replace(layout="constant")
     return array._replace(
         elements=slice_array(array.elements, start, end),
-        offsets=made(numbers(array.offsets.kind, offsets)),
+        offsets=made(lowered),
     )
 
 
