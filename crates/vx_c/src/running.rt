@@ -1,0 +1,105 @@
+// A run: columns that C hands over, steps on them, and the tables of what is asked for.
+
+use crate::faults::{NodeError, RunError};
+use crate::lending::lend_tables;
+use crate::reading::{MAX_NODES, column};
+use crate::steps::{CodraskStep, step_of};
+use crate::table::CodraskTable;
+use crate::writing::write;
+use crate::written::WrittenTable;
+use std::alloc::Global;
+use vx_base::VortexError;
+use vx_run::{Step, run};
+use vx_tree::ArrayRef;
+
+// The most steps of a run: of so many no nest is made that is too deep for the stack.
+pub(crate) const MAX_STEPS: usize = 1024;
+
+// Runs steps on the columns of tables, and gives the tables of the arrays that are asked for.
+pub(crate) fn run_tables(
+    alloc: Global,
+    tables: &[CodraskTable<'_>],
+    steps: &[CodraskStep<'_>],
+    wanted: &[usize],
+) -> Result<&'static [CodraskTable<'static>], RunError> {
+    let columns = columns_of(alloc, tables)?;
+    let steps = steps_of(alloc, steps)?;
+    let results = results_of(alloc, columns, &steps)?;
+    let written = tables_of(alloc, &results, wanted)?;
+    let room = Vec::with_capacity(alloc, written.len())?;
+    Ok(lend_tables(written, room))
+}
+
+// The columns of tables.
+fn columns_of(alloc: Global, tables: &[CodraskTable<'_>]) -> Result<Vec<ArrayRef>, RunError> {
+    let mut columns = Vec::with_capacity(alloc, tables.len())?;
+    for i in 0..tables.len() {
+        match column(alloc, tables[i].nodes) {
+            Ok(array) => columns.push(array)?,
+            Err((node, error)) => return Err(RunError::Table(i, node, error)),
+        }
+    }
+    Ok(columns)
+}
+
+// The steps that C means.
+fn steps_of(alloc: Global, steps: &[CodraskStep<'_>]) -> Result<Vec<Step>, RunError> {
+    if MAX_STEPS < steps.len() {
+        return Err(RunError::Form(MAX_STEPS, NodeError::TooManySteps));
+    }
+    let mut read = Vec::with_capacity(alloc, steps.len())?;
+    for i in 0..steps.len() {
+        match step_of(alloc, &steps[i]) {
+            Ok(step) => read.push(step)?,
+            Err(error) => return Err(RunError::Form(i, error)),
+        }
+    }
+    Ok(read)
+}
+
+// The arrays after the steps.
+fn results_of(
+    alloc: Global,
+    columns: Vec<ArrayRef>,
+    steps: &[Step],
+) -> Result<Vec<ArrayRef>, RunError> {
+    match run(alloc, columns, steps) {
+        Ok(results) => Ok(results),
+        Err(fault) => Err(RunError::Step(fault.step, fault.error)),
+    }
+}
+
+// The tables of the arrays that are asked for.
+fn tables_of(
+    alloc: Global,
+    results: &[ArrayRef],
+    wanted: &[usize],
+) -> Result<Vec<WrittenTable>, RunError> {
+    let mut tables = Vec::with_capacity(alloc, wanted.len())?;
+    for i in 0..wanted.len() {
+        match table_of(alloc, results, wanted[i]) {
+            Ok(table) => tables.push(table)?,
+            Err(error) => return Err(RunError::Result(i, error)),
+        }
+    }
+    Ok(tables)
+}
+
+// The table of the array at a position, in plain layouts.
+fn table_of(
+    alloc: Global,
+    results: &[ArrayRef],
+    position: usize,
+) -> Result<WrittenTable, NodeError> {
+    let array = results.get(position).ok_or(VortexError::OutOfBounds {
+        index: position,
+        len: results.len(),
+    })?;
+    let plain = array.to_canonical(alloc)?;
+    let mut nodes = Vec::new(alloc);
+    write(alloc, &plain, &mut nodes)?;
+    if MAX_NODES < nodes.len() {
+        return Err(NodeError::TooManyNodes);
+    }
+    Ok(WrittenTable::of(alloc, nodes)?)
+}
