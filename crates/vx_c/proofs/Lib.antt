@@ -3,3 +3,8 @@ pub mod TableFaults
 pub mod LayoutParts
 pub mod Records
 pub mod Names
+pub mod Unflagged
+pub mod WrittenTables
+pub mod WrittenLayouts
+pub mod SameNodes
+pub mod Moved

@@ -1,6 +1,8 @@
 -- A table says the same wherever its blocks lie.
 use Rattle.std.proofs.Common.{◌≡◌, ℕ, suc, List, [], ◌∷◌, length, map, take, drop, refl, sym, ◌∙◌, ap}
 use Rattle.std.specs.Prelude.{Option, Some, None, Result, Ok, Err, nat_lt, if◌then◌else◌}
+use Rattle.std.specs.Global.{Vec}
+use Rattle.std.proofs.lemmas.Simd.{map-map}
 use Rattle.vx_base.specs.Kinds.{Kind, texts, binaries}
 use Rattle.vx_base.specs.Refusals.{or_else}
 use Rattle.vx_lists.specs.Structs.Faults.{struct_fault}
@@ -16,7 +18,8 @@ use Rattle.vx_c.specs.declared.table.NodeKind.TheVariants.{Bool, Number, Utf8, B
 use Rattle.vx_c.specs.NodeKinds.{kind_numbered}
 use Rattle.vx_c.specs.Tables.{NodeFault, missing_nodes, too_many_nodes, unless, names_fault, buffers_in, views_in, layout_made, records_made, views_made, valid_made}
 use Rattle.vx_c.specs.Tables.{valid_of_number, kind_made, put, node_made, at_node, then_node, arrays_from, only, column_of}
-use Rattle.vx_c.specs.Written.{plainly}
+use Rattle.vx_c.specs.declared.written.WrittenNode.{WrittenNode}
+use Rattle.vx_c.specs.Written.{plainly, node_of}
 
 same-bytes : (bs : List CodraskBytes) → map (λ (b : CodraskBytes). b.bytes.now) (map (λ (b : CodraskBytes). record { bytes = record { ref_ptr = (0, 0); now = b.bytes.now } }) bs) ≡ map (λ (b : CodraskBytes). b.bytes.now) bs
 same-bytes [] = refl
@@ -83,3 +86,14 @@ length-plainly (n ∷ ns) = ap suc (length-plainly ns)
 
 pub same-column : (ns : List CodraskNode) → column_of (map plainly ns) ≡ column_of ns
 same-column ns = λ j. if nat_lt MAX_NODES (length-plainly ns j) then Err (0, too_many_nodes) else only (same-arrays 0 ns j)
+
+pub lent_column : (ns : List CodraskNode) (ws : List WrittenNode) → map plainly ns ≡ map node_of ws → column_of ns ≡ column_of (map node_of ws)
+lent_column ns ws same = sym (same-column ns) ∙ ap column_of same
+
+abbrev pub place_of : List ℕ → CodraskBytes
+place_of bytes = record { bytes = record { ref_ptr = (0, 0); now = bytes } }
+
+pub lent_places : (bs : List CodraskBytes) (vs : List (Vec ℕ)) → map (λ (b : CodraskBytes). b.bytes.now) bs ≡ map (λ (v : Vec ℕ). v.items) vs
+    → map (λ (b : CodraskBytes). place_of b.bytes.now) bs ≡ map (λ (v : Vec ℕ). place_of v.items) vs
+lent_places bs vs same =
+    sym (map-map place_of (λ (b : CodraskBytes). b.bytes.now) bs) ∙ ap (map place_of) same ∙ map-map place_of (λ (v : Vec ℕ). v.items) vs

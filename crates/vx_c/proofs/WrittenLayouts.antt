@@ -5,7 +5,7 @@ use Rattle.std.specs.Bool.{beq}
 use Rattle.std.specs.Global.{Vec}
 use Rattle.std.specs.List.{range_with_len}
 use Rattle.std.proofs.lemmas.Bool.{cases_Bool}
-use Rattle.std.proofs.lemmas.List.{ext_get_or}
+use Rattle.std.proofs.lemmas.List.{ext_get_or, map-append, take_more}
 use Rattle.std.proofs.lemmas.List.FromFn.{get_or-map-range_with_len, length-map-range_with_len}
 use Rattle.vx_base.specs.declared.ptypes.PType.{PType}
 use Rattle.vx_base.specs.declared.ptypes.PType.TheVariants.{U8, U16, U32, U64, I8, I16, I32, I64}
@@ -41,7 +41,7 @@ use Rattle.vx_c.specs.Written.{IsWritten, IsPut, IsParent, IsBitsNode, node_of, 
 use Rattle.vx_c.proofs.LayoutParts.{made_by}
 use Rattle.vx_c.proofs.Names.{columns_taken, values_faultless}
 use Rattle.vx_c.proofs.Unflagged.{kept_len, kept_kind, kept_row, kept_valid, kept_nullable, unflagged-trees_from, trees_count-from}
-use Rattle.vx_c.proofs.WrittenTables.{parts-written, leaf-written}
+use Rattle.vx_c.proofs.WrittenTables.{parts-written, leaf-written, written-none, written-both}
 
 -- ---- kinds and counts
 
@@ -92,9 +92,9 @@ validity_none (by_array t) n m fits same = masked_none (unflagged t) m (kept_kin
 
 -- ---- truth values
 
-pub bools-written : (w : WrittenNode) (bits : List Bool) (v : Valid) (old new : List WrittenNode) → IsBitsNode bits (valid_number v) w → ValidFits v (length bits)
+pub bools_written : (w : WrittenNode) (bits : List Bool) (v : Valid) (old new : List WrittenNode) → IsBitsNode bits (valid_number v) w → ValidFits v (length bits)
     → IsPut w v old new → IsWritten old (bools bits (unflagged_valid v) ∷ []) new
-bools-written w bits v old new node fits put =
+bools_written w bits v old new node fits put =
     let u = unflagged_valid v in
     let none : or_else (bits_fault w.bytes.items w.offset w.length) (validity_fault u w.length) ≡ None =
     or_else-second (bits_fault w.bytes.items w.offset w.length) (validity_fault u w.length) None node.faultless (validity_none v (length bits) w.length fits node.len) in
@@ -119,10 +119,10 @@ whole_none t bs n exact = rest
     rest : whole_fault t bs ≡ None
     rest = ap (λ r. if r == 0 then None else Some length_mismatch) (divided t exact)
 
-pub numbers-written : (w : WrittenNode) (t : PType) (bs : List ℕ) (v : Valid) (old new : List WrittenNode) → w.kind ≡ Number t → w.validity ≡ valid_number v
+pub numbers_written : (w : WrittenNode) (t : PType) (bs : List ℕ) (v : Valid) (old new : List WrittenNode) → w.kind ≡ Number t → w.validity ≡ valid_number v
     → w.bytes.items ≡ bs → w.length ≡ tree_len (primitive t bs v) → WellFormed (primitive t bs v) → IsPut w v old new
     → IsWritten old (primitive t bs (unflagged_valid v) ∷ []) new
-numbers-written w t bs v old new kind number bytes len formed put =
+numbers_written w t bs v old new kind number bytes len formed put =
     let u = unflagged_valid v in
     let same : w.bytes.items ≡ bs = bytes in
     let fault = or_else (whole_fault t w.bytes.items) (validity_fault u (length (numbers t w.bytes.items))) in
@@ -140,9 +140,9 @@ count_none : (count size len : ℕ) → count ≡ len * size → count < 2 ^ 64 
 count_none count zero len is short = let none : count ≡ 0 = omega (arith, is) in search (rules, arith, none)
 count_none count (suc k) len is short = let fits : len * suc k < 2 ^ 64 = omega (arith, is, short) in search (rules, arith, fits, is)
 
-pub fixed-written : (e : Tree) (k n : ℕ) (v : Valid) (old mid new : List WrittenNode) → WellFormed (fixed_list e k v n) → tree_len e < 2 ^ 64
+pub fixed_written : (e : Tree) (k n : ℕ) (v : Valid) (old mid new : List WrittenNode) → WellFormed (fixed_list e k v n) → tree_len e < 2 ^ 64
     → IsParent FixedSizeList k n [] v old mid → IsWritten mid (unflagged e ∷ []) new → IsWritten old (unflagged (fixed_list e k v n) ∷ []) new
-fixed-written e k n v old mid new formed short parent parts =
+fixed_written e k n v old mid new formed short parent parts =
     let u = unflagged_valid v in
     let w = parent.node in
     let t : Tree = fixed_list (unflagged e) k u n in
@@ -199,10 +199,10 @@ lists_none e o s v f formed short =
     (or_else-second (count_type_fault b) (or_else (valid_type_fault u) (or_else (sizes_len_fault a b) (valid_len_fault u (tree_len a)))) None (counts_none s formed.1.sizes) types) in
     or_else-second (list_parts_fault a b u) (list_rows_fault (tree_len (unflagged e)) a b) None parts (kept_rows e o s ∙ rows_none e o s f formed.1 short)
 
-pub lists-written : (e o s : Tree) (v : Valid) (f : Bool) (n size : ℕ) (names : List (List ℕ)) (old m1 m2 m3 new : List WrittenNode) → WellFormed (list_view e o s v f)
+pub lists_written : (e o s : Tree) (v : Valid) (f : Bool) (n size : ℕ) (names : List (List ℕ)) (old m1 m2 m3 new : List WrittenNode) → WellFormed (list_view e o s v f)
     → tree_len e < 2 ^ 64 → n ≡ tree_len o → IsParent ListView size n names v old m1
     → IsWritten m1 (unflagged e ∷ unflagged o ∷ unflagged s ∷ []) new → IsWritten old (unflagged (list_view e o s v f) ∷ []) new
-lists-written e o s v f n size names old m1 m2 m3 new formed short rows parent parts =
+lists_written e o s v f n size names old m1 m2 m3 new formed short rows parent parts =
     let u = unflagged_valid v in
     let w = parent.node in
     let t : Tree = list_view (unflagged e) (unflagged o) (unflagged s) u false in
@@ -264,10 +264,10 @@ records-read n u cs others len none =
     many : nat_lt (length (cs ++ others)) (length (buffers_in n)) ≡ false
     many = let more = long cs others in search (rules, arith, more, len)
 
-pub structure-written : (names : List (List ℕ)) (cs : List Tree) (v : Valid) (n size : ℕ) (old mid new : List WrittenNode) → WellFormed (structure names (trees_from cs) v n)
+pub structure_written : (names : List (List ℕ)) (cs : List Tree) (v : Valid) (n size : ℕ) (old mid new : List WrittenNode) → WellFormed (structure names (trees_from cs) v n)
     → names_fault names ≡ None → IsParent Struct size n names v old mid → IsWritten mid (map unflagged cs) new
     → IsWritten old (unflagged (structure names (trees_from cs) v n) ∷ []) new
-structure-written names cs v n size old mid new formed named parent parts =
+structure_written names cs v n size old mid new formed named parent parts =
     let u = unflagged_valid v in
     let w = parent.node in
     let us = map unflagged cs in
@@ -361,10 +361,52 @@ values-layout false n vs bs k v others is views buffers formed =
     let kinds : binaries (nullable (unflagged_valid v)) ≡ k = (λ j. binaries (kept_nullable v j)) ∙ sym (formed.1.kind ∙ ap (λ b. value_kind b (nullable v)) is) in
     ap (λ x. views_made n x (unflagged_valid v) others) kinds ∙ values-made n vs bs k v others views buffers formed
 
-pub values-written : (w : WrittenNode) (vs bs : List (List ℕ)) (k : Kind) (v : Valid) (old new : List WrittenNode) → w.kind ≡ view_kind (is_texts k)
+pub values_written : (w : WrittenNode) (vs bs : List (List ℕ)) (k : Kind) (v : Valid) (old new : List WrittenNode) → w.kind ≡ view_kind (is_texts k)
     → w.validity ≡ valid_number v → w.length ≡ length vs → map view_bytes w.views.items ≡ vs → map (λ b. b.items) w.buffers.blocks.items ≡ bs
     → WellFormed (view_array vs bs k v) → IsPut w v old new → IsWritten old (view_array vs bs k (unflagged_valid v) ∷ []) new
-values-written w vs bs k v old new kind number len views buffers formed put =
+values_written w vs bs k v old new kind number len views buffers formed put =
     leaf-written w (view_kind (is_texts k)) v old new (view_array vs bs k (unflagged_valid v)) (known_as w (view_kind (is_texts k)) kind) number put
     (λ others. values-layout (is_texts k) (node_of w) vs bs k v others refl views (buffers-names w.buffers.blocks.items ∙ buffers) formed)
     (sym len) (leaf-count (unflagged_valid v))
+
+-- ---- what each call puts
+
+pub put_alone : (w : WrittenNode) (v : Valid) (old new : List WrittenNode) → new ≡ old ++ w ∷ [] → valid_trees (unflagged_valid v) ≡ [] → IsPut w v old new
+put_alone w v old new pushed none = record { mid = new; first = pushed; valid = subst (λ ts. IsWritten new ts new) (sym none) (written-none new) }
+
+pub put_masked : (w : WrittenNode) (t : Tree) (old mid new : List WrittenNode) → mid ≡ old ++ w ∷ [] → IsWritten mid (unflagged t ∷ []) new → IsPut w (by_array t) old new
+put_masked w t old mid new pushed mask = record { mid = mid; first = pushed; valid = mask }
+
+pub parent_put : (w : WrittenNode) (k : NodeKind) (size len : ℕ) (names : List (List ℕ)) (v : Valid) (old new : List WrittenNode) → w.kind ≡ k → w.validity ≡ valid_number v
+    → w.size ≡ size → w.length ≡ len → map (λ (b : Vec ℕ). b.items) w.buffers.blocks.items ≡ names → IsPut w v old new → IsParent k size len names v old new
+parent_put w k size len names v old new kind number sized long named put =
+    record { node = w; kind = kind; validity = number; size_is = sized; len_is = long; names_are = named; put = put }
+
+bits_none : (bytes : List ℕ) (from len : ℕ) → from + len ≤ 8 * length bytes → from + len < 2 ^ 64 → bits_fault bytes from len ≡ None
+bits_none bytes from len inside counted = search (rules, arith, inside, counted)
+
+pub bits_node : (w : WrittenNode) (bits : List Bool) (number offset len : ℕ) (bytes : List ℕ) → w.kind ≡ bool_kind → w.validity ≡ number → w.offset ≡ offset → w.length ≡ len
+    → w.bytes.items ≡ bytes → len ≡ length bits → offset + len ≤ 8 * length bytes → offset + len < 2 ^ 64 → bits ≡ unpacked bytes offset len → IsBitsNode bits number w
+bits_node w bits number offset len bytes kind validity from long same count inside counted is = record {
+  kind = kind;
+  number = validity;
+  len = long ∙ count;
+  is = (λ j. unpacked (same j) (from j) (long j)) ∙ sym is;
+  faultless = (λ j. bits_fault (same j) (from j) (long j)) ∙ bits_none bytes offset len inside counted;
+}
+
+pub mask_written : (w : WrittenNode) (bits : List Bool) (v : Valid) (t : Tree) (old new : List WrittenNode) → t ≡ bools bits v → kind_of t ≡ booleans false → IsBitsNode bits 0 w
+    → new ≡ old ++ w ∷ [] → IsWritten old (unflagged t ∷ []) new
+mask_written w bits non_nullable t old new is kind node pushed =
+    subst (λ x. IsWritten old (unflagged x ∷ []) new) (sym is) (bools_written w bits non_nullable old new node tt (put_alone w non_nullable old new pushed refl))
+mask_written w bits all_valid t old new is kind node pushed = let other = sym (ap kind_of is) ∙ kind in absurd (cc)
+mask_written w bits all_invalid t old new is kind node pushed = let other = sym (ap kind_of is) ∙ kind in absurd (cc)
+mask_written w bits (by_array m) t old new is kind node pushed = let other = sym (ap kind_of is) ∙ kind in absurd (cc)
+
+-- ---- columns, one after another
+
+pub columns_more : (cs : List Tree) (i : ℕ) (other : Tree) (old mid new : List WrittenNode) → i < length cs → IsWritten old (map unflagged (take i cs)) mid
+    → IsWritten mid (unflagged (get_or cs i other) ∷ []) new → IsWritten old (map unflagged (take (i + 1) cs)) new
+columns_more cs i other old mid new inside before here =
+    subst (λ ts. IsWritten old ts new) (sym (ap (map unflagged) (take_more cs i other inside) ∙ map-append unflagged (take i cs) (get_or cs i other ∷ [])))
+    (written-both old mid new (map unflagged (take i cs)) (unflagged (get_or cs i other) ∷ []) before here)

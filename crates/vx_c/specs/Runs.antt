@@ -108,6 +108,25 @@ IsRunError tables steps wanted (error.Form i e) = IsNoStep tables steps i e
 IsRunError tables steps wanted (error.Step i e) = IsStopped tables steps i e
 IsRunError tables steps wanted (error.Result i e) = IsNotMade tables steps wanted i e
 
+-- the same of each part of a run by itself
+abbrev pub AreColumnsOr : List CodraskTable → RunError → Type 0
+AreColumnsOr tables (error.Table i node e) = IsNoColumn tables i (node, e)
+AreColumnsOr tables e = e ≡ error.Memory
+
+abbrev pub AreStepsOr : List CodraskStep → RunError → Type 0
+AreStepsOr steps (error.Form i e) =
+    ((MAX_STEPS < length steps) × (i ≡ MAX_STEPS) × (fault_of e ≡ Some too_many_steps))
+    ⊎ (((taken : List Step) × AreSteps (take i steps) taken) × IsSomeAnd (slice_get steps i) (λ c. IsFormFault e (step_form_fault c)))
+AreStepsOr steps e = e ≡ error.Memory
+
+abbrev pub IsRanOr : List Step → List Tree → RunError → Type 0
+IsRanOr steps columns (error.Step i e) = (results : List Tree) × HasRun (take i steps) columns results × IsStop steps i results e
+IsRanOr steps columns e = e ≡ error.Memory
+
+abbrev pub AreTablesOr : List Tree → List ℕ → RunError → Type 0
+AreTablesOr results wanted (error.Result i e) = IsSomeAnd (slice_get wanted i) (λ w. IsNoTable results w e)
+AreTablesOr results wanted e = e ≡ error.Memory
+
 -- ---- what C is told
 
 abbrev pub told_of_run : RunError → CodraskRunFault

@@ -72,7 +72,7 @@ pub extern "C" fn codrask_run(
 {
     match run_tables(alloc, tables, steps, wanted) {
         Ok(written) => {
-            made.tables = written;
+            *made = CodraskTables { tables: written };
             *fault = CodraskRunFault::none();
         }
         Err(error) => *fault = told_of_run(error),

@@ -1,5 +1,12 @@
 // A run: columns that C hands over, steps on them, and the tables of what is asked for.
 
+ghost use Rattle.std.specs.Prelude.{◌≡◌, ◌≤◌, Ok, IfOk, IfErr, length, map};
+ghost use Rattle.std.specs.List.{AllZip};
+ghost use Rattle.vx_run.specs.Steps.{HasRun, IsStop};
+ghost use Rattle.vx_c.specs.Tables.{column_of};
+ghost use Rattle.vx_c.specs.Written.{node_of};
+ghost use Rattle.vx_c.specs.Runs.{column_in, AreColumns, AreSteps, IsMade, IsMadeOf, IsRunError, IsNoTable, AreColumnsOr, AreStepsOr, IsRanOr, AreTablesOr};
+
 use crate::faults::{NodeError, RunError};
 use crate::lending::lend_tables;
 use crate::reading::{MAX_NODES, column};
@@ -21,7 +28,10 @@ pub(crate) fn run_tables(
     tables: &[CodraskTable<'_>],
     steps: &[CodraskStep<'_>],
     wanted: &[usize],
-) -> Result<&'static [CodraskTable<'static>], RunError> {
+) -> Result<&'static [CodraskTable<'static>], RunError>
+    ensures ok { IfOk result (λ made. IsMade tables.now steps.now wanted.now made.now) }
+    ensures err { IfErr result (IsRunError tables.now steps.now wanted.now) }
+{
     let columns = columns_of(alloc, tables)?;
     let steps = steps_of(alloc, steps)?;
     let results = results_of(alloc, columns, &steps)?;
@@ -31,7 +41,10 @@ pub(crate) fn run_tables(
 }
 
 // The columns of tables.
-fn columns_of(alloc: Global, tables: &[CodraskTable<'_>]) -> Result<Vec<ArrayRef>, RunError> {
+fn columns_of(alloc: Global, tables: &[CodraskTable<'_>]) -> Result<Vec<ArrayRef>, RunError>
+    ensures ok { IfOk result (λ columns. AreColumns tables.now columns.items) }
+    ensures err { IfErr result (AreColumnsOr tables.now) }
+{
     let mut columns = Vec::with_capacity(alloc, tables.len())?;
     for i in 0..tables.len() {
         match column(alloc, tables[i].nodes) {
@@ -43,7 +56,10 @@ fn columns_of(alloc: Global, tables: &[CodraskTable<'_>]) -> Result<Vec<ArrayRef
 }
 
 // The steps that C means.
-fn steps_of(alloc: Global, steps: &[CodraskStep<'_>]) -> Result<Vec<Step>, RunError> {
+fn steps_of(alloc: Global, steps: &[CodraskStep<'_>]) -> Result<Vec<Step>, RunError>
+    ensures ok { IfOk result (λ read. AreSteps steps.now read.items) }
+    ensures err { IfErr result (AreStepsOr steps.now) }
+{
     if MAX_STEPS < steps.len() {
         return Err(RunError::Form(MAX_STEPS, NodeError::TooManySteps));
     }
@@ -62,7 +78,10 @@ fn results_of(
     alloc: Global,
     columns: Vec<ArrayRef>,
     steps: &[Step],
-) -> Result<Vec<ArrayRef>, RunError> {
+) -> Result<Vec<ArrayRef>, RunError>
+    ensures ok { IfOk result (λ results. HasRun steps.now columns.items results.items) }
+    ensures err { IfErr result (IsRanOr steps.now columns.items) }
+{
     match run(alloc, columns, steps) {
         Ok(results) => Ok(results),
         Err(fault) => Err(RunError::Step(fault.step, fault.error)),
@@ -74,7 +93,10 @@ fn tables_of(
     alloc: Global,
     results: &[ArrayRef],
     wanted: &[usize],
-) -> Result<Vec<WrittenTable>, RunError> {
+) -> Result<Vec<WrittenTable>, RunError>
+    ensures ok { IfOk result (λ made. AllZip (IsMadeOf results.now) wanted.now (map (λ t. column_of (map node_of t.nodes.items)) made.items)) }
+    ensures err { IfErr result (AreTablesOr results.now wanted.now) }
+{
     let mut tables = Vec::with_capacity(alloc, wanted.len())?;
     for i in 0..wanted.len() {
         match table_of(alloc, results, wanted[i]) {
@@ -90,7 +112,10 @@ fn table_of(
     alloc: Global,
     results: &[ArrayRef],
     position: usize,
-) -> Result<WrittenTable, NodeError> {
+) -> Result<WrittenTable, NodeError>
+    ensures ok { IfOk result (λ table. IsMadeOf results.now position (column_of (map node_of table.nodes.items))) }
+    ensures err { IfErr result (IsNoTable results.now position) }
+{
     let array = results.get(position).ok_or(VortexError::OutOfBounds {
         index: position,
         len: results.len(),

@@ -1,17 +1,18 @@
 // The table of an array, each array before its parts.
 
-ghost use Rattle.std.specs.Prelude.{◌≡◌, ◌≤◌, [], ◌∷◌, length, map};
+ghost use Rattle.std.specs.Prelude.{◌≡◌, ◌<◌, ◌^◌, false, None, [], ◌∷◌, length, map, IfOk};
 ghost use Rattle.vx_base.specs.DTypes.{dtype_meaning};
 ghost use Rattle.vx_base.specs.Refusals.{Gives};
-ghost use Rattle.vx_tree.specs.Formed.{WellFormed, ValidFits, IsMask};
-ghost use Rattle.vx_tree.specs.Meaning.{tree_len, trees_from};
+ghost use Rattle.vx_tree.specs.Formed.{WellFormed, ValidFits};
+ghost use Rattle.vx_base.specs.Kinds.{booleans};
+ghost use Rattle.vx_tree.specs.Meaning.{tree_len, kind_of, trees_from};
 ghost use Rattle.vx_tree.specs.Parts.{valid_of};
 ghost use Rattle.vx_tree.specs.Plain.{IsPlain, ArePlain, IsPlainValid};
 ghost use Rattle.vx_tree.specs.Tree.{bools, primitive, view_array};
 ghost use Rattle.vx_c.specs.declared.table.NodeKind.TheVariants.{FixedSizeList, ListView, Struct};
-ghost use Rattle.vx_c.specs.Tables.{view_bytes};
+ghost use Rattle.vx_c.specs.Tables.{view_bytes, names_fault};
 ghost use Rattle.vx_c.specs.Unflagged.{unflagged, unflagged_valid};
-ghost use Rattle.vx_c.specs.Written.{IsWritten, IsPut, IsParent, valid_number};
+ghost use Rattle.vx_c.specs.Written.{IsWritten, IsPut, IsParent, IsBitsNode, valid_number};
 
 use crate::table::{CodraskView, NodeKind};
 use crate::written::{WrittenBuffers, WrittenNode};
@@ -29,29 +30,31 @@ pub(crate) fn write(
     nodes: &mut Vec<WrittenNode>,
 ) -> Result<(), VortexError>
     requires { IsPlain array.now }
-    ensures { Gives result (λ _. IsWritten nodes.old.items (unflagged array.now ∷ []) nodes.new.items) }
+    ensures written { Gives result (λ _. IsWritten nodes.old.items (unflagged array.now ∷ []) nodes.new.items) }
+    ensures short { tree_len array.now < 2 ^ 64 }
 {
+    let length = array.len();
     match array.layout() {
-        Layout::Bool { bits, validity } => put_bits(alloc, bits, validity, nodes),
+        Layout::Bool { bits, validity } => Ok(put_bits(alloc, bits, validity, nodes)?),
         Layout::Primitive {
             ptype,
             bytes,
             validity,
-        } => put_numbers(alloc, array.len(), *ptype, bytes, validity, nodes),
+        } => Ok(put_numbers(alloc, length, *ptype, bytes, validity, nodes)?),
         Layout::VarBinView {
             views,
             buffers,
             dtype,
             validity,
-        } => put_values(alloc, views, buffers, dtype, validity, nodes),
+        } => Ok(put_values(alloc, views, buffers, dtype, validity, nodes)?),
         Layout::FixedSizeList {
             elements,
             size,
             validity,
-            len,
+            ..
         } => {
-            put_lists(alloc, NodeKind::FixedSizeList, *size, *len, validity, nodes)?;
-            write(alloc, elements, nodes)
+            put_lists(alloc, NodeKind::FixedSizeList, *size, length, validity, nodes)?;
+            Ok(write(alloc, elements, nodes)?)
         }
         Layout::ListView {
             elements,
@@ -60,19 +63,19 @@ pub(crate) fn write(
             validity,
             ..
         } => {
-            put_lists(alloc, NodeKind::ListView, 0, array.len(), validity, nodes)?;
+            put_lists(alloc, NodeKind::ListView, 0, length, validity, nodes)?;
             write(alloc, elements, nodes)?;
             write(alloc, offsets, nodes)?;
-            write(alloc, sizes, nodes)
+            Ok(write(alloc, sizes, nodes)?)
         }
         Layout::Struct {
             names,
             columns,
             validity,
-            len,
+            ..
         } => {
-            put_records(alloc, names, *len, validity, nodes)?;
-            write_columns(alloc, columns, nodes)
+            put_records(alloc, names, length, validity, nodes)?;
+            Ok(write_columns(alloc, columns, nodes)?)
         }
         Layout::Constant { .. } | Layout::Dict { .. } => unreachable!(),
     }
@@ -95,6 +98,7 @@ fn write_columns(
 }
 
 // Puts a node after these, and that of its validity.
+#[tactic(auto, using(crate::proofs::WrittenLayouts::put_alone, crate::proofs::WrittenLayouts::put_masked))]
 fn put(
     alloc: Global,
     node: WrittenNode,
@@ -107,12 +111,13 @@ fn put(
 {
     nodes.push(node)?;
     match validity {
-        Validity::Array(array) => put_mask(alloc, array, nodes),
+        Validity::Array(array) => Ok(put_mask(alloc, array, nodes)?),
         Validity::NonNullable | Validity::AllValid | Validity::AllInvalid => Ok(()),
     }
 }
 
 // Puts the node of plain booleans after these.
+#[tactic(auto, using(crate::proofs::WrittenLayouts::mask_written))]
 fn put_mask(
     alloc: Global,
     array: &ArrayRef,
@@ -131,6 +136,7 @@ fn put_mask(
 }
 
 // Puts the nodes of truth values after these.
+#[tactic(auto, using(crate::proofs::WrittenLayouts::bools_written))]
 fn put_bits(
     alloc: Global,
     bits: &BitBuffer,
@@ -143,22 +149,29 @@ fn put_bits(
         (bools bits.now.bits (unflagged_valid (valid_of validity.now)) ∷ []) nodes.new.items) }
 {
     let node = bits_node(alloc, bits, number_of(validity))?;
-    put(alloc, node, validity, nodes)
+    Ok(put(alloc, node, validity, nodes)?)
 }
 
 // A node of truth values under the validity of a number.
+#[tactic(auto, using(crate::proofs::WrittenLayouts::bits_node))]
 fn bits_node(alloc: Global, bits: &BitBuffer, validity: u32) -> Result<WrittenNode, VortexError>
     ensures { Gives result (IsBitsNode bits.now.bits validity) }
 {
     let (offset, length, bytes) = bits.try_clone(alloc)?.into_inner();
-    let used = (offset + length).div_ceil(8);
-    let mut node = WrittenNode::new(alloc, NodeKind::Bool, validity, length);
-    node.offset = offset;
-    node.bytes = Vec::from_slice(alloc, &bytes.as_slice()[..used])?;
-    Ok(node)
+    Ok(WrittenNode {
+        kind: NodeKind::Bool,
+        validity,
+        size: 0,
+        length,
+        offset,
+        bytes: Vec::from_slice(alloc, bytes.as_slice())?,
+        views: Vec::new(alloc),
+        buffers: WrittenBuffers::none(alloc),
+    })
 }
 
 // Puts the nodes of numbers after these.
+#[tactic(auto, using(crate::proofs::WrittenLayouts::numbers_written))]
 fn put_numbers(
     alloc: Global,
     length: usize,
@@ -173,13 +186,21 @@ fn put_numbers(
     ensures { Gives result (λ _. IsWritten nodes.old.items
         (primitive ptype bytes.now (unflagged_valid (valid_of validity.now)) ∷ []) nodes.new.items) }
 {
-    let kind = NodeKind::Number(ptype);
-    let mut node = WrittenNode::new(alloc, kind, number_of(validity), length);
-    node.bytes = Vec::from_slice(alloc, bytes.as_slice())?;
-    put(alloc, node, validity, nodes)
+    let node = WrittenNode {
+        kind: NodeKind::Number(ptype),
+        validity: number_of(validity),
+        size: 0,
+        length,
+        offset: 0,
+        bytes: Vec::from_slice(alloc, bytes.as_slice())?,
+        views: Vec::new(alloc),
+        buffers: WrittenBuffers::none(alloc),
+    };
+    Ok(put(alloc, node, validity, nodes)?)
 }
 
 // Puts the nodes of texts or byte lists after these.
+#[tactic(auto, using(crate::proofs::WrittenLayouts::values_written))]
 fn put_values(
     alloc: Global,
     views: &Buffer<BinaryView>,
@@ -198,13 +219,21 @@ fn put_values(
     } else {
         NodeKind::Binary
     };
-    let mut node = WrittenNode::new(alloc, kind, number_of(validity), views.len());
-    node.views = view_list(alloc, views.as_slice())?;
-    node.buffers = WrittenBuffers::of(alloc, copies_of(alloc, buffers)?)?;
-    put(alloc, node, validity, nodes)
+    let node = WrittenNode {
+        kind,
+        validity: number_of(validity),
+        size: 0,
+        length: views.len(),
+        offset: 0,
+        bytes: Vec::new(alloc),
+        views: view_list(alloc, views.as_slice())?,
+        buffers: WrittenBuffers::of(alloc, copies_of(alloc, buffers)?)?,
+    };
+    Ok(put(alloc, node, validity, nodes)?)
 }
 
 // Puts a node of lists after these, the parts of which follow.
+#[tactic(auto, using(crate::proofs::WrittenLayouts::parent_put))]
 fn put_lists(
     alloc: Global,
     kind: NodeKind,
@@ -217,12 +246,21 @@ fn put_lists(
     requires plain { IsPlainValid (valid_of validity.now) }
     ensures { Gives result (λ _. IsParent kind size length [] (valid_of validity.now) nodes.old.items nodes.new.items) }
 {
-    let mut node = WrittenNode::new(alloc, kind, number_of(validity), length);
-    node.size = size;
-    put(alloc, node, validity, nodes)
+    let node = WrittenNode {
+        kind,
+        validity: number_of(validity),
+        size,
+        length,
+        offset: 0,
+        bytes: Vec::new(alloc),
+        views: Vec::new(alloc),
+        buffers: WrittenBuffers::none(alloc),
+    };
+    Ok(put(alloc, node, validity, nodes)?)
 }
 
 // Puts a node of records after these, the columns of which follow.
+#[tactic(auto, using(crate::proofs::WrittenLayouts::parent_put))]
 fn put_records(
     alloc: Global,
     names: &FieldNames,
@@ -232,11 +270,20 @@ fn put_records(
 ) -> Result<(), VortexError>
     requires fits { ValidFits (valid_of validity.now) length }
     requires plain { IsPlainValid (valid_of validity.now) }
-    ensures { Gives result (λ _. IsParent Struct 0 length names.now (valid_of validity.now) nodes.old.items nodes.new.items) }
+    ensures put { Gives result (λ _. IsParent Struct 0 length names.now (valid_of validity.now) nodes.old.items nodes.new.items) }
+    ensures texts { IfOk result (λ _. names_fault names.now ≡ None) }
 {
-    let mut node = WrittenNode::new(alloc, NodeKind::Struct, number_of(validity), length);
-    node.buffers = WrittenBuffers::of(alloc, name_bytes(alloc, names)?)?;
-    put(alloc, node, validity, nodes)
+    let node = WrittenNode {
+        kind: NodeKind::Struct,
+        validity: number_of(validity),
+        size: 0,
+        length,
+        offset: 0,
+        bytes: Vec::new(alloc),
+        views: Vec::new(alloc),
+        buffers: WrittenBuffers::of(alloc, name_bytes(alloc, names)?)?,
+    };
+    Ok(put(alloc, node, validity, nodes)?)
 }
 
 // The number of a validity.
@@ -284,7 +331,8 @@ fn copies_of(alloc: Global, buffers: &[ByteBuffer]) -> Result<Vec<Vec<u8>>, Vort
 
 // Copies of the bytes of names.
 fn name_bytes(alloc: Global, names: &FieldNames) -> Result<Vec<Vec<u8>>, VortexError>
-    ensures { Gives result (λ copies. map (λ b. b.items) copies.items ≡ names.now) }
+    ensures copies { Gives result (λ copies. map (λ b. b.items) copies.items ≡ names.now) }
+    ensures texts { IfOk result (λ _. names_fault names.now ≡ None) }
 {
     let mut copies = Vec::with_capacity(alloc, names.len())?;
     for i in 0..names.len() {

@@ -3,7 +3,6 @@
 ghost use Rattle.std.specs.Prelude.{◌≡◌, ◌≤◌, [], length};
 ghost use Rattle.std.specs.Vec.{vec_capacity};
 ghost use Rattle.vx_base.specs.Refusals.{Gives};
-ghost use Rattle.vx_c.specs.declared.table.NodeKind.TheVariants.{Bool};
 
 use crate::table::{CodraskBytes, CodraskNode, CodraskView, NodeKind};
 use std::alloc::Global;
@@ -57,31 +56,6 @@ impl WrittenBuffers {
     {
         let room = Vec::with_capacity(alloc, blocks.len())?;
         Ok(WrittenBuffers { blocks, room })
-    }
-}
-
-impl WrittenNode {
-    // A node of a kind under the validity of a number, without bytes, views and buffers.
-    pub(crate) fn new(alloc: Global, kind: NodeKind, validity: u32, length: usize) -> WrittenNode
-        ensures kind { result.kind ≡ kind }
-        ensures validity { result.validity ≡ validity }
-        ensures length { result.length ≡ length }
-        ensures size { result.size ≡ 0 }
-        ensures offset { result.offset ≡ 0 }
-        ensures bytes { result.bytes.items ≡ [] }
-        ensures views { result.views.items ≡ [] }
-        ensures buffers { result.buffers.blocks.items ≡ [] }
-    {
-        WrittenNode {
-            kind,
-            validity,
-            size: 0,
-            length,
-            offset: 0,
-            bytes: Vec::new(alloc),
-            views: Vec::new(alloc),
-            buffers: WrittenBuffers::none(alloc),
-        }
     }
 }
 
