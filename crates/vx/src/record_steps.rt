@@ -45,67 +45,70 @@ fn column_a(alloc: Global, array: ArrayRef) -> Result<ArrayRef, VortexError> {
 }
 
 #[test]
-fn columns_are_chosen_twice(rt: HostRuntime) -> Result<(), Fail> {
+fn columns_are_chosen_twice(rt: HostRuntime) {
     let alloc = rt.alloc();
-    let records = taken(alloc, chosen(alloc, 3, &["a", "a"])?)?;
+    let records = taken(alloc, chosen(alloc, 3, &["a", "a"]).expect(&rt, "made")).expect(
+        &rt, "made",
+    );
     let wanted = [("a", Some(1)), ("a", Some(1))];
-    assert!(rt; has_record(alloc, &records, 0, Some(&wanted))?);
-    assert!(rt; has_record(alloc, &records, 1, None)?);
-    Ok(())
+    assert!(rt; has_record(alloc, &records, 0, Some(&wanted)).expect(&rt, "made"));
+    assert!(rt; has_record(alloc, &records, 1, None).expect(&rt, "made"));
 }
 
 #[test]
-fn columns_are_added_and_removed(rt: HostRuntime) -> Result<(), Fail> {
+fn columns_are_added_and_removed(rt: HostRuntime) {
     let alloc = rt.alloc();
-    let wider = taken(alloc, with_b(alloc, 3, 4)?)?;
+    let wider = taken(alloc, with_b(alloc, 3, 4).expect(&rt, "made")).expect(&rt, "made");
     let wanted = [("a", Some(1)), ("b", Some(1))];
-    assert!(rt; has_record(alloc, &wider, 0, Some(&wanted))?);
-    assert!(rt; has_record(alloc, &wider, 1, None)?);
-    let narrower = taken(alloc, without(alloc, 3, "a")?)?;
-    assert!(rt; has_record(alloc, &narrower, 0, Some(&[]))?);
-    assert!(rt; has_record(alloc, &narrower, 1, None)?);
-    Ok(())
+    assert!(rt; has_record(alloc, &wider, 0, Some(&wanted)).expect(&rt, "made"));
+    assert!(rt; has_record(alloc, &wider, 1, None).expect(&rt, "made"));
+    let narrower = taken(alloc, without(alloc, 3, "a").expect(&rt, "made")).expect(&rt, "made");
+    assert!(rt; has_record(alloc, &narrower, 0, Some(&[])).expect(&rt, "made"));
+    assert!(rt; has_record(alloc, &narrower, 1, None).expect(&rt, "made"));
 }
 
 #[test]
-fn null_records_become_records_of_nulls(rt: HostRuntime) -> Result<(), Fail> {
+fn null_records_become_records_of_nulls(rt: HostRuntime) {
     let alloc = rt.alloc();
     let remove = Step::PushValidity {
         array: 3,
         remove: true,
     };
-    let pushed = taken(alloc, remove)?;
-    assert!(rt; has_record(alloc, &pushed, 0, Some(&[("a", Some(1))]))?);
-    assert!(rt; has_record(alloc, &pushed, 1, Some(&[("a", None)]))?);
+    let pushed = taken(alloc, remove).expect(&rt, "made");
+    assert!(rt; has_record(alloc, &pushed, 0, Some(&[("a", Some(1))])).expect(&rt, "made"));
+    assert!(rt; has_record(alloc, &pushed, 1, Some(&[("a", None)])).expect(&rt, "made"));
     assert!(rt; !pushed.dtype().is_nullable());
-    assert!(rt; column_a(alloc, pushed)?.dtype().is_nullable());
+    assert!(rt;
+        column_a(alloc, pushed)
+            .expect(&rt, "made")
+            .dtype()
+            .is_nullable()
+    );
     let keep = Step::PushValidity {
         array: 3,
         remove: false,
     };
-    let kept = taken(alloc, keep)?;
-    assert!(rt; has_record(alloc, &kept, 1, None)?);
-    assert!(rt; has_numbers(&column_a(alloc, kept)?, &[Some(1), None]));
-    Ok(())
+    let kept = taken(alloc, keep).expect(&rt, "made");
+    assert!(rt; has_record(alloc, &kept, 1, None).expect(&rt, "made"));
+    assert!(rt; has_numbers(&column_a(alloc, kept).expect(&rt, "made"), &[Some(1), None]));
 }
 
 #[test]
-fn steps_on_records_are_refused(rt: HostRuntime) -> Result<(), Fail> {
+fn steps_on_records_are_refused(rt: HostRuntime) {
     let alloc = rt.alloc();
-    let unknown = taken(alloc, without(alloc, 3, "z")?);
+    let unknown = taken(alloc, without(alloc, 3, "z").expect(&rt, "made"));
     assert!(rt; matches!(unknown, Err(VortexError::UnknownField)));
-    let unknown = taken(alloc, chosen(alloc, 3, &["a", "z"])?);
+    let unknown = taken(alloc, chosen(alloc, 3, &["a", "z"]).expect(&rt, "made"));
     assert!(rt; matches!(unknown, Err(VortexError::UnknownField)));
-    let no_records = taken(alloc, chosen(alloc, 0, &["a"])?);
+    let no_records = taken(alloc, chosen(alloc, 0, &["a"]).expect(&rt, "made"));
     assert!(rt; matches!(no_records, Err(VortexError::MismatchedTypes)));
-    let longer = taken(alloc, with_b(alloc, 3, 0)?);
+    let longer = taken(alloc, with_b(alloc, 3, 0).expect(&rt, "made"));
     assert!(rt; matches!(longer, Err(VortexError::LengthMismatch { .. })));
     let no_records = Step::PushValidity {
         array: 1,
         remove: false,
     };
     assert!(rt; matches!(taken(alloc, no_records), Err(VortexError::MismatchedTypes)));
-    Ok(())
 }
 
 #[test]

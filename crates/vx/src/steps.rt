@@ -86,56 +86,56 @@ fn position_without_an_array_is_refused(rt: HostRuntime) -> Result<(), Fail> {
 }
 
 #[test]
-fn steps_pick_rows(rt: HostRuntime) -> Result<(), Fail> {
+fn steps_pick_rows(rt: HostRuntime) {
     let alloc = rt.alloc();
     let step = Step::Take {
         array: 0,
         indices: 1,
     };
-    let numbers = ints(alloc, &[5i32, 6, 7])?;
-    let indices = ints(alloc, &[2u8, 0])?;
-    assert!(rt; makes(alloc, numbers, indices, step, &[Some(7), Some(5)])?);
+    let numbers = ints(alloc, &[5i32, 6, 7]).expect(&rt, "made");
+    let indices = ints(alloc, &[2u8, 0]).expect(&rt, "made");
+    assert!(rt; makes(alloc, numbers, indices, step, &[Some(7), Some(5)]).expect(&rt, "made"));
     let step = Step::Filter { array: 0, mask: 1 };
-    let numbers = ints(alloc, &[5i32, 6, 7])?;
-    let mask = bools(alloc, &[true, false, true])?;
-    assert!(rt; makes(alloc, numbers, mask, step, &[Some(5), Some(7)])?);
-    Ok(())
+    let numbers = ints(alloc, &[5i32, 6, 7]).expect(&rt, "made");
+    let mask = bools(alloc, &[true, false, true]).expect(&rt, "made");
+    assert!(rt; makes(alloc, numbers, mask, step, &[Some(5), Some(7)]).expect(&rt, "made"));
 }
 
 #[test]
-fn steps_null_rows(rt: HostRuntime) -> Result<(), Fail> {
+fn steps_null_rows(rt: HostRuntime) {
     let alloc = rt.alloc();
     let step = Step::Mask { array: 0, mask: 1 };
-    let numbers = ints(alloc, &[5i32, 6, 7])?;
-    let mask = bools(alloc, &[true, false, true])?;
-    assert!(rt; makes(alloc, numbers, mask, step, &[Some(5), None, Some(7)])?);
-    Ok(())
+    let numbers = ints(alloc, &[5i32, 6, 7]).expect(&rt, "made");
+    let mask = bools(alloc, &[true, false, true]).expect(&rt, "made");
+    assert!(rt; makes(alloc, numbers, mask, step, &[Some(5), None, Some(7)]).expect(&rt, "made"));
 }
 
 #[test]
-fn steps_join_rows(rt: HostRuntime) -> Result<(), Fail> {
+fn steps_join_rows(rt: HostRuntime) {
     let alloc = rt.alloc();
     let mut positions = Vec::new(alloc);
-    positions.extend_from_slice(&[1usize, 0])?;
+    positions
+        .extend_from_slice(&[1usize, 0])
+        .expect(&rt, "made");
     let step = Step::Concat { arrays: positions };
-    let first = ints(alloc, &[5u8, 6])?;
-    let second = ints(alloc, &[7u8])?;
-    assert!(rt; makes(alloc, first, second, step, &[Some(7), Some(5), Some(6)])?);
-    Ok(())
+    let first = ints(alloc, &[5u8, 6]).expect(&rt, "made");
+    let second = ints(alloc, &[7u8]).expect(&rt, "made");
+    assert!(rt;
+        makes(alloc, first, second, step, &[Some(7), Some(5), Some(6)]).expect(&rt, "made")
+    );
 }
 
 #[test]
-fn steps_keep_rows(rt: HostRuntime) -> Result<(), Fail> {
+fn steps_keep_rows(rt: HostRuntime) {
     let alloc = rt.alloc();
     let step = Step::Canonical { array: 1 };
-    let first = ints(alloc, &[5u8])?;
-    let second = ints(alloc, &[7u8, 8])?;
-    assert!(rt; makes(alloc, first, second, step, &[Some(7), Some(8)])?);
+    let first = ints(alloc, &[5u8]).expect(&rt, "made");
+    let second = ints(alloc, &[7u8, 8]).expect(&rt, "made");
+    assert!(rt; makes(alloc, first, second, step, &[Some(7), Some(8)]).expect(&rt, "made"));
     let step = Step::Narrow { array: 1 };
-    let first = ints(alloc, &[5u8])?;
-    let second = ints(alloc, &[1i32, 300])?;
-    assert!(rt; makes(alloc, first, second, step, &[Some(1), Some(300)])?);
-    Ok(())
+    let first = ints(alloc, &[5u8]).expect(&rt, "made");
+    let second = ints(alloc, &[1i32, 300]).expect(&rt, "made");
+    assert!(rt; makes(alloc, first, second, step, &[Some(1), Some(300)]).expect(&rt, "made"));
 }
 
 #[test]
@@ -151,7 +151,7 @@ fn mask_of_numbers_is_refused(rt: HostRuntime) -> Result<(), Fail> {
 }
 
 #[test]
-fn steps_that_pick_rows_are_refused(rt: HostRuntime) -> Result<(), Fail> {
+fn steps_that_pick_rows_are_refused(rt: HostRuntime) {
     let alloc = rt.alloc();
     let past_the_end = Step::Slice {
         array: 0,
@@ -179,17 +179,16 @@ fn steps_that_pick_rows_are_refused(rt: HostRuntime) -> Result<(), Fail> {
             Err(VortexError::LengthMismatch { .. })
         )
     );
-    Ok(())
 }
 
 #[test]
-fn steps_that_make_rows_anew_are_refused(rt: HostRuntime) -> Result<(), Fail> {
+fn steps_that_make_rows_anew_are_refused(rt: HostRuntime) {
     let alloc = rt.alloc();
     let nowhere = Step::Canonical { array: 5 };
     let refused = taken(alloc, nowhere);
     assert!(rt; matches!(refused, Err(VortexError::OutOfBounds { index: 5, len: 5 })));
     let of_two_types = Step::Concat {
-        arrays: positions(alloc, &[0, 1])?,
+        arrays: positions(alloc, &[0, 1]).expect(&rt, "made"),
     };
     assert!(rt;
         matches!(
@@ -198,7 +197,7 @@ fn steps_that_make_rows_anew_are_refused(rt: HostRuntime) -> Result<(), Fail> {
         )
     );
     let of_none = Step::Concat {
-        arrays: positions(alloc, &[])?,
+        arrays: positions(alloc, &[]).expect(&rt, "made"),
     };
     assert!(rt; matches!(taken(alloc, of_none), Err(VortexError::EmptyInput)));
     let no_lists = Step::Rebuild {
@@ -213,7 +212,6 @@ fn steps_that_make_rows_anew_are_refused(rt: HostRuntime) -> Result<(), Fail> {
     assert!(rt; matches!(taken(alloc, not_built), Err(VortexError::NotImplemented)));
     let no_numbers = Step::Narrow { array: 1 };
     assert!(rt; matches!(taken(alloc, no_numbers), Err(VortexError::MismatchedTypes)));
-    Ok(())
 }
 
 // A step of each kind, on the arrays of each kind and the results of the steps before.

@@ -200,21 +200,22 @@ fn prints_parts_and_rows(rt: HostRuntime) {
 }
 
 #[test]
-fn each_failed_read_ends_the_script(rt: HostRuntime) -> Result<(), AllocError> {
+fn each_failed_read_ends_the_script(rt: HostRuntime) {
     let mut number = 1u32;
     for (at, byte) in DICTIONARY.iter().enumerate() {
         let mut wanted = Vec::new(rt.alloc());
         if number > 4 {
-            wanted.extend_from_slice(ROWS)?;
+            wanted.extend_from_slice(ROWS).expect(&rt, "made");
         }
-        let fault = format!(in rt.alloc(); "error {number} Read\n")?;
-        wanted.extend_from_slice(fault.as_bytes())?;
+        let fault = format!(in rt.alloc(); "error {number} Read\n").expect(&rt, "made");
+        wanted
+            .extend_from_slice(fault.as_bytes())
+            .expect(&rt, "made");
         fails_to_read(&rt, rt.alloc(), at, wanted.as_slice());
         if *byte == b'\n' {
             number = number.saturating_add(1);
         }
     }
-    Ok(())
 }
 
 #[test]
@@ -270,26 +271,31 @@ fn a_line_without_end_is_read_up_to_the_limit(rt: HostRuntime) {
 }
 
 #[test]
-fn longest_line_is_read(rt: HostRuntime) -> Result<(), AllocError> {
+fn longest_line_is_read(rt: HostRuntime) {
     for (spaces, wanted) in [
         (MOST, b"error 2 NoRegister\n".as_slice()),
         (MOST + 1, b"error 1 Syntax\n"),
     ] {
-        let mut script = vec![in rt.alloc(); b' '; spaces]?;
-        script.extend_from_slice(b"\nshow 0\n")?;
+        let mut script = vec![in rt.alloc(); b' '; spaces].expect(&rt, "made");
+        script.extend_from_slice(b"\nshow 0\n").expect(&rt, "made");
         prints(&rt, rt.alloc(), &mut script.as_slice(), wanted, 1);
     }
-    Ok(())
 }
 
 #[test]
-fn lists_that_are_nested_deeply_are_let_go(rt: HostRuntime) -> Result<(), AllocError> {
-    let mut script = b"ints u8 0\nints u8 1\n".to_vec(rt.alloc())?;
+fn lists_that_are_nested_deeply_are_let_go(rt: HostRuntime) {
+    let mut script = b"ints u8 0\nints u8 1\n"
+        .to_vec(rt.alloc())
+        .expect(&rt, "made");
     for elements in 1..=LEVELS {
-        let line = format!(in rt.alloc(); "listview {elements} 0 1 nonnull\n")?;
-        script.extend_from_slice(line.as_bytes())?;
+        let line = format!(in rt.alloc(); "listview {elements} 0 1 nonnull\n").expect(&rt, "made");
+        script
+            .extend_from_slice(line.as_bytes())
+            .expect(&rt, "made");
     }
-    script.extend_from_slice(b"narrow 2\nshow 0\n")?;
+    script
+        .extend_from_slice(b"narrow 2\nshow 0\n")
+        .expect(&rt, "made");
     prints(
         &rt,
         rt.alloc(),
@@ -297,5 +303,4 @@ fn lists_that_are_nested_deeply_are_let_go(rt: HostRuntime) -> Result<(), AllocE
         b"error 10003 MismatchedTypes\n",
         1,
     );
-    Ok(())
 }

@@ -36,12 +36,13 @@ fn ranges_of_types(rt: HostRuntime) {
 }
 
 #[test]
-fn types_print(rt: HostRuntime) -> Result<(), std::test::Fail> {
+fn types_print(rt: HostRuntime) {
     assert_eq!(rt;
-        format!(in rt.alloc(); "{} {}", PType::U8, PType::I64)?.as_str(),
+        format!(in rt.alloc(); "{} {}", PType::U8, PType::I64)
+            .expect(&rt, "made")
+            .as_str(),
         "u8 i64"
     );
-    Ok(())
 }
 
 #[test]
@@ -157,16 +158,17 @@ fn refusals_from_twelve(rt: HostRuntime) {
 }
 
 #[test]
-fn refusals_print(rt: HostRuntime) -> Result<(), std::test::Fail> {
+fn refusals_print(rt: HostRuntime) {
     let refusal = VortexError::LengthMismatch {
         expected: 3,
         found: 2,
     };
     assert_eq!(rt;
-        format!(in rt.alloc(); "{refusal}")?.as_str(),
+        format!(in rt.alloc(); "{refusal}")
+            .expect(&rt, "made")
+            .as_str(),
         "a length is 2, expected 3"
     );
-    Ok(())
 }
 
 #[test]
@@ -198,11 +200,10 @@ fn nullability_of_data_types(rt: HostRuntime) {
 }
 
 #[test]
-fn data_types_are_shared(rt: HostRuntime) -> Result<(), VortexError> {
+fn data_types_are_shared(rt: HostRuntime) {
     let dtype = DType::Primitive(PType::I64, Nullability::Nullable);
-    let same = dtype.try_clone(rt.alloc())?;
+    let same = dtype.try_clone(rt.alloc()).expect(&rt, "made");
     assert!(rt; same.is_int() && same.is_nullable());
-    Ok(())
 }
 
 #[test]
@@ -229,177 +230,171 @@ fn three_fields(alloc: Global) -> Result<StructFields, VortexError>
 }
 
 #[test]
-fn fields_by_name(rt: HostRuntime) -> Result<(), VortexError> {
-    let fields = three_fields(rt.alloc())?;
+fn fields_by_name(rt: HostRuntime) {
+    let fields = three_fields(rt.alloc()).expect(&rt, "made");
     assert!(rt; fields.find("b") == Some(1) && fields.find("a") == Some(0));
     assert!(rt; fields.find("c").is_none() && fields.names().len() == 3);
-    Ok(())
 }
 
 #[test]
-fn fields_without_the_first(rt: HostRuntime) -> Result<(), VortexError> {
-    let rest = three_fields(rt.alloc())?.without_field(rt.alloc(), 0)?;
+fn fields_without_the_first(rt: HostRuntime) {
+    let rest = three_fields(rt.alloc())
+        .expect(&rt, "made")
+        .without_field(rt.alloc(), 0)
+        .expect(&rt, "made");
     assert!(rt; rest.names().get(0).as_str() == "b" && rest.find("a") == Some(1));
     let dtypes = rest.fields();
     assert!(rt; dtypes.len() == 2);
     assert!(rt; dtypes[1] == DType::Binary(Nullability::NonNullable));
-    Ok(())
 }
 
 // ---- bytes and numbers
 
 #[test]
-fn empty_bytes(rt: HostRuntime) -> Result<(), VortexError> {
-    let none = ByteBuffer::empty(rt.alloc())?;
+fn empty_bytes(rt: HostRuntime) {
+    let none = ByteBuffer::empty(rt.alloc()).expect(&rt, "made");
     assert!(rt; none.is_empty() && none.len() == 0);
-    Ok(())
 }
 
 #[test]
-fn bytes_of_a_vec(rt: HostRuntime) -> Result<(), VortexError> {
-    let bytes = ByteBuffer::from_vec(rt.alloc(), vec![in rt.alloc(); 7u8, 8]?)?;
-    assert!(rt; bytes.try_clone(rt.alloc())?.as_slice() == [7, 8].as_slice());
-    Ok(())
+fn bytes_of_a_vec(rt: HostRuntime) {
+    let bytes = ByteBuffer::from_vec(
+        rt.alloc(),
+        vec![in rt.alloc(); 7u8, 8].expect(&rt, "made"),
+    ).expect(&rt, "made");
+    assert!(rt; bytes.try_clone(rt.alloc()).expect(&rt, "made").as_slice() == [7, 8].as_slice());
 }
 
 #[test]
-fn slice_of_bytes(rt: HostRuntime) -> Result<(), VortexError> {
-    let bytes = ByteBuffer::copy_from(rt.alloc(), b"vortex")?;
-    assert!(rt; bytes.slice(rt.alloc(), 1..4)?.as_slice() == b"ort".as_slice());
-    Ok(())
+fn slice_of_bytes(rt: HostRuntime) {
+    let bytes = ByteBuffer::copy_from(rt.alloc(), b"vortex").expect(&rt, "made");
+    assert!(rt; bytes.slice(rt.alloc(), 1..4).expect(&rt, "made").as_slice() == b"ort".as_slice());
 }
 
 #[test]
-fn slice_of_numbers(rt: HostRuntime) -> Result<(), VortexError> {
-    let bytes = ByteBuffer::copy_from(rt.alloc(), &[1, 0, 2, 0, 3, 0])?;
+fn slice_of_numbers(rt: HostRuntime) {
+    let bytes = ByteBuffer::copy_from(rt.alloc(), &[1, 0, 2, 0, 3, 0]).expect(&rt, "made");
     assert_eq!(rt; number_count(bytes.as_slice(), PType::U16), 3);
-    let part = slice_numbers(rt.alloc(), &bytes, PType::U16, 1..2)?;
+    let part = slice_numbers(rt.alloc(), &bytes, PType::U16, 1..2).expect(&rt, "made");
     assert!(rt; part.as_slice() == [2, 0].as_slice());
-    Ok(())
 }
 
 #[test]
-fn empty_buffer(rt: HostRuntime) -> Result<(), VortexError> {
-    let none: Buffer<i32> = Buffer::empty(rt.alloc())?;
+fn empty_buffer(rt: HostRuntime) {
+    let none: Buffer<i32> = Buffer::empty(rt.alloc()).expect(&rt, "made");
     assert!(rt; none.is_empty() && none.len() == 0);
-    Ok(())
 }
 
 #[test]
-fn buffer_of_a_vec(rt: HostRuntime) -> Result<(), VortexError> {
-    let buffer = Buffer::from_vec(rt.alloc(), vec![in rt.alloc(); 7i64, -8]?)?;
-    assert!(rt; buffer.try_clone(rt.alloc())?.as_slice() == [7, -8].as_slice());
-    Ok(())
+fn buffer_of_a_vec(rt: HostRuntime) {
+    let buffer = Buffer::from_vec(
+        rt.alloc(),
+        vec![in rt.alloc(); 7i64, -8].expect(&rt, "made"),
+    )
+    .expect(&rt, "made");
+    assert!(rt; buffer.try_clone(rt.alloc()).expect(&rt, "made").as_slice() == [7, -8].as_slice());
 }
 
 #[test]
-fn slice_of_a_buffer(rt: HostRuntime) -> Result<(), VortexError> {
-    let buffer = Buffer::copy_from(rt.alloc(), &[5u16, 6, 7, 8])?;
-    let part = buffer.slice(rt.alloc(), 1..3)?;
+fn slice_of_a_buffer(rt: HostRuntime) {
+    let buffer = Buffer::copy_from(rt.alloc(), &[5u16, 6, 7, 8]).expect(&rt, "made");
+    let part = buffer.slice(rt.alloc(), 1..3).expect(&rt, "made");
     assert!(rt; part.len() == 2 && part.value(1) == 7);
-    Ok(())
 }
 
 #[test]
-fn buffer_from_bytes(rt: HostRuntime) -> Result<(), VortexError> {
-    let bytes = ByteBuffer::copy_from(rt.alloc(), &[0xfe, 0xff, 1, 0, 9])?;
-    let buffer: Buffer<i16> = Buffer::from_byte_buffer(rt.alloc(), &bytes)?;
+fn buffer_from_bytes(rt: HostRuntime) {
+    let bytes = ByteBuffer::copy_from(rt.alloc(), &[0xfe, 0xff, 1, 0, 9]).expect(&rt, "made");
+    let buffer: Buffer<i16> = Buffer::from_byte_buffer(rt.alloc(), &bytes).expect(&rt, "made");
     assert!(rt; buffer.as_slice() == [-2, 1].as_slice());
-    Ok(())
 }
 
 #[test]
-fn bytes_from_a_buffer(rt: HostRuntime) -> Result<(), VortexError> {
-    let buffer = Buffer::copy_from(rt.alloc(), &[-1i32, 258])?;
-    let bytes = buffer.into_byte_buffer(rt.alloc())?;
+fn bytes_from_a_buffer(rt: HostRuntime) {
+    let buffer = Buffer::copy_from(rt.alloc(), &[-1i32, 258]).expect(&rt, "made");
+    let bytes = buffer.into_byte_buffer(rt.alloc()).expect(&rt, "made");
     assert!(rt; bytes.as_slice() == [255, 255, 255, 255, 2, 1, 0, 0].as_slice());
-    Ok(())
 }
 
 #[test]
-fn bytes_from_pushed_items(rt: HostRuntime) -> Result<(), VortexError> {
-    let mut items = BufferMut::with_capacity(rt.alloc(), 1)?;
-    items.push(-2i16)?;
-    items.push(258)?;
-    let bytes = items.into_byte_buffer(rt.alloc())?;
+fn bytes_from_pushed_items(rt: HostRuntime) {
+    let mut items = BufferMut::with_capacity(rt.alloc(), 1).expect(&rt, "made");
+    items.push(-2i16).expect(&rt, "made");
+    items.push(258).expect(&rt, "made");
+    let bytes = items.into_byte_buffer(rt.alloc()).expect(&rt, "made");
     assert!(rt; bytes.as_slice() == [254, 255, 2, 1].as_slice());
-    Ok(())
 }
 
 #[test]
-fn pushed_items(rt: HostRuntime) -> Result<(), VortexError> {
-    let mut items = BufferMut::with_capacity(rt.alloc(), 1)?;
-    items.push(4u8)?;
-    items.push(5)?;
+fn pushed_items(rt: HostRuntime) {
+    let mut items = BufferMut::with_capacity(rt.alloc(), 1).expect(&rt, "made");
+    items.push(4u8).expect(&rt, "made");
+    items.push(5).expect(&rt, "made");
     assert!(rt; items.len() == 2 && items.as_slice() == [4, 5].as_slice());
-    Ok(())
 }
 
 #[test]
-fn written_items(rt: HostRuntime) -> Result<(), VortexError> {
-    let mut items = BufferMut::with_capacity(rt.alloc(), 1)?;
-    items.push(4u8)?;
+fn written_items(rt: HostRuntime) {
+    let mut items = BufferMut::with_capacity(rt.alloc(), 1).expect(&rt, "made");
+    items.push(4u8).expect(&rt, "made");
     items.as_mut_slice()[0] = 9;
-    assert!(rt; items.freeze()?.as_slice() == [9].as_slice());
-    Ok(())
+    assert!(rt; items.freeze().expect(&rt, "made").as_slice() == [9].as_slice());
 }
 
 #[test]
-fn positions_from_numbers(rt: HostRuntime) -> Result<(), VortexError> {
-    let counts = read_counts(rt.alloc(), PType::U16, &[1, 0, 0, 2])?;
+fn positions_from_numbers(rt: HostRuntime) {
+    let counts = read_counts(rt.alloc(), PType::U16, &[1, 0, 0, 2]).expect(&rt, "made");
     assert!(rt; counts.as_slice() == [1, 512].as_slice());
-    Ok(())
 }
 
 #[test]
-fn numbers_from_positions(rt: HostRuntime) -> Result<(), VortexError> {
-    let bytes = write_counts(rt.alloc(), PType::I16, &[1, 512])?;
+fn numbers_from_positions(rt: HostRuntime) {
+    let bytes = write_counts(rt.alloc(), PType::I16, &[1, 512]).expect(&rt, "made");
     assert!(rt; bytes.as_slice() == [1, 0, 0, 2].as_slice());
-    Ok(())
 }
 
 #[test]
-fn picked_numbers(rt: HostRuntime) -> Result<(), VortexError> {
+fn picked_numbers(rt: HostRuntime) {
     let picked = gather_numbers(
         rt.alloc(),
         PType::U16,
         &[1, 0, 0, 2],
         &Selection::at_positions(&[1, 0]),
-    )?;
+    )
+    .expect(&rt, "made");
     assert!(rt; picked.as_slice() == [0, 2, 1, 0].as_slice());
-    Ok(())
 }
 
 #[test]
-fn picked_items(rt: HostRuntime) -> Result<(), VortexError> {
+fn picked_items(rt: HostRuntime) {
     let items = [(1u8, true), (2, false), (3, true)];
-    let picked = gather_items(rt.alloc(), &items, &Selection::at_positions(&[2, 0, 2]))?;
+    let picked = gather_items(rt.alloc(), &items, &Selection::at_positions(&[2, 0, 2])).expect(
+        &rt, "made",
+    );
     assert!(rt; picked.len() == 3 && picked.value(0).0 == 3 && picked.value(1).0 == 1);
     assert!(rt; picked.value(2).0 == 3 && picked.value(2).1);
-    Ok(())
 }
 
 #[test]
-fn picked_runs_of_items(rt: HostRuntime) -> Result<(), VortexError> {
+fn picked_runs_of_items(rt: HostRuntime) {
     let picked = gather_items(
         rt.alloc(),
         &[5u128, 6, 7],
         &Selection::of_runs(&[(1, 3), (2, 2), (0, 1)], 3),
-    )?;
+    )
+    .expect(&rt, "made");
     assert!(rt; picked.as_slice() == [6, 7, 5].as_slice());
-    Ok(())
 }
 
 #[test]
-fn shared_buffers(rt: HostRuntime) -> Result<(), VortexError> {
+fn shared_buffers(rt: HostRuntime) {
     let buffers = [
-        ByteBuffer::copy_from(rt.alloc(), b"ab")?,
-        ByteBuffer::empty(rt.alloc())?,
+        ByteBuffer::copy_from(rt.alloc(), b"ab").expect(&rt, "made"),
+        ByteBuffer::empty(rt.alloc()).expect(&rt, "made"),
     ];
-    let shared = share_buffers(rt.alloc(), &buffers)?;
+    let shared = share_buffers(rt.alloc(), &buffers).expect(&rt, "made");
     assert!(rt; shared.len() == 2 && shared[1].is_empty());
     assert!(rt; shared[0].as_slice() == [97, 98].as_slice());
-    Ok(())
 }
 
 // ---- bits and masks
@@ -416,31 +411,30 @@ fn sixteen_bits(alloc: Global) -> Result<BitBuffer, VortexError> {
 }
 
 #[test]
-fn slice_of_bits(rt: HostRuntime) -> Result<(), VortexError> {
-    let bits = sixteen_bits(rt.alloc())?;
+fn slice_of_bits(rt: HostRuntime) {
+    let bits = sixteen_bits(rt.alloc()).expect(&rt, "made");
     assert_eq!(rt; bits.len(), 16);
-    let part = bits.slice(rt.alloc(), 9..15)?;
+    let part = bits.slice(rt.alloc(), 9..15).expect(&rt, "made");
     assert!(rt; part.offset() == 1 && part.len() == 6 && part.true_count() == 3);
-    assert!(rt; are_bits(rt.alloc(), &part, &[false, false, true, false, true, true])?);
-    Ok(())
+    assert!(rt;
+        are_bits(rt.alloc(), &part, &[false, false, true, false, true, true]).expect(&rt, "made")
+    );
 }
 
 #[test]
-fn bits_at_an_offset(rt: HostRuntime) -> Result<(), VortexError> {
-    let bytes = ByteBuffer::copy_from(rt.alloc(), &[0xac, 0x69, 0x00])?;
-    let bits = BitBuffer::new_with_offset(rt.alloc(), bytes, 3, 10)?;
+fn bits_at_an_offset(rt: HostRuntime) {
+    let bytes = ByteBuffer::copy_from(rt.alloc(), &[0xac, 0x69, 0x00]).expect(&rt, "made");
+    let bits = BitBuffer::new_with_offset(rt.alloc(), bytes, 3, 10).expect(&rt, "made");
     let (offset, len, bytes) = bits.into_inner();
     assert!(rt; offset == 2 && len == 3 && bytes.as_slice() == [0x69, 0x00].as_slice());
-    Ok(())
 }
 
 #[test]
-fn bits_of_booleans(rt: HostRuntime) -> Result<(), VortexError> {
-    let bits = BitBuffer::from_bools(rt.alloc(), &[false, true, true])?;
+fn bits_of_booleans(rt: HostRuntime) {
+    let bits = BitBuffer::from_bools(rt.alloc(), &[false, true, true]).expect(&rt, "made");
     assert!(rt; !bits.is_empty());
-    let (_, _, bytes) = bits.try_clone(rt.alloc())?.into_inner();
+    let (_, _, bytes) = bits.try_clone(rt.alloc()).expect(&rt, "made").into_inner();
     assert!(rt; bytes.as_slice() == [0x06].as_slice());
-    Ok(())
 }
 
 // The bits that are set in both.
@@ -450,56 +444,57 @@ fn both(alloc: Global, left: &[bool; 3], right: &[bool; 3]) -> Result<BitBuffer,
 }
 
 #[test]
-fn bits_of_both(rt: HostRuntime) -> Result<(), VortexError> {
-    let both = both(rt.alloc(), &[true, false, true], &[true, true, false])?;
-    assert!(rt; are_bits(rt.alloc(), &both, &[true, false, false])?);
-    Ok(())
+fn bits_of_both(rt: HostRuntime) {
+    let both = both(rt.alloc(), &[true, false, true], &[true, true, false]).expect(&rt, "made");
+    assert!(rt; are_bits(rt.alloc(), &both, &[true, false, false]).expect(&rt, "made"));
 }
 
 #[test]
-fn unequal_bits(rt: HostRuntime) -> Result<(), VortexError> {
-    let left = BitBuffer::from_bools(rt.alloc(), &[true, false])?;
-    assert!(rt; !are_bits(rt.alloc(), &left, &[true, true])?);
-    Ok(())
+fn unequal_bits(rt: HostRuntime) {
+    let left = BitBuffer::from_bools(rt.alloc(), &[true, false]).expect(&rt, "made");
+    assert!(rt; !are_bits(rt.alloc(), &left, &[true, true]).expect(&rt, "made"));
 }
 
 #[test]
-fn appended_bits(rt: HostRuntime) -> Result<(), VortexError> {
-    let mut bits = BitBufferMut::with_capacity(rt.alloc(), 2)?;
-    bits.append(false)?;
-    bits.append(false)?;
+fn appended_bits(rt: HostRuntime) {
+    let mut bits = BitBufferMut::with_capacity(rt.alloc(), 2).expect(&rt, "made");
+    bits.append(false).expect(&rt, "made");
+    bits.append(false).expect(&rt, "made");
     bits.set(1);
     assert_eq!(rt; bits.len(), 2);
-    let bits = bits.freeze()?;
+    let bits = bits.freeze().expect(&rt, "made");
     assert!(rt; bits.true_count() == 1);
-    Ok(())
 }
 
 #[test]
-fn filled_bits(rt: HostRuntime) -> Result<(), VortexError> {
-    let mut bits = BitBufferMut::with_capacity(rt.alloc(), 9)?;
+fn filled_bits(rt: HostRuntime) {
+    let mut bits = BitBufferMut::with_capacity(rt.alloc(), 9).expect(&rt, "made");
     for _ in 0..9 {
-        bits.append(true)?;
+        bits.append(true).expect(&rt, "made");
     }
     assert_eq!(rt; bits.len(), 9);
     bits.fill_range(2, 9, false);
-    assert_eq!(rt; bits.freeze()?.true_count(), 2);
-    Ok(())
+    assert_eq!(rt; bits.freeze().expect(&rt, "made").true_count(), 2);
 }
 
 #[test]
-fn repeated_bits(rt: HostRuntime) -> Result<(), VortexError> {
-    assert_eq!(rt; BitBuffer::full(rt.alloc(), true, 11)?.true_count(), 11);
-    let (_, _, bytes) = BitBuffer::new_set(rt.alloc(), 11)?.into_inner();
+fn repeated_bits(rt: HostRuntime) {
+    assert_eq!(rt;
+        BitBuffer::full(rt.alloc(), true, 11)
+            .expect(&rt, "made")
+            .true_count(),
+        11
+    );
+    let (_, _, bytes) = BitBuffer::new_set(rt.alloc(), 11)
+        .expect(&rt, "made")
+        .into_inner();
     assert!(rt; bytes.as_slice() == [0xff, 0x07].as_slice());
-    Ok(())
 }
 
 #[test]
-fn unset_bits(rt: HostRuntime) -> Result<(), VortexError> {
-    let unset = BitBuffer::new_unset(rt.alloc(), 9)?;
+fn unset_bits(rt: HostRuntime) {
+    let unset = BitBuffer::new_unset(rt.alloc(), 9).expect(&rt, "made");
     assert!(rt; unset.len() == 9 && unset.true_count() == 0);
-    Ok(())
 }
 
 // Three bits that are not set, ten that are, and the middle three of five.
@@ -512,10 +507,9 @@ fn sixteen_by_runs(alloc: Global) -> Result<BitBuffer, VortexError> {
 }
 
 #[test]
-fn appended_runs_of_bits(rt: HostRuntime) -> Result<(), VortexError> {
-    let (offset, len, bytes) = sixteen_by_runs(rt.alloc())?.into_inner();
+fn appended_runs_of_bits(rt: HostRuntime) {
+    let (offset, len, bytes) = sixteen_by_runs(rt.alloc()).expect(&rt, "made").into_inner();
     assert!(rt; offset == 0 && len == 16 && bytes.as_slice() == [0xf8, 0xdf].as_slice());
-    Ok(())
 }
 
 // The bits AC 69 35 without the first two.
@@ -536,10 +530,9 @@ fn five_and_twenty(alloc: Global) -> Result<BitBuffer, VortexError> {
 }
 
 #[test]
-fn appended_bytes_of_bits(rt: HostRuntime) -> Result<(), VortexError> {
-    let (_, len, bytes) = five_and_twenty(rt.alloc())?.into_inner();
+fn appended_bytes_of_bits(rt: HostRuntime) {
+    let (_, len, bytes) = five_and_twenty(rt.alloc()).expect(&rt, "made").into_inner();
     assert!(rt; len == 25 && bytes.as_slice() == [0xa0, 0xa6, 0xd5, 0x00].as_slice());
-    Ok(())
 }
 
 // These bits at the places of some runs.
@@ -553,9 +546,15 @@ fn picked(alloc: Global) -> Result<BitBuffer, VortexError> {
 }
 
 #[test]
-fn picked_bits(rt: HostRuntime) -> Result<(), VortexError> {
-    assert!(rt; are_bits(rt.alloc(), &picked(rt.alloc())?, &[true, false, true])?);
-    Ok(())
+fn picked_bits(rt: HostRuntime) {
+    assert!(rt;
+        are_bits(
+            rt.alloc(),
+            &picked(rt.alloc()).expect(&rt, "made"),
+            &[true, false, true]
+        )
+        .expect(&rt, "made")
+    );
 }
 
 #[test]
@@ -567,10 +566,9 @@ fn even_masks(rt: HostRuntime) {
 }
 
 #[test]
-fn mixed_mask(rt: HostRuntime) -> Result<(), VortexError> {
-    let bits = BitBuffer::from_bools(rt.alloc(), &[false, true, true])?;
-    let mask = Mask::from_buffer(rt.alloc(), bits)?;
+fn mixed_mask(rt: HostRuntime) {
+    let bits = BitBuffer::from_bools(rt.alloc(), &[false, true, true]).expect(&rt, "made");
+    let mask = Mask::from_buffer(rt.alloc(), bits).expect(&rt, "made");
     assert_eq!(rt; mask.len(), 3);
     assert!(rt; !mask.value(0) && mask.value(1) && mask.true_count() == 2);
-    Ok(())
 }

@@ -28,49 +28,63 @@ fn dictionary(alloc: Global) -> Result<ArrayRef, VortexError> {
 }
 
 #[test]
-fn two_halves_of_all_rows_are_too_many(rt: HostRuntime) -> Result<(), Fail> {
-    let halves = vec![in rt.alloc(); zeros(rt.alloc(), HALF)?, zeros(rt.alloc(), HALF)?]?;
+fn two_halves_of_all_rows_are_too_many(rt: HostRuntime) {
+    let halves = vec![in rt.alloc();
+        zeros(rt.alloc(), HALF).expect(&rt, "made"),
+        zeros(rt.alloc(), HALF).expect(&rt, "made"),
+    ]
+    .expect(&rt, "made");
     let fault = ArrayRef::concat(rt.alloc(), &halves).err();
     assert_eq!(rt; fault, Some(VortexError::Overflow));
-    Ok(())
 }
 
 #[test]
-fn as_many_equal_indices_as_rows(rt: HostRuntime) -> Result<(), Fail> {
-    let rows = zeros(rt.alloc(), MANY)?;
-    let taken = rows.take(rt.alloc(), &rows)?;
-    let part = taken.slice(rt.alloc(), MANY - 2..MANY)?;
+fn as_many_equal_indices_as_rows(rt: HostRuntime) {
+    let rows = zeros(rt.alloc(), MANY).expect(&rt, "made");
+    let taken = rows.take(rt.alloc(), &rows).expect(&rt, "made");
+    let part = taken.slice(rt.alloc(), MANY - 2..MANY).expect(&rt, "made");
     assert!(rt; has_numbers(&part, &[0, 0]));
-    Ok(())
 }
 
 #[test]
-fn as_many_null_indices_as_rows(rt: HostRuntime) -> Result<(), Fail> {
+fn as_many_null_indices_as_rows(rt: HostRuntime) {
     let null = Scalar::null(DType::Primitive(PType::U8, Nullability::Nullable));
-    let nulls = ArrayRef::constant(rt.alloc(), null, MANY)?;
-    let taken = zeros(rt.alloc(), MANY)?.take(rt.alloc(), &nulls)?;
+    let nulls = ArrayRef::constant(rt.alloc(), null, MANY).expect(&rt, "made");
+    let taken = zeros(rt.alloc(), MANY)
+        .expect(&rt, "made")
+        .take(rt.alloc(), &nulls)
+        .expect(&rt, "made");
     assert_eq!(rt; taken.len(), MANY);
-    assert!(rt; !taken.is_valid(rt.alloc(), MANY - 1)?);
-    Ok(())
+    assert!(rt; !taken.is_valid(rt.alloc(), MANY - 1).expect(&rt, "made"));
 }
 
 #[test]
-fn a_mask_of_one_value_for_as_many_rows(rt: HostRuntime) -> Result<(), Fail> {
-    let rows = zeros(rt.alloc(), MANY)?;
-    let kept = rows.mask(rt.alloc(), &truths(rt.alloc(), true)?)?;
-    let gone = kept.mask(rt.alloc(), &truths(rt.alloc(), false)?)?;
-    assert!(rt; kept.is_valid(rt.alloc(), MANY - 1)?);
-    assert!(rt; !gone.is_valid(rt.alloc(), MANY - 1)?);
-    Ok(())
+fn a_mask_of_one_value_for_as_many_rows(rt: HostRuntime) {
+    let rows = zeros(rt.alloc(), MANY).expect(&rt, "made");
+    let kept = rows
+        .mask(rt.alloc(), &truths(rt.alloc(), true).expect(&rt, "made"))
+        .expect(&rt, "made");
+    let gone = kept
+        .mask(rt.alloc(), &truths(rt.alloc(), false).expect(&rt, "made"))
+        .expect(&rt, "made");
+    assert!(rt; kept.is_valid(rt.alloc(), MANY - 1).expect(&rt, "made"));
+    assert!(rt; !gone.is_valid(rt.alloc(), MANY - 1).expect(&rt, "made"));
 }
 
 #[test]
-fn the_validity_of_as_many_equal_codes(rt: HostRuntime) -> Result<(), Fail> {
-    let validity = dictionary(rt.alloc())?.validity(rt.alloc())?;
-    assert!(rt; !validity.is_valid(rt.alloc(), MANY - 1)?);
-    let opposite = validity.not(rt.alloc())?;
-    assert!(rt; opposite.is_valid(rt.alloc(), MANY - 1)?);
-    let both = opposite.and(rt.alloc(), Validity::Array(truths(rt.alloc(), false)?))?;
-    assert!(rt; !both.is_valid(rt.alloc(), MANY - 1)?);
-    Ok(())
+fn the_validity_of_as_many_equal_codes(rt: HostRuntime) {
+    let validity = dictionary(rt.alloc())
+        .expect(&rt, "made")
+        .validity(rt.alloc())
+        .expect(&rt, "made");
+    assert!(rt; !validity.is_valid(rt.alloc(), MANY - 1).expect(&rt, "made"));
+    let opposite = validity.not(rt.alloc()).expect(&rt, "made");
+    assert!(rt; opposite.is_valid(rt.alloc(), MANY - 1).expect(&rt, "made"));
+    let both = opposite
+        .and(
+            rt.alloc(),
+            Validity::Array(truths(rt.alloc(), false).expect(&rt, "made")),
+        )
+        .expect(&rt, "made");
+    assert!(rt; !both.is_valid(rt.alloc(), MANY - 1).expect(&rt, "made"));
 }

@@ -27,17 +27,20 @@ fn fault_of<T: NativePType>(
 }
 
 #[test]
-fn an_end_past_every_usize(rt: HostRuntime) -> Result<(), Fail> {
-    let one = zeros(rt.alloc(), 1)?;
-    let fault = fault_of(rt.alloc(), one, &[GREATEST], &[1], Validity::NonNullable)?;
+fn an_end_past_every_usize(rt: HostRuntime) {
+    let one = zeros(rt.alloc(), 1).expect(&rt, "made");
+    let fault = fault_of(rt.alloc(), one, &[GREATEST], &[1], Validity::NonNullable).expect(
+        &rt, "made",
+    );
     assert_eq!(rt; fault, Some(VortexError::Overflow));
-    Ok(())
 }
 
 #[test]
-fn an_empty_list_at_the_greatest_offset(rt: HostRuntime) -> Result<(), Fail> {
-    let one = zeros(rt.alloc(), 1)?;
-    let fault = fault_of(rt.alloc(), one, &[GREATEST], &[0], Validity::NonNullable)?;
+fn an_empty_list_at_the_greatest_offset(rt: HostRuntime) {
+    let one = zeros(rt.alloc(), 1).expect(&rt, "made");
+    let fault = fault_of(rt.alloc(), one, &[GREATEST], &[0], Validity::NonNullable).expect(
+        &rt, "made",
+    );
     assert!(rt;
         matches!(
             fault,
@@ -47,59 +50,66 @@ fn an_empty_list_at_the_greatest_offset(rt: HostRuntime) -> Result<(), Fail> {
             })
         )
     );
-    Ok(())
 }
 
 #[test]
-fn a_negative_size(rt: HostRuntime) -> Result<(), Fail> {
-    let two = zeros(rt.alloc(), 2)?;
-    let fault = fault_of::<i16>(rt.alloc(), two, &[0, 0], &[1, -1], Validity::NonNullable)?;
+fn a_negative_size(rt: HostRuntime) {
+    let two = zeros(rt.alloc(), 2).expect(&rt, "made");
+    let fault = fault_of::<i16>(rt.alloc(), two, &[0, 0], &[1, -1], Validity::NonNullable).expect(
+        &rt, "made",
+    );
     assert_eq!(rt; fault, Some(VortexError::Negative { row: 1 }));
-    Ok(())
 }
 
 #[test]
-fn a_null_list_past_the_elements(rt: HostRuntime) -> Result<(), Fail> {
-    let three = zeros(rt.alloc(), 3)?;
-    let null = validity_of(rt.alloc(), &[false])?;
-    let fault = fault_of::<u8>(rt.alloc(), three, &[2], &[2], null)?;
+fn a_null_list_past_the_elements(rt: HostRuntime) {
+    let three = zeros(rt.alloc(), 3).expect(&rt, "made");
+    let null = validity_of(rt.alloc(), &[false]).expect(&rt, "made");
+    let fault = fault_of::<u8>(rt.alloc(), three, &[2], &[2], null).expect(&rt, "made");
     assert!(rt; matches!(fault, Some(VortexError::OutOfBounds { index: 4, .. })));
-    Ok(())
 }
 
 #[test]
-fn all_lists_null_and_past_the_elements(rt: HostRuntime) -> Result<(), Fail> {
-    let three = zeros(rt.alloc(), 3)?;
-    let fault = fault_of::<u8>(rt.alloc(), three, &[2], &[2], Validity::AllInvalid)?;
+fn all_lists_null_and_past_the_elements(rt: HostRuntime) {
+    let three = zeros(rt.alloc(), 3).expect(&rt, "made");
+    let fault = fault_of::<u8>(rt.alloc(), three, &[2], &[2], Validity::AllInvalid).expect(
+        &rt, "made",
+    );
     assert!(rt; matches!(fault, Some(VortexError::OutOfBounds { index: 4, .. })));
-    Ok(())
 }
 
 // Read as unsigned, the offset would be 255, and so fit.
 #[test]
-fn a_negative_offset(rt: HostRuntime) -> Result<(), Fail> {
-    let many = zeros(rt.alloc(), 255)?;
-    let fault = fault_of::<i8>(rt.alloc(), many, &[-1], &[0], Validity::NonNullable)?;
+fn a_negative_offset(rt: HostRuntime) {
+    let many = zeros(rt.alloc(), 255).expect(&rt, "made");
+    let fault = fault_of::<i8>(rt.alloc(), many, &[-1], &[0], Validity::NonNullable).expect(
+        &rt, "made",
+    );
     assert_eq!(rt; fault, Some(VortexError::Negative { row: 0 }));
-    Ok(())
 }
 
 #[test]
-fn as_many_lists_that_all_are_the_first(rt: HostRuntime) -> Result<(), Fail> {
+fn as_many_lists_that_all_are_the_first(rt: HostRuntime) {
     let many = 1099511627776;
     let offset = Scalar::int(1, PType::U32, Nullability::NonNullable);
-    let offsets = ArrayRef::constant(rt.alloc(), offset, many)?;
+    let offsets = ArrayRef::constant(rt.alloc(), offset, many).expect(&rt, "made");
     let size = Scalar::int(2, PType::I16, Nullability::NonNullable);
-    let sizes = ArrayRef::constant(rt.alloc(), size, many)?;
-    let three = zeros(rt.alloc(), 3)?;
-    let lists = ListViewArray::try_new(rt.alloc(), three, offsets, sizes, Validity::NonNullable)?;
+    let sizes = ArrayRef::constant(rt.alloc(), size, many).expect(&rt, "made");
+    let three = zeros(rt.alloc(), 3).expect(&rt, "made");
+    let lists = ListViewArray::try_new(
+        rt.alloc(),
+        three,
+        offsets,
+        sizes,
+        Validity::NonNullable,
+    ).expect(&rt, "made");
     assert!(rt; !lists.is_consecutive());
     assert_eq!(rt;
         lists
-            .compute_referenced_elements_mask(rt.alloc())?
+            .compute_referenced_elements_mask(rt.alloc())
+            .expect(&rt, "made")
             .true_count(),
         2
     );
     assert!(rt; matches!(lists.referenced_element_bounds(), Ok((1, 3))));
-    Ok(())
 }

@@ -20,13 +20,14 @@ fn no_records(alloc: Global) -> Result<StructArray, VortexError> {
 }
 
 #[test]
-fn a_null_record_of_no_records(rt: HostRuntime) -> Result<(), Fail> {
-    let taken = no_records(rt.alloc())?
+fn a_null_record_of_no_records(rt: HostRuntime) {
+    let taken = no_records(rt.alloc())
+        .expect(&rt, "made")
         .into_array()
-        .take(rt.alloc(), &null_index(rt.alloc())?)?;
+        .take(rt.alloc(), &null_index(rt.alloc()).expect(&rt, "made"))
+        .expect(&rt, "made");
     assert!(rt; taken.len() == 1 && taken.dtype().is_nullable());
-    assert!(rt; !taken.is_valid(rt.alloc(), 0)?);
-    Ok(())
+    assert!(rt; !taken.is_valid(rt.alloc(), 0).expect(&rt, "made"));
 }
 
 #[test]

@@ -25,24 +25,22 @@ fn fault_of(alloc: Global, view: BinaryView) -> Result<Option<VortexError>, Vort
 }
 
 #[test]
-fn a_prefix_of_another_text(rt: HostRuntime) -> Result<(), Fail> {
+fn a_prefix_of_another_text(rt: HostRuntime) {
     let view = BinaryView::new_ref(13, *b"abcX", 0, 0);
-    let fault = fault_of(rt.alloc(), view)?;
+    let fault = fault_of(rt.alloc(), view).expect(&rt, "made");
     assert_eq!(rt; fault, Some(VortexError::BadPrefix { row: 0 }));
-    Ok(())
 }
 
 #[test]
-fn places_outside_the_buffer(rt: HostRuntime) -> Result<(), Fail> {
+fn places_outside_the_buffer(rt: HostRuntime) {
     for (buffer, offset, fault) in [
         (0, 1, VortexError::BadEnd { row: 0 }),
         (0, 13, VortexError::BadStart { row: 0 }),
         (1, 0, VortexError::BadBuffer { row: 0 }),
     ] {
         let view = BinaryView::new_ref(13, *b"abcd", buffer, offset);
-        assert_eq!(rt; fault_of(rt.alloc(), view)?, Some(fault));
+        assert_eq!(rt; fault_of(rt.alloc(), view).expect(&rt, "made"), Some(fault));
     }
-    Ok(())
 }
 
 // The text of a view into the tenth buffer, where there is none.
@@ -53,32 +51,38 @@ fn lost(alloc: Global, dtype: DType, validity: Validity) -> Result<VarBinViewArr
 }
 
 #[test]
-fn a_null_view_into_no_buffer(rt: HostRuntime) -> Result<(), Fail> {
+fn a_null_view_into_no_buffer(rt: HostRuntime) {
     let texts = DType::Utf8(Nullability::Nullable);
-    let data = lost(rt.alloc(), texts, Validity::AllInvalid)?.to_data(rt.alloc())?;
+    let data = lost(rt.alloc(), texts, Validity::AllInvalid)
+        .expect(&rt, "made")
+        .to_data(rt.alloc())
+        .expect(&rt, "made");
     assert!(rt; data.len() == 1 && data.data_buffers().is_empty());
     assert_eq!(rt; data.views()[0].as_u128(), 0);
-    Ok(())
 }
 
 #[test]
-fn a_valid_view_into_no_buffer(rt: HostRuntime) -> Result<(), Fail> {
+fn a_valid_view_into_no_buffer(rt: HostRuntime) {
     let fault = lost(rt.alloc(), TEXTS, Validity::NonNullable).err();
     assert_eq!(rt; fault, Some(VortexError::BadBuffer { row: 0 }));
     let texts = DType::Utf8(Nullability::Nullable);
     let fault = lost(rt.alloc(), texts, Validity::AllValid).err();
     assert_eq!(rt; fault, Some(VortexError::BadBuffer { row: 0 }));
-    Ok(())
 }
 
 #[test]
-fn padding_that_is_no_zeros(rt: HostRuntime) -> Result<(), Fail> {
+fn padding_that_is_no_zeros(rt: HostRuntime) {
     let view = BinaryView::from(0x00ff626100000002);
-    let views = Buffer::copy_from(rt.alloc(), &[view])?;
+    let views = Buffer::copy_from(rt.alloc(), &[view]).expect(&rt, "made");
     let valid = Validity::NonNullable;
-    let array = VarBinViewArray::try_new(rt.alloc(), views, Vec::new(rt.alloc()), TEXTS, valid)?;
+    let array = VarBinViewArray::try_new(
+        rt.alloc(),
+        views,
+        Vec::new(rt.alloc()),
+        TEXTS,
+        valid,
+    ).expect(&rt, "made");
     assert_eq!(rt; array.as_array().bytes_at(0), Some(b"ab".as_slice()));
-    let data = array.to_data(rt.alloc())?;
+    let data = array.to_data(rt.alloc()).expect(&rt, "made");
     assert!(rt; data.len() == 1 && data.views()[0] != BinaryView::make_view(b"ab", 0, 0));
-    Ok(())
 }

@@ -10,37 +10,14 @@ use Rattle.vx_base.specs.Bits.{bool_at}
 use Rattle.vx_base.specs.MaskRuns.{is_in_run, is_in_runs, AreRuns}
 use Rattle.vx_base.specs.Selections.{run_positions}
 use Rattle.vx_base.specs.Trues.{trues}
-use Rattle.vx_base.proofs.MaskRuns.{bool_at-marked, marked_from_trues, is_in_runs-push, run_in, run_before, run_past}
-use Rattle.vx_base.proofs.MaskStretches.{IsStretch-gap, IsStretch-end, IsStretch-run}
+use Rattle.vx_base.proofs.MaskRuns.{is_in_runs-push, run_in, run_before, run_past}
+use Rattle.vx_base.proofs.RunLoops.{row_by_runs, row_before_run, row_past_runs}
 
 -- where run i starts, past the last run the end of the rows
 abbrev pub start_of : ℕ → List (ℕ × ℕ) → ℕ → ℕ
 start_of len runs i = (get_or runs i (len, len)).0
 
 module _ (mask : List Bool) (runs : List (ℕ × ℕ)) (are : AreRuns (length mask) runs) (same : flat_map run_positions runs ≡ trues mask) where
-  -- a row is true just where it is in a run
-  pub row_in_runs : (k : ℕ) → k < length mask → bool_at mask k ≡ is_in_runs runs k
-  row_in_runs k inside = ap (λ m. bool_at m k) (sym (marked_from_trues mask runs are same)) ∙ bool_at-marked (length mask) runs k inside
-
-  -- the rows of a run are true
-  pub row_in_run : (i : ℕ) (d : ℕ × ℕ) (k : ℕ) → i < length runs → (get_or runs i d).0 ≤ k → k < (get_or runs i d).1 → bool_at mask k ≡ true
-  row_in_run i d k there low high =
-      let within : (get_or runs i d).1 ≤ length mask = are.within i d there in
-      row_in_runs k (omega arith) ∙ (IsStretch-run runs i (get_or runs i d).0 (get_or runs i d).1 d there (omega arith) (omega arith)).alike k low high
-
-  -- the rows between the runs before a place and the run at it are false
-  pub row_before_run : (i : ℕ) (d : ℕ × ℕ) (from k : ℕ) → i < length runs → All (λ run. run.1 ≤ from) (take i runs) → from ≤ k → k < (get_or runs i d).0 → bool_at mask k ≡ false
-  row_before_run i d from k there before low high =
-      let filled : (get_or runs i d).0 < (get_or runs i d).1 = are.filled i d there in
-      let within : (get_or runs i d).1 ≤ length mask = are.within i d there in
-      row_in_runs k (omega arith) ∙ (IsStretch-gap (length mask) runs i from (get_or runs i d).0 d are there before (omega arith)).alike k low high
-
-  -- and so are those past the last run
-  pub row_past_runs : (i from k : ℕ) → length runs ≤ i → All (λ run. run.1 ≤ from) (take i runs) → from ≤ k → k < length mask → bool_at mask k ≡ false
-  row_past_runs i from k all before low high =
-      let whole : take i runs ≡ take (length runs) runs = take_all i runs all ∙ sym (take_all (length runs) runs (omega arith)) in
-      row_in_runs k high ∙ (IsStretch-end runs (length runs) from (length mask) (omega arith) (subst (All (λ run. run.1 ≤ from)) whole before)).alike k low high
-
   pub start_past : (i : ℕ) → length runs ≤ i → start_of (length mask) runs i ≡ length mask
   start_past i all = ap (λ (run : ℕ × ℕ). run.0) (get_or_past runs i (length mask, length mask) all)
 
@@ -55,10 +32,12 @@ module _ (mask : List Bool) (runs : List (ℕ × ℕ)) (are : AreRuns (length ma
 
   -- the rows before a run, after the runs before it
   pub gap_before : (i from k : ℕ) → All (λ run. run.1 ≤ from) (take i runs) → from ≤ k → k < start_of (length mask) runs i → bool_at mask k ≡ false
-  gap_before i from k before low high = elim (cases_lt i (length runs)) [
-    | inl there ↦ row_before_run i (length mask, length mask) from k there before low high
-    | inr all ↦ row_past_runs i from k all before low (omega (arith, start_past i all))
-  ]
+  gap_before i from k before low high =
+      let past : All (λ run. run.1 ≤ k) (take i runs) = λ j e m. omega (arith, before j e m) in
+      elim (cases_lt i (length runs)) [
+        | inl there ↦ row_before_run mask runs i k (length mask, length mask) are same there past high
+        | inr all ↦ row_past_runs mask runs k are same (omega (arith, start_past i all)) (subst (All (λ run. run.1 ≤ k)) (take_all i runs all) past)
+      ]
 
   pub gap_first : (k : ℕ) → k < start_of (length mask) runs 0 → bool_at mask k ≡ false
   gap_first k high = gap_before 0 0 k (All-nil (λ (run : ℕ × ℕ). run.1 ≤ 0)) (omega arith) high
@@ -93,7 +72,7 @@ module _ (mask : List Bool) (runs : List (ℕ × ℕ)) (are : AreRuns (length ma
 
   -- all of the runs have all the rows that are true
   pub runs_all : (i k : ℕ) → length runs ≤ i → k < length mask → is_in_runs (take i runs) k ≡ bool_at mask k
-  runs_all i k all inside = ap (λ rs. is_in_runs rs k) (take_all i runs all) ∙ sym (row_in_runs k inside)
+  runs_all i k all inside = ap (λ rs. is_in_runs rs k) (take_all i runs all) ∙ sym (row_by_runs mask runs k are same inside)
 
 -- ---- counts of rows
 

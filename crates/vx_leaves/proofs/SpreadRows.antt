@@ -15,8 +15,9 @@ use Rattle.vx_base.specs.Trues.{trues}
 use Rattle.vx_base.specs.declared.ptypes.PType.{PType}
 use Rattle.vx_base.proofs.MaskRuns.{run_in, run_before, run_past, runs_past, ends_before}
 use Rattle.vx_base.proofs.NumberLists.{width_pos, length_numbers, number_read}
+use Rattle.vx_base.proofs.RunLoops.{row_of_run}
 use Rattle.vx_leaves.specs.Spread.{spread}
-use Rattle.vx_leaves.proofs.RunRows.{start_of, start_is, row_in_run, count_run, put_runs}
+use Rattle.vx_leaves.proofs.RunRows.{start_of, start_is, count_run, put_runs}
 
 abbrev count : List Bool → ℕ
 count mask = count_by (λ b. b) mask
@@ -58,7 +59,7 @@ module _ (mask : List Bool) (runs : List (ℕ × ℕ)) (are : AreRuns (length ma
       rank : run.0 ≤ k → k < run.1 → next + (k - run.0) ≡ count_by (λ b. b) (take k mask)
       rank low high =
           let start = start_is mask runs are same i d there in
-          let more = count_run mask run.0 k low (omega (arith, within)) (λ j from upto. row_in_run mask runs are same i d j there from (omega arith)) in
+          let more = count_run mask run.0 k low (omega (arith, within)) (λ j from upto. row_of_run mask runs i j d are same there from (omega arith)) in
           omega (arith, next_is, ap (λ n. count_by (λ b. b) (take n mask)) start, more)
 
       not_before : run.0 ≤ k → old ≡ pos 0

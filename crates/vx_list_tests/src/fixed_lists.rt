@@ -7,7 +7,7 @@ use vx_base::{DType, Nullability, PType, VortexError};
 use vx_leaves::ConstantArray;
 use vx_lists::{FixedSizeListArray, FixedSizeListArrayExt, FixedSizeListData, FixedSizeListSlots};
 use vx_test_help::{has_numbers, ints, valid_where};
-use vx_tree::{ArrayRef, TypedArray, Validity};
+use vx_tree::{TypedArray, Validity};
 
 // What making so many lists of a size of these elements comes to.
 fn lists(

@@ -50,51 +50,6 @@ fn rebuilds_to(
 }
 
 #[test]
-fn overlapping_lists_part(rt: HostRuntime) -> Result<(), Fail> {
-    let alloc = rt.alloc();
-    let lists = view::<u32>(alloc, &[1, 2, 3], &[0, 1], &[3, 2], Validity::NonNullable)?;
-    assert!(rt; rebuilds_to(alloc, &lists, &[(0, 3), (3, 2)], &[1, 2, 3, 2, 3])?);
-    Ok(())
-}
-
-#[test]
-fn null_elements_go(rt: HostRuntime) -> Result<(), Fail> {
-    let alloc = rt.alloc();
-    let validity = valid_where(alloc, &[true, false, true])?;
-    let lists = view::<u32>(alloc, &[1, 2, 3, 4], &[0, 1, 2], &[1, 2, 2], validity)?;
-    assert!(rt; rebuilds_to(alloc, &lists, &[(0, 1), (1, 0), (1, 2)], &[1, 3, 4])?);
-    Ok(())
-}
-
-#[test]
-fn last_nulls_start_at_the_end(rt: HostRuntime) -> Result<(), Fail> {
-    let alloc = rt.alloc();
-    let validity = valid_where(alloc, &[true, true, false, false])?;
-    let lists = view::<i16>(alloc, &[1, 2, 3, 4], &[0, 2, 0, 0], &[2, 2, 0, 0], validity)?;
-    assert!(rt;
-        rebuilds_to(
-            alloc,
-            &lists,
-            &[(0, 2), (2, 2), (4, 0), (4, 0)],
-            &[1, 2, 3, 4]
-        )?
-    );
-    Ok(())
-}
-
-#[test]
-fn exact_last_nulls_stay(rt: HostRuntime) -> Result<(), Fail> {
-    let alloc = rt.alloc();
-    let validity = valid_where(alloc, &[true, true, false, false])?;
-    let lists = view::<i16>(alloc, &[1, 2, 3, 4], &[0, 2, 0, 0], &[2, 2, 0, 0], validity)?;
-    let once = lists.rebuild(alloc, ListViewRebuildMode::MakeZeroCopyToList)?;
-    let exact = once.rebuild(alloc, ListViewRebuildMode::MakeExact)?;
-    assert!(rt; has_ranges(&exact, &[(0, 2), (2, 2), (4, 0), (4, 0)]));
-    assert!(rt; exact.is_zero_copy_to_list() && has_numbers(exact.elements(), &[1, 2, 3, 4]));
-    Ok(())
-}
-
-#[test]
 fn lists_in_another_order_are_laid_out(rt: HostRuntime) -> Result<(), Fail> {
     let alloc = rt.alloc();
     let lists = view::<u32>(
@@ -174,19 +129,6 @@ fn small_offsets_grow(rt: HostRuntime) -> Result<(), Fail> {
 }
 
 #[test]
-fn small_sizes_grow(rt: HostRuntime) -> Result<(), Fail> {
-    let alloc = rt.alloc();
-    let elements = ints::<i32>(alloc, &[1, 2, 3])?;
-    let offsets = ints::<i32>(alloc, &[0, 1])?;
-    let sizes = ints::<i16>(alloc, &[3, 2])?;
-    let lists = ListViewArray::try_new(alloc, elements, offsets, sizes, Validity::NonNullable)?;
-    let rebuilt = lists.rebuild(alloc, ListViewRebuildMode::MakeZeroCopyToList)?;
-    assert!(rt; has_ranges(&rebuilt, &[(0, 3), (3, 2)]));
-    assert!(rt; has_type(rebuilt.offsets(), PType::I32) && has_type(rebuilt.sizes(), PType::I32));
-    Ok(())
-}
-
-#[test]
 fn negative_offsets_are_refused(rt: HostRuntime) -> Result<(), Fail> {
     let refused = view::<i8>(rt.alloc(), &[7; 255], &[-1], &[0], Validity::NonNullable);
     assert!(rt; matches!(refused, Err(VortexError::Negative { row: 0 })));
@@ -240,39 +182,6 @@ fn flagged_middle(alloc: Global) -> Result<ListViewArray, VortexError> {
         Ok(middle) => Ok(middle),
         Err(_) => Err(VortexError::MismatchedTypes),
     }
-}
-
-#[test]
-fn elements_around_the_lists_are_trimmed(rt: HostRuntime) -> Result<(), Fail> {
-    let alloc = rt.alloc();
-    let lists = view::<u32>(
-        alloc,
-        &[99, 98, 1, 2, 97, 3, 4, 96, 95],
-        &[2, 5],
-        &[2, 2],
-        Validity::NonNullable,
-    )?;
-    let trimmed = lists.rebuild(alloc, ListViewRebuildMode::TrimElements)?;
-    assert!(rt; has_ranges(&trimmed, &[(0, 2), (3, 2)]));
-    assert!(rt; has_numbers(trimmed.elements(), &[1, 2, 97, 3, 4]));
-    assert!(rt; !trimmed.is_zero_copy_to_list() && has_type(trimmed.offsets(), PType::U32));
-    Ok(())
-}
-
-#[test]
-fn lists_that_reach_both_ends_stay(rt: HostRuntime) -> Result<(), Fail> {
-    let alloc = rt.alloc();
-    let lists = view::<u8>(
-        alloc,
-        &[0; 261],
-        &[215, 0],
-        &[46, 10],
-        Validity::NonNullable,
-    )?;
-    assert_eq!(rt; lists.referenced_element_bounds()?, (0, 261));
-    let trimmed = lists.rebuild(alloc, ListViewRebuildMode::TrimElements)?;
-    assert!(rt; has_ranges(&trimmed, &[(215, 46), (0, 10)]) && trimmed.elements().len() == 261);
-    Ok(())
 }
 
 // The lists of two from the fifth element on, of none after the seventh, and null.
@@ -442,12 +351,4 @@ fn rebuilding_copies_long_lists_by_runs(rt: HostRuntime) -> Result<(), Fail> {
     assert!(rt; rebuilds_a_long_list(rt.alloc(), ListViewRebuildMode::MakeZeroCopyToList)?);
     assert!(rt; rebuilds_a_long_list(rt.alloc(), ListViewRebuildMode::MakeExact)?);
     Ok(())
-}
-
-#[test]
-fn long_rows_are_copied_by_runs(rt: HostRuntime) {
-    assert!(rt; !ListViewArray::should_use_take(280, 2));
-    assert!(rt; ListViewArray::should_use_take(127_000, 1000));
-    assert!(rt; !ListViewArray::should_use_take(128_000, 1000));
-    assert!(rt; ListViewArray::should_use_take(1, 0));
 }

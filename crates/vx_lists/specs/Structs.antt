@@ -10,6 +10,7 @@ use Rattle.std.specs.Option.{option_map}
 use Rattle.vx_base.specs.Fields.{place_of_name}
 use Rattle.vx_tree.specs.Tree.{Tree, structure, Trees, no_trees, tree, Valid, non_nullable, by_array}
 use Rattle.vx_tree.specs.Meaning.{tree_len, kind_of, rows, trees_from}
+use Rattle.vx_tree.specs.Extents.{extent_of, joined_extent}
 use Rattle.vx_tree.specs.Joined.{column_of, joined_state}
 use Rattle.vx_tree.specs.Operations.{IsNulled}
 use Rattle.vx_tree.specs.Plain.{IsPlain}
@@ -92,6 +93,7 @@ pub record AreConcatenated (ts : List Tree) (r : Tree) : Type 0 where
   pub same_rows : rows r ≡ flat_map rows ts
   pub columns : (k : ℕ) → k < length (columns_of r) → rows (column_of k r) ≡ flat_map (λ t. rows (column_of k t)) ts
   pub state : tree_state r ≡ joined_state ts
+  pub extent : extent_of r ≡ joined_extent (kind_of r) (map extent_of ts)
   pub plain : IsPlain r
 
 -- ---- nulls of records, pushed into their columns

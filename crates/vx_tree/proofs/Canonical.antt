@@ -13,8 +13,8 @@ use Rattle.vx_tree.specs.Tree.{Tree, bools, fixed_list, list_view, Valid, non_nu
 use Rattle.vx_tree.specs.Meaning.{tree_len, row_at, rows, is_valid_at, nullable, trees_from}
 use Rattle.vx_tree.specs.Shapes.{state_of, is_nullable_state}
 use Rattle.vx_tree.specs.Formed.{ValidFits, IsMask, IsListView, AllLen}
-use Rattle.vx_tree.specs.Plain.{ArePlain}
-use Rattle.vx_tree.specs.Extents.{extents_of, extent, list_extent, fixed_list_extent}
+use Rattle.vx_tree.specs.Plain.{IsPlain, ArePlain}
+use Rattle.vx_tree.specs.Extents.{extent_of, extents_of, extent, list_extent, fixed_list_extent}
 use Rattle.vx_tree.specs.Canonical.{HasRowsOf, IsCanonical, AreCanonical, IsCanonicalValid, canonical_fault, columns_fault}
 use Rattle.vx_tree.proofs.RowLists.{rows_by_place}
 use Rattle.vx_tree.proofs.Selected.{nullable-state}
@@ -41,7 +41,7 @@ array_canonical v w t bits n a b e fits =
       bits = λ i l. ap (λ bs. bool_at bs i) e ∙ get_or-map-range_with_len (λ j. truth_of (row_at t j)) 0 (tree_len t) i i false (rw mask.len l) (zero-add i);
     })
 
-valid_row : (a b : Bool) (r s : Row) → a ≡ b → r ≡ s → (if a then r else null) ≡ (if b then s else null)
+pub valid_row : (a b : Bool) (r s : Row) → a ≡ b → r ≡ s → (if a then r else null) ≡ (if b then s else null)
 valid_row a b r s e h = λ i. if e i then h i else null
 
 -- ---- leaves
@@ -95,23 +95,24 @@ rows_each n (t ∷ ts) [] lens h = absurd h
 rows_each n (t ∷ ts) (u ∷ us) lens h =
     (record { len = h.0.same.len ∙ lens.0; kind = h.0.same.kind; rows = λ i l. h.0.same.rows i (rw lens.0 l) }, rows_each n ts us lens.1 h.1)
 
-plain_each : (ts us : List Tree) → AllZip IsCanonical ts us → ArePlain (trees_from us)
-plain_each [] [] h = tt
-plain_each [] (u ∷ us) h = absurd h
-plain_each (t ∷ ts) [] h = absurd h
-plain_each (t ∷ ts) (u ∷ us) h = (h.0.plain, plain_each ts us h.1)
+-- a relation of which each right side is plain, or of the extent of the left one
+pub all_plain : (R : Tree → Tree → Type 0) → ((t u : Tree) → R t u → IsPlain u) → (ts us : List Tree) → AllZip R ts us → ArePlain (trees_from us)
+all_plain R one [] [] h = tt
+all_plain R one [] (u ∷ us) h = absurd h
+all_plain R one (t ∷ ts) [] h = absurd h
+all_plain R one (t ∷ ts) (u ∷ us) h = (one t u h.0, all_plain R one ts us h.1)
 
-extents_each : (ts us : List Tree) → AllZip IsCanonical ts us → extents_of (trees_from us) ≡ extents_of (trees_from ts)
-extents_each [] [] h = refl
-extents_each [] (u ∷ us) h = absurd h
-extents_each (t ∷ ts) [] h = absurd h
-extents_each (t ∷ ts) (u ∷ us) h = λ i. extent (h.0.extent i) (extents_each ts us h.1 i)
+pub same_extents : (R : Tree → Tree → Type 0) → ((t u : Tree) → R t u → extent_of u ≡ extent_of t) → (ts us : List Tree) → AllZip R ts us → extents_of (trees_from us) ≡ extents_of (trees_from ts)
+same_extents R one [] [] h = refl
+same_extents R one [] (u ∷ us) h = absurd h
+same_extents R one (t ∷ ts) [] h = absurd h
+same_extents R one (t ∷ ts) (u ∷ us) h = λ i. extent (one t u h.0 i) (same_extents R one ts us h.1 i)
 
 pub AreCanonical-from_each : (n : ℕ) (ts us : List Tree) (i : ℕ) → AllLen n (trees_from ts) → AllZip IsCanonical (take i ts) us → length ts ≤ i → AreCanonical (trees_from ts) n (trees_from us)
 AreCanonical-from_each n ts us i lens h l =
     let each = AllZip-all IsCanonical ts us i h l in
     let full : length ts ≤ length ts = omega arith in
-    record { rows_at = AreRowsAt-from_each (λ i. i) n ts us i (rows_each n (take i ts) us (lens_taken n ts i lens) h) l; plain = plain_each ts us each; extents = extents_each ts us each }
+    record { rows_at = AreRowsAt-from_each (λ i. i) n ts us i (rows_each n (take i ts) us (lens_taken n ts i lens) h) l; plain = all_plain IsCanonical (λ t u x. x.plain) ts us each; extents = same_extents IsCanonical (λ t u x. x.extent) ts us each }
   where
     lens_taken : (n : ℕ) (ts : List Tree) (i : ℕ) → AllLen n (trees_from ts) → AllLen n (trees_from (take i ts))
     lens_taken n [] zero h = tt
@@ -121,7 +122,7 @@ AreCanonical-from_each n ts us i lens h l =
 
 -- ---- faults of columns, one after another
 
-or_none : (a b : Option Refusal) → or_else a b ≡ None → (a ≡ None) × (b ≡ None)
+pub or_none : (a b : Option Refusal) → or_else a b ≡ None → (a ≡ None) × (b ≡ None)
 or_none None b h = (refl, h)
 or_none (Some r) b h = cc
 

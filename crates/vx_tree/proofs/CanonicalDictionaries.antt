@@ -10,7 +10,7 @@ use Rattle.vx_tree.specs.Formed.{IsCode, IsDictionary}
 use Rattle.vx_tree.specs.Plain.{IsPlain}
 use Rattle.vx_tree.specs.Named.{AreIndices}
 use Rattle.vx_tree.specs.Operations.{IsSelected, IsNulled, IsValidityOf}
-use Rattle.vx_tree.specs.Canonical.{IsCanonical, IsCanonicalValid}
+use Rattle.vx_tree.specs.Canonical.{IsCanonical, IsCanonicalAt, IsCanonicalValid}
 use Rattle.vx_tree.proofs.Canonical.{same_nullable}
 use Rattle.vx_tree.proofs.Dictionaries.{state_of_nulled, state_of_selected}
 use Rattle.vx_tree.proofs.Flags.{flag_of_nulled, flag_of_selected}
@@ -19,25 +19,39 @@ picked_row : (f : ℕ → Row) (k : ℕ) (b : Bool) (p : Option ℕ) → b ≡ i
 picked_row f k b None e same = rw e refl
 picked_row f k b (Some n) e same = rw (e, same) refl
 
--- the values at the positions that codes name, null where a code is null
-pub named_values : (c v s r : Tree) (ps : List ℕ) (x w : Valid) → IsPlain v → IsValidityOf c x → IsCanonicalValid x (tree_len c) w → AreIndices c (tree_len v) ps → IsSelected v ps s → IsNulled s w r → IsCanonical (dictionary c v false) r
-named_values c v s r ps x w plain codes h are selected nulled =
+-- the values at the positions that codes name, in plain layout, null where a code is null
+pub named_at : (c v s r : Tree) (ps : List ℕ) (x w : Valid) → IsValidityOf c x → IsCanonicalValid x (tree_len c) w → AreIndices c (tree_len v) ps → IsCanonicalAt v ps s → IsNulled s w r → IsCanonical (dictionary c v false) r
+named_at c v s r ps x w codes h are made nulled =
     record {
       same = record {
-        len = nulled.len ∙ selected.len ∙ are.len;
-        kind = nulled.kind ∙ (λ i. or_nullable ((same_nullable x w h.state ∙ codes.kind) i) (selected.kind i));
+        len = nulled.len ∙ made.len ∙ are.len;
+        kind = nulled.kind ∙ (λ i. or_nullable ((same_nullable x w h.state ∙ codes.kind) i) (made.kind i));
         rows = λ i l.
             let inside : i < length ps = rw are.len l in
             let p = are.each i l in
-            nulled.rows i (rw selected.len inside) ∙ ap (λ y. if is_valid_at w i then y else null) (selected.rows i inside)
+            nulled.rows i (rw made.len inside) ∙ ap (λ y. if is_valid_at w i then y else null) (made.rows i inside)
             ∙ picked_row (row_at v) (slice_index ps i) (is_valid_at w i) (position_in (row_at c i)) (h.bits i l ∙ codes.bits i l ∙ sym p.present) p.told;
       };
-      plain = nulled.plain (selected.plain plain) h.plain;
-      state = state_of_nulled s r w nulled ∙ (λ i. taken_state (state_of_selected v s ps selected i) ((h.state ∙ codes.state) i));
-      extent = nulled.extent (selected.plain plain) ∙ selected.extent plain;
-      flag = flag_of_nulled s r w nulled (flag_of_selected v s ps selected);
+      plain = nulled.plain made.plain h.plain;
+      state = state_of_nulled s r w nulled ∙ (λ i. taken_state (made.state i) ((h.state ∙ codes.state) i));
+      extent = nulled.extent made.plain ∙ made.extent;
+      flag = flag_of_nulled s r w nulled made.flag;
       kept = tt;
     }
+
+-- the same of values that are plain
+pub named_values : (c v s r : Tree) (ps : List ℕ) (x w : Valid) → IsPlain v → IsValidityOf c x → IsCanonicalValid x (tree_len c) w → AreIndices c (tree_len v) ps → IsSelected v ps s → IsNulled s w r → IsCanonical (dictionary c v false) r
+named_values c v s r ps x w plain codes h are selected nulled =
+    let made : IsCanonicalAt v ps s = record {
+      len = selected.len;
+      kind = selected.kind;
+      plain = selected.plain plain;
+      state = state_of_selected v s ps selected;
+      extent = selected.extent plain;
+      flag = flag_of_selected v s ps selected;
+      rows = selected.rows;
+    } in
+    named_at c v s r ps x w codes h are made nulled
 
 same_pick : (f g : ℕ → Row) (n : ℕ) (r : Row) → ((i : ℕ) → i < n → f i ≡ g i) → IsCode n r → picked f (position_in r) ≡ picked g (position_in r)
 same_pick f g n null same h = refl
@@ -67,3 +81,15 @@ dictionary_canonical t r c v w f a d x h =
 
 pub dictionary_renamed : (c v w : Tree) (f : Bool) → IsDictionary c v f → tree_len w ≡ tree_len v → IsDictionary c w false
 dictionary_renamed c v w f d same = record { codes = d.codes; within = λ i l. rw same (d.within i l); referenced = λ on. absurd (cc) }
+
+-- whatever the flag says
+pub dictionary_unflagged : (t r c v : Tree) (f : Bool) → t ≡ dictionary c v f → IsCanonical (dictionary c v false) r → IsCanonical t r
+dictionary_unflagged t r c v f a h =
+    rw a (record {
+      same = record { len = h.same.len; kind = h.same.kind; rows = h.same.rows };
+      plain = h.plain;
+      state = h.state;
+      extent = h.extent;
+      flag = h.flag;
+      kept = tt;
+    })

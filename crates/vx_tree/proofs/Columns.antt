@@ -268,7 +268,7 @@ AreFields-next ts i k t vs ws v h l e here q = rw (q, take_more ts k t l, ← e)
 pub AreFields-all : (ts : List Tree) (i k : ℕ) (vs : List (Option ScalarValue)) → AreFields (trees_from (take k ts)) i vs → length ts ≤ k → AreFields (trees_from ts) i vs
 AreFields-all ts i k vs h l = rw (take_all k ts l) at h
 
-record_row : (ns : List (List ℕ)) (ts us : Trees) (v w : Valid) (m n i k : ℕ) → is_valid_at w i ≡ is_valid_at v k → fields_at us ns i ≡ fields_at ts ns k
+pub record_row : (ns : List (List ℕ)) (ts us : Trees) (v w : Valid) (m n i k : ℕ) → is_valid_at w i ≡ is_valid_at v k → fields_at us ns i ≡ fields_at ts ns k
     → row_at (structure ns us w n) i ≡ row_at (structure ns ts v m) k
 record_row ns ts us v w m n i k a b = rw (a, b) refl
 

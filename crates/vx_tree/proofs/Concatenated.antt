@@ -8,7 +8,7 @@ use Rattle.vx_base.specs.Kinds.{Kind, integers, is_integers}
 use Rattle.vx_base.specs.SameKind.{kind_eq, kind_eq-Decides}
 use Rattle.vx_base.specs.Rows.{Row, null}
 use Rattle.vx_base.specs.Booleans.{count_fault}
-use Rattle.vx_base.specs.Refusals.{Refusal, or_else, IsMemoryOr, differing_dtypes}
+use Rattle.vx_base.specs.Refusals.{Refusal, or_else, IsMemoryOr, differing_dtypes, overflow}
 use Rattle.vx_base.specs.declared.errors.VortexError.{VortexError}
 use Rattle.vx_base.specs.declared.ptypes.PType.{PType}
 use Rattle.vx_tree.specs.Tree.{Tree}
@@ -16,15 +16,16 @@ use Rattle.vx_tree.specs.Meaning.{tree_len, kind_of, row_at, rows, trees_from}
 use Rattle.vx_tree.specs.Shapes.{tree_state}
 use Rattle.vx_tree.specs.Plain.{IsPlain}
 use Rattle.vx_tree.specs.Fitting.{AllFormed}
-use Rattle.vx_tree.specs.Canonical.{IsCanonical, columns_fault}
+use Rattle.vx_tree.specs.Canonical.{IsCanonical, plain_overflow, columns_fault}
 use Rattle.vx_tree.specs.Flags.{is_flagged}
 use Rattle.vx_tree.specs.Joined.{joined_len, joined_state, joined_states, joined_row, parts_join_fault, join_fault, IsJoined, AreJoinable}
-use Rattle.vx_tree.specs.Extents.{extent_of}
+use Rattle.vx_tree.specs.Extents.{extent_of, joined_extent}
 use Rattle.vx_tree.specs.Concatenated.{are_alike, given_fault, extents_fault, plain_fault, concat_fault}
 use Rattle.vx_tree.proofs.RowLists.{length-rows, get_or-rows}
 use Rattle.vx_tree.proofs.JoinedRows.{length-joined, joined_item, joined_same, joined-here, joined-later}
 use Rattle.vx_tree.proofs.JoinedExtents.{extents_fault-of}
 use Rattle.vx_tree.proofs.JoinedNumbers.{columns_faultless}
+use Rattle.vx_tree.proofs.Overflows.{columns_only, or_later, too_many_rows}
 use Rattle.vx_tree.proofs.Dictionaries.{memory_only}
 
 -- ---- kinds
@@ -129,6 +130,13 @@ rows_joined k ts r joined =
     let n : i < joined_len ts = omega (arith, joined.len) in
     get_or-rows r i d m ∙ joined.rows i n ∙ rows_listed ts i d n)
 
+-- the extents are those in plain layout
+pub extents_same : (ts ps : List Tree) → AllZip IsCanonical ts ps → map extent_of ps ≡ map extent_of ts
+extents_same [] [] h = refl
+extents_same [] (p ∷ ps) h = absurd h
+extents_same (t ∷ ts) [] h = absurd h
+extents_same (t ∷ ts) (p ∷ ps) h = let rest = extents_same ts ps h.1 in λ i. h.0.extent i ∷ rest i
+
 -- plain layouts that are joined are the arrays joined
 plain_joined : (k : Kind) (ts ps : List Tree) (r : Tree) → AllZip IsCanonical ts ps → IsJoined k ps r → IsJoined k ts r
 plain_joined k ts ps r h joined =
@@ -137,6 +145,7 @@ plain_joined k ts ps r h joined =
       kind = joined.kind;
       plain = joined.plain;
       state = λ some. joined.state (omega (arith, plain_count ts ps h)) ∙ plain_states ts ps h;
+      extent = joined.extent ∙ ap (joined_extent k) (extents_same ts ps h);
       flag = joined.flag;
       rows = λ i l. joined.rows i (omega (arith, plain_len ts ps h)) ∙ plain_row ts ps h i l;
     }
@@ -161,13 +170,6 @@ first_fault a b e (inl memory) = inl memory
 first_fault None b e (inr same) = inl (memory_only None e refl (inr same))
 first_fault (Some r) b e (inr same) = inr same
 
--- the extents are those in plain layout
-extents_same : (ts ps : List Tree) → AllZip IsCanonical ts ps → map extent_of ps ≡ map extent_of ts
-extents_same [] [] h = refl
-extents_same [] (p ∷ ps) h = absurd h
-extents_same (t ∷ ts) [] h = absurd h
-extents_same (t ∷ ts) (p ∷ ps) h = let rest = extents_same ts ps h.1 in λ i. h.0.extent i ∷ rest i
-
 plain_fault-first : (ts : List Tree) (t : Tree) → 0 < length ts → t ≡ get_or ts 0 t → extents_fault (kind_of t) (joined_len ts) (map extent_of ts) ≡ plain_fault ts
 plain_fault-first [] t l e = absurd (omega arith)
 plain_fault-first (u ∷ ts) t l e = ap (λ x. extents_fault (kind_of x) (joined_len (u ∷ ts)) (map extent_of (u ∷ ts))) e
@@ -180,6 +182,15 @@ join_fault-concat ts ps t k h joinable same l first short none =
     let few : count_fault (joined_len ps) ≡ None = ap count_fault long ∙ short in
     ap (λ f. or_else f (parts_join_fault k ps)) few ∙ extents_fault-of k ps joinable few ∙ (λ i. extents_fault (same i) (long i) (extents i)) ∙ plain_fault-first ts t l first
     ∙ sym (ap (λ f. or_else f (plain_fault ts)) none)
+
+-- of lists of one size the rows alone tell that they have too many elements
+pub rows_refused : (ts : List Tree) (t : Tree) (countable : Bool) → 0 < length ts → t ≡ get_or ts 0 t → are_alike (kind_of t) ts ≡ true → count_fault (joined_len ts) ≡ None
+    → plain_overflow (kind_of t) (joined_len ts) ≡ (if countable then None else Some overflow) → countable ≡ false → concat_fault ts ≡ Some overflow
+rows_refused ts t countable l first alike none told not_so =
+    let many : plain_overflow (kind_of t) (joined_len ts) ≡ Some overflow = told ∙ ap (λ (b : Bool). if b then None else Some overflow) not_so in
+    let extents : plain_fault ts ≡ Some overflow = sym (plain_fault-first ts t l first) ∙ too_many_rows (kind_of t) (joined_len ts) (map extent_of ts) many in
+    let given : given_fault ts ≡ columns_fault (trees_from ts) = given_alike ts t l first alike ∙ ap (λ f. or_else f (columns_fault (trees_from ts))) none in
+    ap (λ f. or_else f (plain_fault ts)) given ∙ or_later (columns_fault (trees_from ts)) (plain_fault ts) (columns_only (trees_from ts)) extents
 
 -- numbers have none, where they can be counted
 pub numbers_concatenated : (ts : List Tree) (t : Tree) (p : PType) (n : Bool) → kind_of t ≡ integers p n → 0 < length ts → t ≡ get_or ts 0 t → are_alike (kind_of t) ts ≡ true → count_fault (joined_len ts) ≡ None → concat_fault ts ≡ None
@@ -214,6 +225,10 @@ ok_plain (Err e) k ps joined = tt
 pub ok_state : (r : Result Tree VortexError) (k : Kind) (ts ps : List Tree) → AllZip IsCanonical ts ps → 0 < length ps → IfOk r (IsJoined k ps) → IfOk r (λ a. tree_state a ≡ joined_state ts)
 ok_state (Ok a) k ts ps h some joined = joined.state some ∙ plain_states ts ps h
 ok_state (Err e) k ts ps h some joined = tt
+
+pub ok_extent : (r : Result Tree VortexError) (k : Kind) (ts ps : List Tree) → AllZip IsCanonical ts ps → IfOk r (IsJoined k ps) → IfOk r (λ a. extent_of a ≡ joined_extent (kind_of a) (map extent_of ts))
+ok_extent (Ok a) k ts ps h joined = (plain_joined k ts ps a h joined).extent ∙ ap (λ j. joined_extent j (map extent_of ts)) (sym joined.kind)
+ok_extent (Err e) k ts ps h joined = tt
 
 pub ok_flag : (r : Result Tree VortexError) (k : Kind) (ps : List Tree) → IfOk r (IsJoined k ps) → IfOk r (λ a. is_flagged a ≡ false)
 ok_flag (Ok a) k ps joined = joined.flag

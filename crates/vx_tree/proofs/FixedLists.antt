@@ -99,6 +99,17 @@ lists_below k n (p ∷ ps) all =
         let inside : i < k = omega (arith, length-range_with_len (p * k) k) in
         subst P (sym (get_or-range_with_len (p * k) k i d inside)) (place_within p i n k (all 0 d (omega arith)) inside)
 
+-- the lists at positions, by their elements
+pub fixed_rows : (e r : Tree) (k m : ℕ) (v w : Valid) (ps : List ℕ) → ((j : ℕ) → j < length (flat_map (list_positions k) ps) → row_at r j ≡ row_at e (slice_index (flat_map (list_positions k) ps) j))
+    → (i : ℕ) → i < length ps → is_valid_at w i ≡ is_valid_at v (slice_index ps i) → row_at (fixed_list r k w (length ps)) i ≡ row_at (fixed_list e k v m) (slice_index ps i)
+fixed_rows e r k m v w ps same i p bits =
+    list_row e r v w k m (length ps) i (slice_index ps i) bits (rows_range-same (row_at r) (row_at e) (i * k) (slice_index ps i * k) k one)
+  where
+    one : (j : ℕ) → j < k → row_at r (i * k + j) ≡ row_at e (slice_index ps i * k + j)
+    one j q =
+        let inside : i * k + j < length (flat_map (list_positions k) ps) = rw (lists_long k ps) (place_within i j (length ps) k p q) in
+        same (i * k + j) inside ∙ ap (row_at e) (lists_at k ps i j p q)
+
 pub fixed_lists_selected : (t u e r : Tree) (k m : ℕ) (v w : Valid) (ps : List ℕ) → t ≡ fixed_list e k v m → u ≡ fixed_list r k w (length ps)
     → IsSelected e (flat_map (list_positions k) ps) r → IsValidSelected v ps w → IsSelected t ps u
 fixed_lists_selected t u e r k m v w ps a b s h =
@@ -108,13 +119,8 @@ fixed_lists_selected t u e r k m v w ps a b s h =
       shape = ap fixed_list_shape h.state;
       plain = λ p. (s.plain p.0, h.plain p.1);
       extent = λ p. ap fixed_list_extent (s.extent p.0);
-      rows = λ i p. list_row e r v w k m (length ps) i (slice_index ps i) (h.bits i p) (rows_range-same (row_at r) (row_at e) (i * k) (slice_index ps i * k) k (λ j q. one i j p q));
+      rows = λ i p. fixed_rows e r k m v w ps s.rows i p (h.bits i p);
     })
-  where
-    one : (i j : ℕ) → i < length ps → j < k → row_at r (i * k + j) ≡ row_at e (slice_index ps i * k + j)
-    one i j p q =
-        let inside : i * k + j < length (flat_map (list_positions k) ps) = rw (lists_long k ps) (place_within i j (length ps) k p q) in
-        s.rows (i * k + j) inside ∙ ap (row_at e) (lists_at k ps i j p q)
 
 -- ---- what may be counted
 

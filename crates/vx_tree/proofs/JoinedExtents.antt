@@ -1,75 +1,22 @@
 -- The extents of plain arrays tell the fault of joining them.
-use Rattle.std.proofs.Common.{ℕ, zero, suc, ◌+◌, ◌<◌, ◌≡◌, Bool, true, false, List, [], ◌∷◌, length, map, get_or, Option, Some, None, refl, sym, ◌∙◌, ap, subst, arith}
-use Rattle.std.specs.List.{All, sum_by}
-use Rattle.std.proofs.lemmas.List.{length-append}
-use Rattle.std.proofs.lemmas.List.Sums.{sum_by-cons}
+use Rattle.std.proofs.Common.{ℕ, suc, ◌+◌, ◌<◌, ◌≡◌, Bool, true, false, List, [], ◌∷◌, length, map, get_or, Option, Some, None, refl, sym, ◌∙◌, ap, subst, arith}
+use Rattle.std.specs.List.{All}
 use Rattle.vx_base.specs.Booleans.{count_fault}
 use Rattle.vx_base.specs.Kinds.{Kind, booleans, integers, texts, binaries, lists, fixed_lists, records, Kinds, no_kinds, kind}
 use Rattle.vx_base.specs.Refusals.{Refusal, or_else}
 use Rattle.vx_base.specs.Rows.{null}
-use Rattle.vx_tree.specs.Tree.{Tree, constant, fixed_list, list_view, structure, view_array, Trees, no_trees, tree}
-use Rattle.vx_tree.specs.Layouts.{is_fixed_list, is_list_view, is_struct, is_view_array}
-use Rattle.vx_tree.specs.Meaning.{tree_len, kind_of, kinds_of, trees_from}
+use Rattle.vx_tree.specs.Tree.{Tree, constant, Trees, no_trees, tree}
+use Rattle.vx_tree.specs.Layouts.{is_struct}
+use Rattle.vx_tree.specs.Meaning.{kind_of, kinds_of, trees_from}
 use Rattle.vx_tree.specs.Formed.{column_count}
 use Rattle.vx_tree.specs.PlainValues.{buffers_overflow}
-use Rattle.vx_tree.specs.Extents.{Extent, extent_of, extents_of, buffer_count, element_count, elements_extent, extent_at, column_extent}
-use Rattle.vx_tree.specs.Joined.{joined_len, joined_buffers, buffers_in, elements_in, columns_in, column_at, column_of, AreJoinable, AreRecords, parts_join_fault, columns_join_fault}
+use Rattle.vx_tree.specs.Extents.{extent_of, elements_extent, column_extent}
+use Rattle.vx_tree.specs.Joined.{joined_len, elements_in, columns_in, column_of, AreJoinable, AreRecords, parts_join_fault, columns_join_fault}
 use Rattle.vx_tree.specs.Concatenated.{extents_fault, fields_extents_fault}
+use Rattle.vx_tree.proofs.ExtentParts.{list_elements, fixed_list_elements, column_extent-of, parts_of_each, elements_of_each, buffers_of_each}
 use Rattle.vx_tree.proofs.JoinedLists.{fixed_elements}
 use Rattle.vx_tree.proofs.JoinedRecords.{column_len, count_of_list}
 use Rattle.vx_tree.proofs.JoinedParts.{all_values, all_fixed, all_lists, all_records, fixed_elements_joinable, list_elements_joinable, columns_joinable, columns-kinds}
-
--- ---- one array
-
-list_count : (t : Tree) → is_list_view t ≡ true → element_count (extent_of t) ≡ tree_len (elements_in t)
-list_count (list_view e o s v f) h = refl
-list_count _ h = cc
-
-list_elements : (t : Tree) → is_list_view t ≡ true → elements_extent (extent_of t) ≡ extent_of (elements_in t)
-list_elements (list_view e o s v f) h = refl
-list_elements _ h = cc
-
-fixed_list_elements : (t : Tree) → is_fixed_list t ≡ true → elements_extent (extent_of t) ≡ extent_of (elements_in t)
-fixed_list_elements (fixed_list e k v n) h = refl
-fixed_list_elements _ h = cc
-
-view_buffers : (t : Tree) → is_view_array t ≡ true → buffer_count (extent_of t) ≡ length (buffers_in t)
-view_buffers (view_array vs bs k v) h = refl
-view_buffers _ h = cc
-
-extent_at-column : (c : ℕ) (ts : Trees) → extent_at c (extents_of ts) ≡ extent_of (column_at ts c)
-extent_at-column c no_trees = refl
-extent_at-column zero (tree t ts) = refl
-extent_at-column (suc c) (tree t ts) = extent_at-column c ts
-
-column_extent-of : (c : ℕ) (t : Tree) → is_struct t ≡ true → column_extent c (extent_of t) ≡ extent_of (column_of c t)
-column_extent-of c (structure ns ts v n) h = extent_at-column c ts
-column_extent-of c _ h = cc
-
--- ---- all of them
-
--- f of the extent of each is the extent of its part
-parts_of_each : (f : Extent → Extent) (g : Tree → Tree) (ts : List Tree) → All (λ t. f (extent_of t) ≡ extent_of (g t)) ts → map f (map extent_of ts) ≡ map extent_of (map g ts)
-parts_of_each f g [] h = refl
-parts_of_each f g (t ∷ ts) h =
-    let here = h 0 t (omega arith) in
-    let rest = parts_of_each f g ts (λ i d l. h (suc i) d (omega arith)) in
-    λ i. here i ∷ rest i
-
--- and the counts add up
-elements_of_each : (ts : List Tree) → All (λ t. is_list_view t ≡ true) ts → sum_by element_count (map extent_of ts) ≡ joined_len (map elements_in ts)
-elements_of_each [] h = refl
-elements_of_each (t ∷ ts) h =
-    let here = list_count t (h 0 t (omega arith)) in
-    let rest = elements_of_each ts (λ i d l. h (suc i) d (omega arith)) in
-    sum_by-cons element_count (extent_of t) (map extent_of ts) ∙ (λ i. here i + rest i)
-
-buffers_of_each : (ts : List Tree) → All (λ t. is_view_array t ≡ true) ts → sum_by buffer_count (map extent_of ts) ≡ length (joined_buffers ts)
-buffers_of_each [] h = refl
-buffers_of_each (t ∷ ts) h =
-    let here = view_buffers t (h 0 t (omega arith)) in
-    let rest = buffers_of_each ts (λ i d l. h (suc i) d (omega arith)) in
-    sum_by-cons buffer_count (extent_of t) (map extent_of ts) ∙ (λ i. here i + rest i) ∙ sym (length-append (buffers_in t) (joined_buffers ts))
 
 -- ---- the columns of records, each of its kind
 

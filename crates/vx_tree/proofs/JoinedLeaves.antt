@@ -47,6 +47,7 @@ bools_joined ts v bits h e valid =
       kind = refl;
       plain = valid.plain;
       state = valid.state;
+      extent = refl;
       flag = refl;
       rows = λ i l.
           rows_of_content (λ u j. boolean (bool_at (bits_in u) j)) (bools (flat_map bits_in ts) v) ts (λ k d m. bools-content (get_or ts k d) (h k d m)) i l
@@ -141,6 +142,7 @@ primitives_joined p ts v bs h e valid =
         kind = refl;
         plain = valid.plain;
         state = valid.state;
+        extent = refl;
         flag = refl;
         rows = λ i l.
             rows_of_content (λ u j. whole (number_nth (numbers p (bytes_in u)) j)) (primitive p bs v) ts (λ k d m. (h k d m).content) i l

@@ -22,6 +22,8 @@ use Rattle.vx_tree.specs.Meaning.{tree_len, kind_of, row_at, rows_range, is_vali
 use Rattle.vx_tree.specs.Formed.{IsCounts, WellFormed}
 use Rattle.vx_tree.specs.Joined.{joined_len, joined_at, joined_row, elements_in, offsets_in, sizes_in, counts_in, offsets_from, joined_sizes, AreLists, IsCountsOf, IsJoined, IsValidJoined}
 use Rattle.vx_tree.proofs.FixedLists.{rows_range-same}
+use Rattle.vx_tree.specs.Extents.{list_extent}
+use Rattle.vx_tree.proofs.ExtentParts.{list_elements, elements_of_each, elements_joined}
 use Rattle.vx_tree.proofs.JoinedRows.{joined-here, joined-later, rows_of_content}
 
 -- ---- counts in their bytes
@@ -218,6 +220,10 @@ list_views_joined ts r o s v h joined os ss valid =
         kind = refl;
         plain = (joined.plain, os.plain, ss.plain, valid.plain);
         state = valid.state;
+        extent = (
+            let many = joined.len ∙ sym (elements_of_each ts (λ i d l. (h i d l).layout)) in
+            let elements = elements_joined r ts joined.extent (λ i d l. list_elements (get_or ts i d) (h i d l).layout) in
+            λ i. list_extent (many i) (elements i));
         flag = refl;
         rows = λ i l.
             rows_of_content list_in (list_view r o s v false) ts (λ k d q. (h k d q).content) i l (is_valid_at v i) (items (rows_range (row_at r) (count_in (row_at o i)) (count_in (row_at s i)))) (valid.bits i l)

@@ -1,5 +1,5 @@
 -- Lists that are joined, by their elements.
-use Rattle.std.proofs.Common.{ℕ, suc, ◌+◌, ◌-◌, ◌*◌, ◌<◌, ◌≡◌, List, [], ◌∷◌, map, refl, sym, ◌∙◌, ap, inl, inr, arith}
+use Rattle.std.proofs.Common.{ℕ, suc, ◌+◌, ◌-◌, ◌*◌, ◌<◌, ◌≡◌, List, [], ◌∷◌, map, get_or, refl, sym, ◌∙◌, ap, inl, inr, arith}
 use Rattle.std.specs.List.{All}
 use Rattle.std.proofs.Math.Nat.{add-mul}
 use Rattle.std.proofs.lemmas.Bool.{cases_lt}
@@ -10,6 +10,8 @@ use Rattle.vx_tree.specs.Meaning.{tree_len, kind_of, row_at, rows_range, is_vali
 use Rattle.vx_tree.specs.Formed.{WellFormed}
 use Rattle.vx_tree.specs.Joined.{joined_len, joined_at, joined_row, IsJoined, IsValidJoined, elements_in, AreFixedLists}
 use Rattle.vx_tree.proofs.FixedLists.{rows_range-same, place_within}
+use Rattle.vx_tree.specs.Extents.{fixed_list_extent}
+use Rattle.vx_tree.proofs.ExtentParts.{fixed_list_elements, elements_joined}
 use Rattle.vx_tree.proofs.JoinedRows.{joined-here, joined-later, rows_of_content}
 
 -- the elements of all of them
@@ -53,6 +55,7 @@ fixed_lists_joined k n ts r v h joined e valid = (
     kind = refl;
     plain = (joined.plain, valid.plain);
     state = valid.state;
+    extent = ap fixed_list_extent (elements_joined r ts joined.extent (λ i d l. fixed_list_elements (get_or ts i d) (h i d l).layout));
     flag = refl;
     rows = λ i l.
         rows_of_content (list_at k) (fixed_list r k v n) ts (λ m d q. (h m d q).content) i l (is_valid_at v i) (items (rows_range (row_at r) (i * k) k)) (valid.bits i l)

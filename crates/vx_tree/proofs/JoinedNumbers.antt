@@ -27,7 +27,7 @@ use Rattle.vx_tree.proofs.JoinedLeaves.{numbers-append, shown}
 
 -- ---- rows of some arrays and then of others
 
-joined_len-append : (ts us : List Tree) → joined_len (ts ++ us) ≡ joined_len ts + joined_len us
+pub joined_len-append : (ts us : List Tree) → joined_len (ts ++ us) ≡ joined_len ts + joined_len us
 joined_len-append [] us = omega arith
 joined_len-append (t ∷ ts) us = omega (arith, joined_len-append ts us)
 
@@ -105,6 +105,7 @@ numbers_are_joined p n ts v bs h valid =
         kind = ap (integers p) valid.kind;
         plain = valid.plain;
         state = valid.state;
+        extent = refl;
         flag = refl;
         rows = λ i l. ap (λ (b : Bool). if b then whole (number_nth (numbers p bs) i) else null) (valid.bits i l) ∙ sym (h.each i l);
       },

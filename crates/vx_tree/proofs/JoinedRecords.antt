@@ -1,14 +1,16 @@
 -- Records that are joined, column by column.
-use Rattle.std.proofs.Common.{ℕ, zero, suc, ◌+◌, ◌-◌, ◌<◌, ◌≡◌, List, [], ◌∷◌, length, map, get_or, refl, sym, ◌∙◌, ap, inl, inr, arith}
+use Rattle.std.proofs.Common.{ℕ, zero, suc, ◌+◌, ◌-◌, ◌<◌, ◌≡◌, List, [], ◌∷◌, length, map, get_or, refl, sym, ◌∙◌, ap, subst, inl, inr, arith}
 use Rattle.std.specs.List.{All}
 use Rattle.std.proofs.lemmas.Bool.{cases_lt}
 use Rattle.vx_base.specs.Rows.{Row, null, record_of, field}
 use Rattle.vx_base.specs.Kinds.{records}
 use Rattle.vx_tree.specs.Tree.{Tree, structure, Trees, no_trees, tree, Valid}
-use Rattle.vx_tree.specs.Meaning.{tree_len, kinds_of, trees_from, row_at, fields_at, is_valid_at, nullable}
+use Rattle.vx_tree.specs.Meaning.{tree_len, kind_of, kinds_of, trees_from, row_at, fields_at, is_valid_at, nullable}
 use Rattle.vx_tree.specs.Formed.{WellFormed, AllLen, column_count}
 use Rattle.vx_tree.specs.Plain.{IsPlain, ArePlain}
 use Rattle.vx_tree.specs.Joined.{joined_len, joined_at, joined_row, IsJoined, IsValidJoined, columns_in, column_at, column_of, AreRecords, AreColumnsJoined}
+use Rattle.vx_tree.specs.Extents.{struct_extent, extent_of, joined_extent}
+use Rattle.vx_tree.proofs.ExtentParts.{columns_extents}
 use Rattle.vx_tree.proofs.JoinedRows.{joined-here, joined-later, rows_of_content}
 
 -- ---- columns by their places
@@ -76,6 +78,9 @@ records_joined ns n ts cs v h joined e valid = (
     kind = refl;
     plain = (plain_of_each cs (λ c l. (joined.each c (omega (arith, joined.count))).plain), valid.plain);
     state = valid.state;
+    extent = ap struct_extent (columns_extents cs 0 ts (λ i d l. (h i d l).layout) (λ c l.
+        let P : ℕ → Type 0 = λ m. extent_of (column_at cs c) ≡ joined_extent (kind_of (column_at cs c)) (map extent_of (map (column_of m) ts)) in
+        subst P {x = c} {y = 0 + c} (omega arith) (joined.each c (omega (arith, joined.count))).extent));
     flag = refl;
     rows = λ i l.
         rows_of_content (record_at ns) (structure ns cs v n) ts (λ k d q. (h k d q).content) i l (is_valid_at v i) (record_of (fields_at cs ns i)) (valid.bits i l)

@@ -1,7 +1,7 @@
 -- Texts and byte lists by their views, joined.
 use Rattle.std.proofs.Common.{ℕ, suc, ◌+◌, ◌-◌, ◌^◌, ◌<◌, ◌≤◌, ◌≡◌, ◌⊎◌, Bool, true, false, List, [], ◌∷◌, ◌++◌, length, map, get_or, take, drop, replicate, append_assoc, refl, sym, ◌∙◌, ap, subst, inl, inr, arith}
 use Rattle.std.specs.Prelude.{IsUtf8, if◌then◌else◌, slice_range, slice_index_or, None}
-use Rattle.std.specs.List.{All}
+use Rattle.std.specs.List.{All, sum_by}
 use Rattle.std.proofs.lemmas.Bool.{cases_lt, le-leb, lt-leb}
 use Rattle.std.proofs.lemmas.List.{length-append, length-map, length-drop, length-take-le, get_or_append_left, get_or-append_right, get_or-map, get_or_default, at_drop_more}
 use Rattle.vx_base.proofs.NumberBytes.{below_4}
@@ -16,10 +16,13 @@ use Rattle.vx_views.proofs.SoundViews.{size-short}
 use Rattle.vx_tree.specs.Tree.{Tree, bools, primitive, constant, dictionary, fixed_list, list_view, structure, view_array, Valid}
 use Rattle.vx_tree.specs.Meaning.{tree_len, kind_of, row_at, is_valid_at, nullable, is_texts, value_row}
 use Rattle.vx_tree.specs.Formed.{WellFormed, value_kind}
+use Rattle.vx_tree.specs.Layouts.{is_view_array}
 use Rattle.vx_tree.specs.Fitting.{AllFormed}
 use Rattle.vx_tree.specs.Plain.{IsPlain}
 use Rattle.vx_tree.specs.PlainValues.{buffers_overflow}
 use Rattle.vx_tree.specs.Joined.{joined_len, joined_at, joined_row, IsJoined, IsValidJoined, views_in, buffers_in, joined_buffers, shifted_view, views_from, AreResolved, AreValues}
+use Rattle.vx_tree.specs.Extents.{extent_of, view_extent, buffer_count, joined_extent}
+use Rattle.vx_tree.proofs.ExtentParts.{buffers_of_each}
 use Rattle.vx_tree.proofs.JoinedRows.{joined-here, joined-later, rows_of_content}
 use Rattle.vx_tree.proofs.JoinedLeaves.{shown}
 use Rattle.vx_tree.proofs.PlainTexts.{many_fault}
@@ -170,6 +173,16 @@ value_present : (u : Bool) (x : List ℕ) → is_present (value_row u x) ≡ tru
 value_present true x = refl
 value_present false x = refl
 
+views_extent : (k : Kind) (n : Bool) (ts : List Tree) (cs : List (List ℕ)) → All (λ t. is_view_array t ≡ true) ts → cs ≡ joined_buffers ts → k ≡ value_kind (is_texts k) n → view_extent (length cs) ≡ joined_extent k (map extent_of ts)
+views_extent k n ts cs h f kind = by_kind (is_texts k) ∙ ap (λ q. joined_extent q (map extent_of ts)) (sym kind)
+  where
+    many : view_extent (length cs) ≡ view_extent (sum_by buffer_count (map extent_of ts))
+    many = ap view_extent (ap length f ∙ sym (buffers_of_each ts h))
+
+    by_kind : (u : Bool) → view_extent (length cs) ≡ joined_extent (value_kind u n) (map extent_of ts)
+    by_kind true = many
+    by_kind false = many
+
 pub views_joined : (k : Kind) (ts : List Tree) (ws cs : List (List ℕ)) (v : Valid) → All (AreValues (is_texts k)) ts → length (joined_buffers ts) ≤ 2 ^ 32 → ws ≡ views_from 0 ts → cs ≡ joined_buffers ts
     → k ≡ value_kind (is_texts k) (nullable v) → IsValidJoined (nullable v) ts v → IsJoined k ts (view_array ws cs k v) × WellFormed (view_array ws cs k v)
 views_joined k ts ws cs v h few e f kind valid =
@@ -179,6 +192,7 @@ views_joined k ts ws cs v h few e f kind valid =
         kind = refl;
         plain = valid.plain;
         state = valid.state;
+        extent = views_extent k (nullable v) ts cs (λ i d l. (h i d l).resolved.layout) f kind;
         flag = refl;
         rows = λ i l.
             rows_of_content (value_at (is_texts k)) (view_array ws cs k v) ts (λ m d q. (h m d q).content) i l

@@ -28,6 +28,8 @@ pub mod PlainValues
 pub mod PlainTexts
 pub mod PlainParts
 pub mod CanonicalDictionaries
+pub mod CanonicalAt
+pub mod CanonicalFaults
 pub mod Filtered
 pub mod Runs
 pub mod Validities
@@ -36,6 +38,7 @@ pub mod Patched
 pub mod Joins
 pub mod JoinedRows
 pub mod JoinedStates
+pub mod ExtentParts
 pub mod JoinedLeaves
 pub mod JoinedLists
 pub mod JoinedRecords
@@ -45,5 +48,7 @@ pub mod JoinedParts
 pub mod JoinedViews
 pub mod JoinedExtents
 pub mod JoinedNumbers
+pub mod Overflows
 pub mod Concatenated
 pub mod PlainTests
+pub mod ConcatenatedTwice

@@ -66,7 +66,7 @@ plain_itself t a h e = rw e (itself t (plain_told t h))
 -- ---- no fault
 
 mutual
-  no_fault : (t : Tree) → IsPlain t → canonical_fault t ≡ None
+  pub no_fault : (t : Tree) → IsPlain t → canonical_fault t ≡ None
   no_fault (bools bits v) h = refl
   no_fault (primitive t bs v) h = refl
   no_fault (constant k r n) h = absurd h

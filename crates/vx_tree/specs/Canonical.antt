@@ -1,5 +1,6 @@
 -- The same rows in plain layout.
-use Rattle.std.specs.Prelude.{◌≡◌, ◌<◌, ◌*◌, ◌^◌, ℕ, false, List, [], ◌∷◌, Option, Some, None, nat_lt, if◌then◌else◌}
+use Rattle.std.specs.Prelude.{◌≡◌, ◌<◌, ◌*◌, ◌^◌, ℕ, false, List, [], ◌∷◌, length, Option, Some, None, nat_lt, slice_index}
+use Rattle.std.specs.Prelude.{if◌then◌else◌}
 use Rattle.std.specs.List.{AllZip}
 use Rattle.vx_base.specs.Rows.{Row, null, is_present}
 use Rattle.vx_base.specs.Refusals.{Refusal, overflow, or_else}
@@ -41,6 +42,22 @@ pub record IsCanonical (t r : Tree) : Type 0 where
 -- n rows of each column, in plain layout
 pub record AreCanonical (ts : Trees) (n : ℕ) (us : Trees) : Type 0 where
   pub rows_at : AreRowsAt ts (λ i. i) n us
+  pub plain : ArePlain us
+  pub extents : extents_of us ≡ extents_of ts
+
+-- the rows at positions in plain layout, in the same state and of the same extent: no flag is set
+pub record IsCanonicalAt (t : Tree) (ps : List ℕ) (r : Tree) : Type 0 where
+  pub len : tree_len r ≡ length ps
+  pub kind : kind_of r ≡ kind_of t
+  pub plain : IsPlain r
+  pub state : tree_state r ≡ tree_state t
+  pub extent : extent_of r ≡ extent_of t
+  pub flag : is_flagged r ≡ false
+  pub rows : (i : ℕ) → i < length ps → row_at r i ≡ row_at t (slice_index ps i)
+
+-- the rows of each column at positions, in plain layout
+pub record AreCanonicalAt (ts : Trees) (ps : List ℕ) (us : Trees) : Type 0 where
+  pub rows_at : AreRowsAt ts (slice_index ps) (length ps) us
   pub plain : ArePlain us
   pub extents : extents_of us ≡ extents_of ts
 

@@ -1,15 +1,16 @@
 -- Arrays that are concatenated.
-use Rattle.std.specs.Prelude.{◌*◌, ℕ, suc, Bool, true, ◌&&◌, List, [], ◌∷◌, map, if◌then◌else◌, Option, Some, None}
-use Rattle.std.specs.List.{sum_by}
+use Rattle.std.specs.Prelude.{◌≡◌, ◌*◌, ℕ, suc, Bool, true, ◌&&◌, List, [], ◌∷◌, map, if◌then◌else◌, Option, Some, None}
+use Rattle.std.specs.List.{All, flat_map, sum_by}
 use Rattle.vx_base.specs.Kinds.{Kind, texts, binaries, lists, fixed_lists, records, Kinds, no_kinds, kind}
 use Rattle.vx_base.specs.SameKind.{kind_eq}
 use Rattle.vx_base.specs.Booleans.{count_fault}
 use Rattle.vx_base.specs.Refusals.{Refusal, empty_input, differing_dtypes, or_else}
 use Rattle.vx_tree.specs.Tree.{Tree}
-use Rattle.vx_tree.specs.Meaning.{kind_of, trees_from}
+use Rattle.vx_tree.specs.Meaning.{kind_of, rows, trees_from}
+use Rattle.vx_tree.specs.Plain.{IsPlain}
 use Rattle.vx_tree.specs.Canonical.{columns_fault}
 use Rattle.vx_tree.specs.PlainValues.{buffers_overflow}
-use Rattle.vx_tree.specs.Extents.{Extent, extent_of, buffer_count, element_count, elements_extent, column_extent}
+use Rattle.vx_tree.specs.Extents.{Extent, extent_of, buffer_count, element_count, elements_extent, column_extent, joined_extent}
 use Rattle.vx_tree.specs.Joined.{joined_len}
 
 -- all of them are of a kind
@@ -50,3 +51,10 @@ plain_fault (t ∷ ts) = extents_fault (kind_of t) (joined_len (t ∷ ts)) (map 
 -- the first fault of what is given, then that of joining it in plain layout
 abbrev pub concat_fault : List Tree → Option Refusal
 concat_fault ts = or_else (given_fault ts) (plain_fault ts)
+
+-- the rows of arrays, of the kind of all, in plain layout, with the elements and the buffers of all
+pub record IsConcatenated (ts : List Tree) (r : Tree) : Type 0 where
+  pub same_rows : rows r ≡ flat_map rows ts
+  pub kind : All (λ t. kind_of t ≡ kind_of r) ts
+  pub plain : IsPlain r
+  pub extent : extent_of r ≡ joined_extent (kind_of r) (map extent_of ts)

@@ -1,6 +1,6 @@
 -- How many elements the lists of an array have, and how many buffers its views, in plain layout.
 use Rattle.std.specs.Prelude.{ℕ, zero, suc, List, [], ◌∷◌, length, map, count_by}
-use Rattle.std.specs.List.{flat_map}
+use Rattle.std.specs.List.{flat_map, sum_by}
 use Rattle.vx_base.specs.Rows.{Row}
 use Rattle.vx_base.specs.Kinds.{Kind, texts, binaries, lists, fixed_lists, records, Kinds, no_kinds, kind}
 use Rattle.vx_tree.specs.Tree.{Tree, bools, primitive, constant, dictionary, fixed_list, list_view, structure}
@@ -85,3 +85,20 @@ extent_at (suc c) (extent x xs) = extent_at c xs
 abbrev pub column_extent : ℕ → Extent → Extent
 column_extent c (struct_extent xs) = extent_at c xs
 column_extent c _ = leaf_extent
+
+-- ---- arrays of one kind, joined
+
+-- together they have the elements of all and the buffers of all, at every depth
+abbrev mutual
+  pub joined_extent : Kind → List Extent → Extent
+  joined_extent (texts m) xs = view_extent (sum_by buffer_count xs)
+  joined_extent (binaries m) xs = view_extent (sum_by buffer_count xs)
+  joined_extent (lists k m) xs = list_extent (sum_by element_count xs) (joined_extent k (map elements_extent xs))
+  joined_extent (fixed_lists k size m) xs = fixed_list_extent (joined_extent k (map elements_extent xs))
+  joined_extent (records names ks m) xs = struct_extent (joined_extents ks 0 xs)
+  joined_extent _ xs = leaf_extent
+
+  -- of the columns from place c on
+  pub joined_extents : Kinds → ℕ → List Extent → Extents
+  joined_extents no_kinds c xs = no_extents
+  joined_extents (kind k ks) c xs = extent (joined_extent k (map (column_extent c) xs)) (joined_extents ks (suc c) xs)

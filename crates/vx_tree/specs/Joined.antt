@@ -18,6 +18,7 @@ use Rattle.vx_tree.specs.Shapes.{State, never_null, none_null, every_null, told,
 use Rattle.std.specs.List.{All, flat_map, range_with_len}
 use Rattle.vx_tree.specs.Layouts.{is_primitive, is_fixed_list, is_list_view, is_struct, is_view_array}
 use Rattle.vx_tree.specs.Flags.{is_flagged}
+use Rattle.vx_tree.specs.Extents.{extent_of, joined_extent}
 use Rattle.vx_tree.specs.Fitting.{AllFormed, AreViews}
 use Rattle.vx_tree.specs.PlainValues.{buffers_overflow}
 use Rattle.vx_tree.specs.Plain.{IsPlain, IsPlainValid}
@@ -52,12 +53,13 @@ joined_state [] = told
 joined_state (t ∷ []) = tree_state t
 joined_state (t ∷ u ∷ ts) = joined_states (tree_state t) (joined_state (u ∷ ts))
 
--- the rows of arrays, one array after another, in plain layouts
+-- the rows of arrays, one array after another, in plain layouts, with the elements and the buffers of all of them
 pub record IsJoined (k : Kind) (ts : List Tree) (r : Tree) : Type 0 where
   pub len : tree_len r ≡ joined_len ts
   pub kind : kind_of r ≡ k
   pub plain : IsPlain r
   pub state : 0 < length ts → tree_state r ≡ joined_state ts
+  pub extent : extent_of r ≡ joined_extent k (map extent_of ts)
   pub flag : is_flagged r ≡ false
   pub rows : (i : ℕ) → i < joined_len ts → row_at r i ≡ joined_row ts i
 

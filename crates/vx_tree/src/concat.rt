@@ -1,12 +1,13 @@
 // Arrays, one after another.
 
-ghost use Rattle.std.specs.Prelude.{◌≡◌, false, IfOk};
+ghost use Rattle.std.specs.Prelude.{◌≡◌, false, map, IfOk};
 ghost use Rattle.std.specs.List.{All, AllZip, flat_map};
 ghost use Rattle.vx_base.specs.DTypes.{dtype_meaning};
 ghost use Rattle.vx_base.specs.Refusals.{Refuses};
 ghost use Rattle.vx_tree.specs.Meaning.{kind_of, rows, trees_from};
 ghost use Rattle.vx_tree.specs.Shapes.{tree_state};
 ghost use Rattle.vx_tree.specs.Plain.{IsPlain};
+ghost use Rattle.vx_tree.specs.Extents.{extent_of, joined_extent};
 ghost use Rattle.vx_tree.specs.Joined.{joined_state};
 ghost use Rattle.vx_tree.specs.Flags.{is_flagged};
 ghost use Rattle.vx_tree.specs.Canonical.{IsCanonical, columns_fault};
@@ -16,12 +17,14 @@ mod numbers;
 
 use crate::array::ArrayRef;
 use crate::join::{all_formed, joined_len};
+use crate::plain_rows::is_countable;
 use std::alloc::Global;
 use vx_base::{DType, VortexError};
 
 impl ArrayRef {
     /// The rows of the arrays, one array after another, in the plain layout of their data type: of
-    /// the numbers 1, 2 and 3, null the numbers 1, 2, 3, null. Refuses in this order: with
+    /// the numbers 1, 2 and 3, null the numbers 1, 2, 3, null. At every depth they have as many
+    /// elements and buffers as all arrays together. Refuses in this order: with
     /// `EmptyInput` where no array is given; with `DifferingDtypes` where one is not of the data
     /// type of the first; with `Overflow` where there are more rows than can be counted; by the
     /// first fault of making each array plain, as `to_canonical` has it; then with `Overflow` where
@@ -36,6 +39,7 @@ impl ArrayRef {
         ensures kind { IfOk result (λ a. All (λ t. kind_of t ≡ kind_of a) arrays.now) }
         ensures plain { IfOk result IsPlain }
         ensures state { IfOk result (λ a. tree_state a ≡ joined_state arrays.now) }
+        ensures extent { IfOk result (λ a. extent_of a ≡ joined_extent (kind_of a) (map extent_of arrays.now)) }
         ensures flag { IfOk result (λ a. is_flagged a ≡ false) }
         ensures refuses { Refuses result (concat_fault arrays.now) }
     {
@@ -48,6 +52,9 @@ impl ArrayRef {
         let len = joined_len(arrays)?;
         if let DType::Primitive(ptype, nullability) = first.dtype() {
             return Ok(ArrayRef::concat_numbers(alloc, *ptype, *nullability, arrays, len)?);
+        }
+        if !is_countable(first.dtype(), len) {
+            return Err(VortexError::Overflow);
         }
         let plain = plain_arrays(alloc, arrays)?;
         all_formed(&plain);

@@ -1,16 +1,17 @@
 // The plain layout of an array.
 
-ghost use Rattle.std.specs.Prelude.{◌≡◌, IfOk};
+ghost use Rattle.std.specs.Prelude.{◌≡◌, IfOk, None, length};
 ghost use Rattle.vx_base.specs.Refusals.{Gives, Refuses};
-ghost use Rattle.vx_tree.specs.Meaning.{rows};
+ghost use Rattle.vx_tree.specs.Meaning.{kind_of, rows, tree_len};
 ghost use Rattle.vx_tree.specs.Formed.{ValidFits};
 ghost use Rattle.vx_tree.specs.Parts.{valid_of};
-ghost use Rattle.vx_tree.specs.Canonical.{IsCanonical, IsCanonicalValid, canonical_fault};
+ghost use Rattle.vx_tree.specs.Canonical.{IsCanonical, IsCanonicalAt, IsCanonicalValid, canonical_fault, plain_overflow};
+ghost use Rattle.vx_tree.specs.Operations.{AreBelow};
 
 use crate::array::{ArrayRef, Layout, Validity};
 use crate::validity::told_by;
 use std::alloc::Global;
-use vx_base::VortexError;
+use vx_base::{Selection, VortexError};
 
 impl ArrayRef {
     /// The same rows in the plain layout of their data type: no part is a constant or a dictionary,
@@ -52,6 +53,30 @@ impl ArrayRef {
             Layout::ListView { .. } => self.canonical_list_view(alloc),
             Layout::VarBinView { .. } => Ok(self.canonical_views(alloc)?),
             Layout::Struct { .. } => self.canonical_struct(alloc),
+        }
+    }
+
+    // The rows that are picked, in plain layout: no others are made. Asks that they can be counted.
+    #[cycle(canonical)]
+    pub(crate) fn canonical_at(
+        &self,
+        alloc: Global,
+        selection: &Selection,
+    ) -> Result<ArrayRef, VortexError>
+        requires within { AreBelow (tree_len self.now) selection.now }
+        requires countable { plain_overflow (kind_of self.now) (length selection.now) ≡ None }
+        ensures ok { IfOk result (IsCanonicalAt self.now selection.now) }
+        ensures refuses { Refuses result (canonical_fault self.now) }
+    {
+        match self.layout() {
+            Layout::Bool { .. } => Ok(self.canonical_bools_at(alloc, selection)?),
+            Layout::Primitive { .. } => Ok(self.canonical_primitive_at(alloc, selection)?),
+            Layout::Constant { .. } => self.canonical_constant_at(alloc, selection),
+            Layout::Dict { .. } => self.canonical_dictionary_at(alloc, selection),
+            Layout::FixedSizeList { .. } => self.canonical_fixed_lists_at(alloc, selection),
+            Layout::ListView { .. } => self.canonical_list_view_at(alloc, selection),
+            Layout::VarBinView { .. } => Ok(self.canonical_views_at(alloc, selection)?),
+            Layout::Struct { .. } => self.canonical_struct_at(alloc, selection),
         }
     }
 }

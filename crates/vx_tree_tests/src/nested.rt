@@ -270,8 +270,14 @@ impl Rows for Lists {
 }
 
 #[test]
-fn lists_through_all(rt: HostRuntime) -> Result<(), VortexError> {
-    through_all(&rt, rt.alloc(), &Lists, &lists_by_codes(rt.alloc())?)
+fn lists_through_all(rt: HostRuntime) {
+    through_all(
+        &rt,
+        rt.alloc(),
+        &Lists,
+        &lists_by_codes(rt.alloc()).expect(&rt, "made"),
+    )
+    .expect(&rt, "made");
 }
 
 // ---- lists of one size of a dictionary
@@ -329,19 +335,26 @@ fn expect_numbers(rt: &impl Abort, array: &ArrayRef, numbers: &[Option<i128>]) {
 }
 
 #[test]
-fn numbers_of_pairs(rt: HostRuntime) -> Result<(), VortexError> {
-    let array = pairs_by_codes(rt.alloc())?;
+fn numbers_of_pairs(rt: HostRuntime) {
+    let array = pairs_by_codes(rt.alloc()).expect(&rt, "made");
     expect_numbers(&rt, &array, &[Some(7), None, Some(-9), None, None, Some(7)]);
-    let taken = array.take(rt.alloc(), &counts(rt.alloc(), &[2, 1])?)?;
+    let taken = array
+        .take(rt.alloc(), &counts(rt.alloc(), &[2, 1]).expect(&rt, "made"))
+        .expect(&rt, "made");
     expect_numbers(&rt, &taken, &[None, Some(7), Some(-9), None]);
-    let plain = taken.to_canonical(rt.alloc())?;
+    let plain = taken.to_canonical(rt.alloc()).expect(&rt, "made");
     expect_numbers(&rt, &plain, &[None, Some(7), Some(-9), None]);
-    Ok(())
 }
 
 #[test]
-fn pairs_through_all(rt: HostRuntime) -> Result<(), VortexError> {
-    through_all(&rt, rt.alloc(), &Pairs, &pairs_by_codes(rt.alloc())?)
+fn pairs_through_all(rt: HostRuntime) {
+    through_all(
+        &rt,
+        rt.alloc(),
+        &Pairs,
+        &pairs_by_codes(rt.alloc()).expect(&rt, "made"),
+    )
+    .expect(&rt, "made");
 }
 
 // ---- a constant record of a text and a list
@@ -367,6 +380,12 @@ impl Rows for Parcels {
 }
 
 #[test]
-fn parcels_through_all(rt: HostRuntime) -> Result<(), VortexError> {
-    through_all(&rt, rt.alloc(), &Parcels, &same_parcels(rt.alloc())?)
+fn parcels_through_all(rt: HostRuntime) {
+    through_all(
+        &rt,
+        rt.alloc(),
+        &Parcels,
+        &same_parcels(rt.alloc()).expect(&rt, "made"),
+    )
+    .expect(&rt, "made");
 }

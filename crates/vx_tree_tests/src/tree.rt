@@ -8,6 +8,7 @@ ghost use Rattle.vx_tree.specs.Tree.{bools, primitive, non_nullable, by_array};
 use std::alloc::Global;
 use std::process::Abort;
 use vx_base::{BitBuffer, ByteBuffer, DType, Nullability, PType, Scalar, Selection, VortexError};
+use vx_tree::laws::concats_of_concats_are_concats;
 use vx_tree::{
     ArrayRef, Layout, Validity, dictionaries_keep_their_values, faults_of_worked_arrays,
     rows_fit_their_dtype, rows_fit_their_kind, rows_of_worked_arrays,
@@ -18,6 +19,7 @@ mod fixed_size_lists;
 mod into_array;
 mod joined_arrays;
 mod joined_validities;
+mod many_values;
 mod masks;
 mod no_values;
 mod null_indices;
@@ -169,132 +171,149 @@ fn expect_bool(
 // ---- arrays
 
 #[test]
-fn lengths(rt: HostRuntime) -> Result<(), VortexError> {
-    assert_eq!(rt; lists(rt.alloc())?.len(), 3);
-    assert!(rt; booleans(rt.alloc(), &[])?.is_empty());
-    Ok(())
+fn lengths(rt: HostRuntime) {
+    assert_eq!(rt; lists(rt.alloc()).expect(&rt, "made").len(), 3);
+    assert!(rt; booleans(rt.alloc(), &[]).expect(&rt, "made").is_empty());
 }
 
 #[test]
-fn data_types(rt: HostRuntime) -> Result<(), VortexError> {
-    let indices = indices(rt.alloc())?;
+fn data_types(rt: HostRuntime) {
+    let indices = indices(rt.alloc()).expect(&rt, "made");
     assert!(rt; indices.dtype().is_int() && indices.dtype().is_nullable());
-    assert!(rt; booleans(rt.alloc(), &[])?.dtype().is_plain_bool());
-    Ok(())
+    assert!(rt;
+        booleans(rt.alloc(), &[])
+            .expect(&rt, "made")
+            .dtype()
+            .is_plain_bool()
+    );
 }
 
 #[test]
-fn parts_of_lists(rt: HostRuntime) -> Result<(), VortexError> {
-    let lists = lists(rt.alloc())?;
+fn parts_of_lists(rt: HostRuntime) {
+    let lists = lists(rt.alloc()).expect(&rt, "made");
     let found = match lists.layout() {
         Layout::ListView { elements, flag, .. } => elements.len() == 4 && !*flag,
         _ => false,
     };
     assert!(rt; found);
-    Ok(())
 }
 
 #[test]
-fn parts_of_booleans(rt: HostRuntime) -> Result<(), VortexError> {
-    let array = some_booleans(rt.alloc(), &[true, false], &[false, true])?;
-    expect_bool(&rt, rt.alloc(), &array, 0, None)?;
-    expect_bool(&rt, rt.alloc(), &array, 1, Some(false))
+fn parts_of_booleans(rt: HostRuntime) {
+    let array = some_booleans(rt.alloc(), &[true, false], &[false, true]).expect(&rt, "made");
+    expect_bool(&rt, rt.alloc(), &array, 0, None).expect(&rt, "made");
+    expect_bool(&rt, rt.alloc(), &array, 1, Some(false)).expect(&rt, "made");
 }
 
 #[test]
-fn shared_array(rt: HostRuntime) -> Result<(), VortexError> {
-    let lists = lists(rt.alloc())?;
+fn shared_array(rt: HostRuntime) {
+    let lists = lists(rt.alloc()).expect(&rt, "made");
     expect_list(
         &rt,
         rt.alloc(),
-        &lists.try_clone(rt.alloc())?,
+        &lists.try_clone(rt.alloc()).expect(&rt, "made"),
         0,
         Some(&[3, 4]),
     )
+    .expect(&rt, "made");
 }
 
 // ---- rows
 
 #[test]
-fn valid_rows(rt: HostRuntime) -> Result<(), VortexError> {
-    let indices = indices(rt.alloc())?;
-    assert!(rt; indices.is_valid(rt.alloc(), 0)? && !indices.is_valid(rt.alloc(), 1)?);
-    Ok(())
+fn valid_rows(rt: HostRuntime) {
+    let indices = indices(rt.alloc()).expect(&rt, "made");
+    assert!(rt;
+        indices.is_valid(rt.alloc(), 0).expect(&rt, "made")
+            && !indices.is_valid(rt.alloc(), 1).expect(&rt, "made")
+    );
 }
 
 #[test]
-fn valid_row_past_the_end(rt: HostRuntime) -> Result<(), VortexError> {
-    let found = match indices(rt.alloc())?.is_valid(rt.alloc(), 3) {
+fn valid_row_past_the_end(rt: HostRuntime) {
+    let found = match indices(rt.alloc())
+        .expect(&rt, "made")
+        .is_valid(rt.alloc(), 3)
+    {
         Err(VortexError::OutOfBounds { index: 3, len: 3 }) => true,
         _ => false,
     };
     assert!(rt; found);
-    Ok(())
 }
 
 #[test]
-fn number_of_a_row(rt: HostRuntime) -> Result<(), VortexError> {
-    let indices = indices(rt.alloc())?;
+fn number_of_a_row(rt: HostRuntime) {
+    let indices = indices(rt.alloc()).expect(&rt, "made");
     assert!(rt; number(&rt, &indices, 0) == Some(2) && number(&rt, &indices, 1) == None);
-    Ok(())
 }
 
 // ---- parts
 
 #[test]
-fn slice_of_lists(rt: HostRuntime) -> Result<(), VortexError> {
-    let part = lists(rt.alloc())?.slice(rt.alloc(), 1..3)?;
+fn slice_of_lists(rt: HostRuntime) {
+    let part = lists(rt.alloc())
+        .expect(&rt, "made")
+        .slice(rt.alloc(), 1..3)
+        .expect(&rt, "made");
     assert_eq!(rt; part.len(), 2);
-    expect_list(&rt, rt.alloc(), &part, 0, Some(&[1]))?;
-    expect_list(&rt, rt.alloc(), &part, 1, Some(&[2, 3]))
+    expect_list(&rt, rt.alloc(), &part, 0, Some(&[1])).expect(&rt, "made");
+    expect_list(&rt, rt.alloc(), &part, 1, Some(&[2, 3])).expect(&rt, "made");
 }
 
 #[test]
-fn slice_of_booleans(rt: HostRuntime) -> Result<(), VortexError> {
-    let array = some_booleans(rt.alloc(), &[true, false, true], &[true, true, false])?;
-    let part = array.slice(rt.alloc(), 1..3)?;
-    expect_bool(&rt, rt.alloc(), &part, 0, Some(false))?;
-    expect_bool(&rt, rt.alloc(), &part, 1, None)
+fn slice_of_booleans(rt: HostRuntime) {
+    let array = some_booleans(rt.alloc(), &[true, false, true], &[true, true, false]).expect(
+        &rt, "made",
+    );
+    let part = array.slice(rt.alloc(), 1..3).expect(&rt, "made");
+    expect_bool(&rt, rt.alloc(), &part, 0, Some(false)).expect(&rt, "made");
+    expect_bool(&rt, rt.alloc(), &part, 1, None).expect(&rt, "made");
 }
 
 #[test]
-fn slice_of_numbers(rt: HostRuntime) -> Result<(), VortexError> {
-    let part = indices(rt.alloc())?.slice(rt.alloc(), 1..3)?;
+fn slice_of_numbers(rt: HostRuntime) {
+    let part = indices(rt.alloc())
+        .expect(&rt, "made")
+        .slice(rt.alloc(), 1..3)
+        .expect(&rt, "made");
     assert!(rt; number(&rt, &part, 0) == None && number(&rt, &part, 1) == Some(0));
-    Ok(())
 }
 
 #[test]
-fn slice_of_a_constant(rt: HostRuntime) -> Result<(), VortexError> {
+fn slice_of_a_constant(rt: HostRuntime) {
     let scalar = Scalar::int(-7, PType::I16, Nullability::Nullable);
-    let part = ArrayRef::constant(rt.alloc(), scalar, 5)?.slice(rt.alloc(), 1..3)?;
+    let part = ArrayRef::constant(rt.alloc(), scalar, 5)
+        .expect(&rt, "made")
+        .slice(rt.alloc(), 1..3)
+        .expect(&rt, "made");
     rows_fit_their_dtype(&part);
-    assert!(rt; part.len() == 2 && part.is_valid(rt.alloc(), 1)?);
+    assert!(rt; part.len() == 2 && part.is_valid(rt.alloc(), 1).expect(&rt, "made"));
     assert!(rt; number(&rt, &part, 1) == Some(-7));
-    Ok(())
 }
 
 #[test]
-fn constant_taken_by_plain_indices(rt: HostRuntime) -> Result<(), VortexError> {
+fn constant_taken_by_plain_indices(rt: HostRuntime) {
     let scalar = Scalar::int(-7, PType::I16, Nullability::Nullable);
-    let array = ArrayRef::constant(rt.alloc(), scalar, 5)?;
-    let indices = numbers(rt.alloc(), PType::U8, &[4, 0, 4], Validity::NonNullable)?;
-    let taken = array.take(rt.alloc(), &indices)?;
+    let array = ArrayRef::constant(rt.alloc(), scalar, 5).expect(&rt, "made");
+    let indices = numbers(rt.alloc(), PType::U8, &[4, 0, 4], Validity::NonNullable).expect(
+        &rt, "made",
+    );
+    let taken = array.take(rt.alloc(), &indices).expect(&rt, "made");
     assert!(rt; taken.len() == 3 && matches!(taken.layout(), Layout::Constant { .. }));
     assert!(rt; number(&rt, &taken, 2) == Some(-7));
-    Ok(())
 }
 
 #[test]
-fn constant_taken_by_nullable_indices(rt: HostRuntime) -> Result<(), VortexError> {
+fn constant_taken_by_nullable_indices(rt: HostRuntime) {
     let scalar = Scalar::int(7, PType::I32, Nullability::NonNullable);
-    let array = ArrayRef::constant(rt.alloc(), scalar, 3)?;
-    let taken = array.take(rt.alloc(), &indices(rt.alloc())?)?;
+    let array = ArrayRef::constant(rt.alloc(), scalar, 3).expect(&rt, "made");
+    let taken = array
+        .take(rt.alloc(), &indices(rt.alloc()).expect(&rt, "made"))
+        .expect(&rt, "made");
     assert!(rt; taken.len() == 3 && matches!(taken.layout(), Layout::Dict { .. }));
-    assert!(rt; taken.dtype().is_nullable() && !taken.is_valid(rt.alloc(), 1)?);
+    assert!(rt; taken.dtype().is_nullable() && !taken.is_valid(rt.alloc(), 1).expect(&rt, "made"));
     assert!(rt; number(&rt, &taken, 0) == Some(7) && number(&rt, &taken, 1) == None);
     assert!(rt; number(&rt, &taken, 2) == Some(7));
-    Ok(())
 }
 
 // The codes 0, null, 2, null, 1 into the values null, 6, 9.
@@ -307,144 +326,173 @@ fn dictionary(alloc: Global) -> Result<ArrayRef, VortexError> {
 }
 
 #[test]
-fn a_dictionary_in_plain_layout(rt: HostRuntime) -> Result<(), VortexError> {
-    let array = dictionary(rt.alloc())?.to_canonical(rt.alloc())?;
+fn a_dictionary_in_plain_layout(rt: HostRuntime) {
+    let array = dictionary(rt.alloc())
+        .expect(&rt, "made")
+        .to_canonical(rt.alloc())
+        .expect(&rt, "made");
     assert!(rt; matches!(array.layout(), Layout::Primitive { .. }));
     assert!(rt; array.len() == 5 && number(&rt, &array, 0) == None);
     assert!(rt; number(&rt, &array, 2) == Some(9) && number(&rt, &array, 4) == Some(6));
-    Ok(())
 }
 
 #[test]
-fn rows_of_a_dictionary(rt: HostRuntime) -> Result<(), VortexError> {
-    let array = dictionary(rt.alloc())?;
+fn rows_of_a_dictionary(rt: HostRuntime) {
+    let array = dictionary(rt.alloc()).expect(&rt, "made");
     rows_fit_their_dtype(&array);
     assert!(rt; array.len() == 5 && array.dtype().is_nullable());
     assert!(rt; number(&rt, &array, 0) == None && number(&rt, &array, 1) == None);
     assert!(rt; number(&rt, &array, 2) == Some(9) && number(&rt, &array, 3) == None);
-    assert!(rt; number(&rt, &array, 4) == Some(6) && !array.is_valid(rt.alloc(), 0)?);
-    assert!(rt; array.is_valid(rt.alloc(), 4)? && !array.is_valid(rt.alloc(), 3)?);
-    Ok(())
+    assert!(rt;
+        number(&rt, &array, 4) == Some(6) && !array.is_valid(rt.alloc(), 0).expect(&rt, "made")
+    );
+    assert!(rt;
+        array.is_valid(rt.alloc(), 4).expect(&rt, "made")
+            && !array.is_valid(rt.alloc(), 3).expect(&rt, "made")
+    );
 }
 
 #[test]
-fn slice_of_a_dictionary(rt: HostRuntime) -> Result<(), VortexError> {
-    let part = dictionary(rt.alloc())?.slice(rt.alloc(), 2..5)?;
+fn slice_of_a_dictionary(rt: HostRuntime) {
+    let part = dictionary(rt.alloc())
+        .expect(&rt, "made")
+        .slice(rt.alloc(), 2..5)
+        .expect(&rt, "made");
     assert!(rt; part.len() == 3 && number(&rt, &part, 0) == Some(9));
     assert!(rt; number(&rt, &part, 1) == None && number(&rt, &part, 2) == Some(6));
-    Ok(())
 }
 
 #[test]
-fn take_of_a_dictionary(rt: HostRuntime) -> Result<(), VortexError> {
-    let taken = dictionary(rt.alloc())?.take(rt.alloc(), &indices(rt.alloc())?)?;
+fn take_of_a_dictionary(rt: HostRuntime) {
+    let taken = dictionary(rt.alloc())
+        .expect(&rt, "made")
+        .take(rt.alloc(), &indices(rt.alloc()).expect(&rt, "made"))
+        .expect(&rt, "made");
     assert!(rt; taken.len() == 3 && number(&rt, &taken, 0) == Some(9));
     assert!(rt; number(&rt, &taken, 1) == None && number(&rt, &taken, 2) == None);
-    Ok(())
 }
 
 #[test]
-fn indices_that_are_constant(rt: HostRuntime) -> Result<(), VortexError> {
+fn indices_that_are_constant(rt: HostRuntime) {
     let scalar = Scalar::int(1, PType::U64, Nullability::NonNullable);
-    let indices = ArrayRef::constant(rt.alloc(), scalar, 2)?;
-    let taken = lists(rt.alloc())?.take(rt.alloc(), &indices)?;
+    let indices = ArrayRef::constant(rt.alloc(), scalar, 2).expect(&rt, "made");
+    let taken = lists(rt.alloc())
+        .expect(&rt, "made")
+        .take(rt.alloc(), &indices)
+        .expect(&rt, "made");
     assert_eq!(rt; taken.len(), 2);
-    expect_list(&rt, rt.alloc(), &taken, 1, Some(&[1]))
+    expect_list(&rt, rt.alloc(), &taken, 1, Some(&[1])).expect(&rt, "made");
 }
 
 #[test]
-fn numbers_taken_from_no_rows(rt: HostRuntime) -> Result<(), VortexError> {
-    let empty = numbers(rt.alloc(), PType::I32, &[], Validity::NonNullable)?;
-    let nulls = numbers(rt.alloc(), PType::U8, &[9, 9], Validity::AllInvalid)?;
-    let taken = empty.take(rt.alloc(), &nulls)?;
-    assert!(rt; taken.len() == 2 && !taken.is_valid(rt.alloc(), 1)?);
-    Ok(())
+fn numbers_taken_from_no_rows(rt: HostRuntime) {
+    let empty = numbers(rt.alloc(), PType::I32, &[], Validity::NonNullable).expect(&rt, "made");
+    let nulls = numbers(rt.alloc(), PType::U8, &[9, 9], Validity::AllInvalid).expect(&rt, "made");
+    let taken = empty.take(rt.alloc(), &nulls).expect(&rt, "made");
+    assert!(rt; taken.len() == 2 && !taken.is_valid(rt.alloc(), 1).expect(&rt, "made"));
 }
 
 #[test]
-fn many_null_lists_taken_from_no_rows(rt: HostRuntime) -> Result<(), VortexError> {
-    let none = lists(rt.alloc())?.slice(rt.alloc(), 0..0)?;
+fn many_null_lists_taken_from_no_rows(rt: HostRuntime) {
+    let none = lists(rt.alloc())
+        .expect(&rt, "made")
+        .slice(rt.alloc(), 0..0)
+        .expect(&rt, "made");
     let null = Scalar::null(DType::Primitive(PType::U8, Nullability::Nullable));
-    let nulls = ArrayRef::constant(rt.alloc(), null, 1099511627776)?;
-    let taken = none.take(rt.alloc(), &nulls)?;
+    let nulls = ArrayRef::constant(rt.alloc(), null, 1099511627776).expect(&rt, "made");
+    let taken = none.take(rt.alloc(), &nulls).expect(&rt, "made");
     assert_eq!(rt; taken.len(), 1099511627776);
-    expect_list(&rt, rt.alloc(), &taken, 1099511627775, None)
+    expect_list(&rt, rt.alloc(), &taken, 1099511627775, None).expect(&rt, "made");
 }
 
 #[test]
-fn validity_by_a_constant(rt: HostRuntime) -> Result<(), VortexError> {
+fn validity_by_a_constant(rt: HostRuntime) {
     let scalar = Scalar::bool(true, Nullability::NonNullable);
-    let validity = Validity::Array(ArrayRef::constant(rt.alloc(), scalar, 2)?);
-    let bits = BitBuffer::from_bools(rt.alloc(), &[true, false])?;
-    let part = ArrayRef::bools(rt.alloc(), bits, validity)?.slice(rt.alloc(), 1..2)?;
-    expect_bool(&rt, rt.alloc(), &part, 0, Some(false))
+    let validity = Validity::Array(ArrayRef::constant(rt.alloc(), scalar, 2).expect(&rt, "made"));
+    let bits = BitBuffer::from_bools(rt.alloc(), &[true, false]).expect(&rt, "made");
+    let part = ArrayRef::bools(rt.alloc(), bits, validity)
+        .expect(&rt, "made")
+        .slice(rt.alloc(), 1..2)
+        .expect(&rt, "made");
+    expect_bool(&rt, rt.alloc(), &part, 0, Some(false)).expect(&rt, "made");
 }
 
 #[test]
-fn slice_past_the_end(rt: HostRuntime) -> Result<(), VortexError> {
-    let found = match lists(rt.alloc())?.slice(rt.alloc(), 5..4) {
+fn slice_past_the_end(rt: HostRuntime) {
+    let found = match lists(rt.alloc())
+        .expect(&rt, "made")
+        .slice(rt.alloc(), 5..4)
+    {
         Err(VortexError::OutOfBounds { index: 4, len: 3 }) => true,
         _ => false,
     };
     assert!(rt; found);
-    Ok(())
 }
 
 #[test]
-fn take_of_lists(rt: HostRuntime) -> Result<(), VortexError> {
-    let taken = lists(rt.alloc())?.take(rt.alloc(), &indices(rt.alloc())?)?;
+fn take_of_lists(rt: HostRuntime) {
+    let taken = lists(rt.alloc())
+        .expect(&rt, "made")
+        .take(rt.alloc(), &indices(rt.alloc()).expect(&rt, "made"))
+        .expect(&rt, "made");
     assert_eq!(rt; taken.len(), 3);
-    expect_list(&rt, rt.alloc(), &taken, 0, Some(&[2, 3]))?;
-    expect_list(&rt, rt.alloc(), &taken, 1, None)?;
-    expect_list(&rt, rt.alloc(), &taken, 2, Some(&[3, 4]))
+    expect_list(&rt, rt.alloc(), &taken, 0, Some(&[2, 3])).expect(&rt, "made");
+    expect_list(&rt, rt.alloc(), &taken, 1, None).expect(&rt, "made");
+    expect_list(&rt, rt.alloc(), &taken, 2, Some(&[3, 4])).expect(&rt, "made");
 }
 
 #[test]
-fn take_of_booleans(rt: HostRuntime) -> Result<(), VortexError> {
-    let array = some_booleans(rt.alloc(), &[true, false, false], &[true, true, false])?;
-    let taken = array.take(rt.alloc(), &indices(rt.alloc())?)?;
-    expect_bool(&rt, rt.alloc(), &taken, 1, None)?;
-    expect_bool(&rt, rt.alloc(), &taken, 2, Some(true))
+fn take_of_booleans(rt: HostRuntime) {
+    let array = some_booleans(rt.alloc(), &[true, false, false], &[true, true, false]).expect(
+        &rt, "made",
+    );
+    let taken = array
+        .take(rt.alloc(), &indices(rt.alloc()).expect(&rt, "made"))
+        .expect(&rt, "made");
+    expect_bool(&rt, rt.alloc(), &taken, 1, None).expect(&rt, "made");
+    expect_bool(&rt, rt.alloc(), &taken, 2, Some(true)).expect(&rt, "made");
 }
 
 #[test]
-fn take_by_booleans(rt: HostRuntime) -> Result<(), VortexError> {
-    let found = match lists(rt.alloc())?.take(rt.alloc(), &booleans(rt.alloc(), &[true])?) {
+fn take_by_booleans(rt: HostRuntime) {
+    let found = match lists(rt.alloc()).expect(&rt, "made").take(
+        rt.alloc(),
+        &booleans(rt.alloc(), &[true]).expect(&rt, "made"),
+    ) {
         Err(VortexError::MismatchedTypes) => true,
         _ => false,
     };
     assert!(rt; found);
-    Ok(())
 }
 
 #[test]
-fn take_at_positions(rt: HostRuntime) -> Result<(), VortexError> {
-    let array = booleans(rt.alloc(), &[true, false, true])?;
+fn take_at_positions(rt: HostRuntime) {
+    let array = booleans(rt.alloc(), &[true, false, true]).expect(&rt, "made");
     assert_eq!(rt; array.len(), 3);
-    let taken = array.select(rt.alloc(), &Selection::at_positions(&[1, 1, 0]))?;
-    expect_bool(&rt, rt.alloc(), &taken, 1, Some(false))?;
-    expect_bool(&rt, rt.alloc(), &taken, 2, Some(true))
+    let taken = array
+        .select(rt.alloc(), &Selection::at_positions(&[1, 1, 0]))
+        .expect(&rt, "made");
+    expect_bool(&rt, rt.alloc(), &taken, 1, Some(false)).expect(&rt, "made");
+    expect_bool(&rt, rt.alloc(), &taken, 2, Some(true)).expect(&rt, "made");
 }
 
 // ---- validities
 
 #[test]
-fn nullability_of_validities(rt: HostRuntime) -> Result<(), VortexError> {
+fn nullability_of_validities(rt: HostRuntime) {
     assert!(rt; Validity::NonNullable.nullability() == Nullability::NonNullable);
     assert!(rt; Validity::AllInvalid.nullability() == Nullability::Nullable);
-    Ok(())
 }
 
 #[test]
-fn lengths_of_validities(rt: HostRuntime) -> Result<(), VortexError> {
-    let validity = Validity::Array(booleans(rt.alloc(), &[true, false])?);
+fn lengths_of_validities(rt: HostRuntime) {
+    let validity = Validity::Array(booleans(rt.alloc(), &[true, false]).expect(&rt, "made"));
     assert!(rt; validity.maybe_len() == Some(2) && Validity::AllValid.maybe_len() == None);
-    Ok(())
 }
 
 #[test]
-fn check_of_validities(rt: HostRuntime) -> Result<(), VortexError> {
-    let validity = Validity::Array(booleans(rt.alloc(), &[true, false])?);
+fn check_of_validities(rt: HostRuntime) {
+    let validity = Validity::Array(booleans(rt.alloc(), &[true, false]).expect(&rt, "made"));
     assert!(rt; validity.check(2).is_ok() && Validity::AllValid.check(7).is_ok());
     let found = match validity.check(3) {
         Err(
@@ -456,29 +504,35 @@ fn check_of_validities(rt: HostRuntime) -> Result<(), VortexError> {
         _ => false,
     };
     assert!(rt; found);
-    Ok(())
 }
 
 #[test]
-fn shared_validity(rt: HostRuntime) -> Result<(), VortexError> {
-    let validity = Validity::Array(booleans(rt.alloc(), &[true, false])?);
-    assert_eq!(rt; validity.try_clone(rt.alloc())?.maybe_len(), Some(2));
-    Ok(())
+fn shared_validity(rt: HostRuntime) {
+    let validity = Validity::Array(booleans(rt.alloc(), &[true, false]).expect(&rt, "made"));
+    assert_eq!(rt;
+        validity
+            .try_clone(rt.alloc())
+            .expect(&rt, "made")
+            .maybe_len(),
+        Some(2)
+    );
 }
 
 #[test]
-fn mask_of_an_array(rt: HostRuntime) -> Result<(), VortexError> {
-    let mask = Validity::Array(booleans(rt.alloc(), &[true, false])?).execute_mask(rt.alloc(), 2)?;
+fn mask_of_an_array(rt: HostRuntime) {
+    let mask = Validity::Array(booleans(rt.alloc(), &[true, false]).expect(&rt, "made"))
+        .execute_mask(rt.alloc(), 2)
+        .expect(&rt, "made");
     assert_eq!(rt; mask.len(), 2);
     assert!(rt; mask.value(0) && !mask.value(1));
-    Ok(())
 }
 
 #[test]
-fn mask_of_nulls(rt: HostRuntime) -> Result<(), VortexError> {
-    let mask = Validity::AllInvalid.execute_mask(rt.alloc(), 4)?;
+fn mask_of_nulls(rt: HostRuntime) {
+    let mask = Validity::AllInvalid
+        .execute_mask(rt.alloc(), 4)
+        .expect(&rt, "made");
     assert!(rt; mask.len() == 4 && mask.all_false());
-    Ok(())
 }
 
 // ---- laws
@@ -490,6 +544,7 @@ fn laws() {
     worked_arrays_are_formed();
     slices_of_slices_are_slices();
     selections_of_selections_are_selections();
+    concats_of_concats_are_concats();
     dictionaries_keep_their_values();
     faults_of_worked_arrays();
 }

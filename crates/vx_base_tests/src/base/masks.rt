@@ -26,37 +26,36 @@ fn four(alloc: Global, first: Mask, last: Mask) -> Result<Mask, VortexError> {
 }
 
 #[test]
-fn joined_masks(rt: HostRuntime) -> Result<(), VortexError> {
+fn joined_masks(rt: HostRuntime) {
     let alloc = rt.alloc();
     let joined = four(
         alloc,
-        mask_of(alloc, &[true, false])?,
-        mask_of(alloc, &[false, true])?,
-    )?;
+        mask_of(alloc, &[true, false]).expect(&rt, "made"),
+        mask_of(alloc, &[false, true]).expect(&rt, "made"),
+    )
+    .expect(&rt, "made");
     assert!(rt;
         is_mask(
             alloc,
             &joined,
             &[true, false, true, false, false, false, true]
-        )?
+        )
+        .expect(&rt, "made")
     );
-    Ok(())
 }
 
 #[test]
-fn joined_masks_that_are_alike(rt: HostRuntime) -> Result<(), VortexError> {
+fn joined_masks_that_are_alike(rt: HostRuntime) {
     let alloc = rt.alloc();
-    let joined = both(alloc, Mask::new_true(2), Mask::new_true(1))?;
-    assert!(rt; is_mask(alloc, &joined, &[true, true, true])?);
-    let joined = both(alloc, Mask::new_false(2), Mask::new_false(1))?;
-    assert!(rt; is_mask(alloc, &joined, &[false, false, false])?);
-    Ok(())
+    let joined = both(alloc, Mask::new_true(2), Mask::new_true(1)).expect(&rt, "made");
+    assert!(rt; is_mask(alloc, &joined, &[true, true, true]).expect(&rt, "made"));
+    let joined = both(alloc, Mask::new_false(2), Mask::new_false(1)).expect(&rt, "made");
+    assert!(rt; is_mask(alloc, &joined, &[false, false, false]).expect(&rt, "made"));
 }
 
 #[test]
-fn no_masks_joined(rt: HostRuntime) -> Result<(), VortexError> {
-    assert!(rt; Mask::concat(rt.alloc(), &[])? == Mask::new_true(0));
-    Ok(())
+fn no_masks_joined(rt: HostRuntime) {
+    assert!(rt; Mask::concat(rt.alloc(), &[]).expect(&rt, "made") == Mask::new_true(0));
 }
 
 #[test]
@@ -66,11 +65,10 @@ fn more_rows_than_can_be_counted(rt: HostRuntime) {
 }
 
 #[test]
-fn equal_masks(rt: HostRuntime) -> Result<(), VortexError> {
-    assert!(rt; is_mask(rt.alloc(), &Mask::new_true(2), &[true, true])?);
-    let mask = mask_of(rt.alloc(), &[true, false])?;
-    assert!(rt; !is_mask(rt.alloc(), &mask, &[false, true])?);
-    Ok(())
+fn equal_masks(rt: HostRuntime) {
+    assert!(rt; is_mask(rt.alloc(), &Mask::new_true(2), &[true, true]).expect(&rt, "made"));
+    let mask = mask_of(rt.alloc(), &[true, false]).expect(&rt, "made");
+    assert!(rt; !is_mask(rt.alloc(), &mask, &[false, true]).expect(&rt, "made"));
 }
 
 #[test]
@@ -126,13 +124,17 @@ fn has_runs(mask: &Mask, want: &[(usize, usize)]) -> bool {
 }
 
 #[test]
-fn runs_of_masks(rt: HostRuntime) -> Result<(), VortexError> {
-    let mask = mask_of(rt.alloc(), &[true, false, true, true])?;
+fn runs_of_masks(rt: HostRuntime) {
+    let mask = mask_of(rt.alloc(), &[true, false, true, true]).expect(&rt, "made");
     assert!(rt; has_runs(&mask, &[(0, 1), (2, 4)]));
     assert_eq!(rt; mask.len(), 4);
     assert!(rt; mask.true_count() == 3 && mask.value(3) && !mask.value(1));
-    assert!(rt; mask_of(rt.alloc(), &[true, true, true])?.values().is_none());
-    Ok(())
+    assert!(rt;
+        mask_of(rt.alloc(), &[true, true, true])
+            .expect(&rt, "made")
+            .values()
+            .is_none()
+    );
 }
 
 #[test]
@@ -142,60 +144,60 @@ fn runs_of_even_masks(rt: HostRuntime) {
 }
 
 #[test]
-fn runs_of_an_alternating_mask(rt: HostRuntime) -> Result<(), VortexError> {
-    let mut bools = vec![in rt.alloc(); false; 1000]?;
+fn runs_of_an_alternating_mask(rt: HostRuntime) {
+    let mut bools = vec![in rt.alloc(); false; 1000].expect(&rt, "made");
     for (row, value) in bools.iter_mut().enumerate() {
         *value = row % 2 == 0;
     }
-    let mask = mask_of(rt.alloc(), &bools)?;
+    let mask = mask_of(rt.alloc(), &bools).expect(&rt, "made");
     assert_eq!(rt; mask.runs().len(), 500);
     assert_eq!(rt; mask.len(), 1000);
     let mut rows = mask.rows();
     assert!(rt; rows.value(0) && !rows.value(1) && rows.value(2) && !rows.value(999));
     assert!(rt; mask.value(998) && !mask.value(501));
-    Ok(())
 }
 
 #[test]
-fn runs_that_touch_are_joined(rt: HostRuntime) -> Result<(), VortexError> {
+fn runs_that_touch_are_joined(rt: HostRuntime) {
     let alloc = rt.alloc();
     let apart = both(
         alloc,
-        mask_of(alloc, &[true, false])?,
-        mask_of(alloc, &[false, true])?,
-    )?;
+        mask_of(alloc, &[true, false]).expect(&rt, "made"),
+        mask_of(alloc, &[false, true]).expect(&rt, "made"),
+    )
+    .expect(&rt, "made");
     assert!(rt; has_runs(&apart, &[(0, 1), (3, 4)]));
     let joined = both(
         alloc,
-        mask_of(alloc, &[false, true])?,
-        mask_of(alloc, &[true, false])?,
-    )?;
+        mask_of(alloc, &[false, true]).expect(&rt, "made"),
+        mask_of(alloc, &[true, false]).expect(&rt, "made"),
+    )
+    .expect(&rt, "made");
     assert!(rt; has_runs(&joined, &[(1, 3)]));
-    Ok(())
 }
 
 #[test]
-fn masks_of_runs(rt: HostRuntime) -> Result<(), VortexError> {
+fn masks_of_runs(rt: HostRuntime) {
     let alloc = rt.alloc();
-    let mask = Mask::from_runs(4, vec![in alloc; (0, 1), (2, 4)]?);
-    assert!(rt; is_mask(alloc, &mask, &[true, false, true, true])?);
-    assert!(rt; Mask::from_runs(3, vec![in alloc; (0, 3)]?) == Mask::new_true(3));
+    let mask = Mask::from_runs(4, vec![in alloc; (0, 1), (2, 4)].expect(&rt, "made"));
+    assert!(rt; is_mask(alloc, &mask, &[true, false, true, true]).expect(&rt, "made"));
+    assert!(rt;
+        Mask::from_runs(3, vec![in alloc; (0, 3)].expect(&rt, "made")) == Mask::new_true(3)
+    );
     assert!(rt; Mask::from_runs(3, Vec::new(alloc)) == Mask::new_false(3));
-    Ok(())
 }
 
 #[test]
-fn rows_true_in_both(rt: HostRuntime) -> Result<(), VortexError> {
+fn rows_true_in_both(rt: HostRuntime) {
     let alloc = rt.alloc();
-    let first = mask_of(alloc, &[true, true, false, true, true, true])?;
-    let second = mask_of(alloc, &[false, true, true, true, false, true])?;
+    let first = mask_of(alloc, &[true, true, false, true, true, true]).expect(&rt, "made");
+    let second = mask_of(alloc, &[false, true, true, true, false, true]).expect(&rt, "made");
     assert_eq!(rt; first.len(), 6);
     assert_eq!(rt; second.len(), 6);
-    let shared = first.and(alloc, &second)?;
+    let shared = first.and(alloc, &second).expect(&rt, "made");
     assert!(rt; has_runs(&shared, &[(1, 2), (3, 4), (5, 6)]));
-    assert!(rt; first.and(alloc, &Mask::new_true(6))? == first);
-    assert!(rt; first.and(alloc, &Mask::new_false(6))? == Mask::new_false(6));
-    Ok(())
+    assert!(rt; first.and(alloc, &Mask::new_true(6)).expect(&rt, "made") == first);
+    assert!(rt; first.and(alloc, &Mask::new_false(6)).expect(&rt, "made") == Mask::new_false(6));
 }
 
 #[test]
@@ -227,17 +229,18 @@ fn masks_of_bits_at_an_offset(rt: HostRuntime) -> Result<(), VortexError> {
 }
 
 #[test]
-fn bits_of_valid_rows(rt: HostRuntime) -> Result<(), VortexError> {
+fn bits_of_valid_rows(rt: HostRuntime) {
     let alloc = rt.alloc();
-    let bits = BitBuffer::from_bools(alloc, &[true, true, false, true, true, true])?;
-    let valid = mask_of(alloc, &[false, true, true, true, false, true])?;
+    let bits = BitBuffer::from_bools(alloc, &[true, true, false, true, true, true]).expect(
+        &rt, "made",
+    );
+    let valid = mask_of(alloc, &[false, true, true, true, false, true]).expect(&rt, "made");
     assert_eq!(rt; bits.len(), 6);
     assert_eq!(rt; valid.len(), 6);
-    let told = Mask::from_buffer_within(alloc, &bits, &valid)?;
+    let told = Mask::from_buffer_within(alloc, &bits, &valid).expect(&rt, "made");
     assert!(rt; has_runs(&told, &[(1, 2), (3, 4), (5, 6)]));
-    let told = Mask::from_buffer_within(alloc, &bits, &Mask::new_true(6))?;
+    let told = Mask::from_buffer_within(alloc, &bits, &Mask::new_true(6)).expect(&rt, "made");
     assert!(rt; has_runs(&told, &[(0, 2), (3, 6)]));
-    let told = Mask::from_buffer_within(alloc, &bits, &Mask::new_false(6))?;
+    let told = Mask::from_buffer_within(alloc, &bits, &Mask::new_false(6)).expect(&rt, "made");
     assert!(rt; told == Mask::new_false(6));
-    Ok(())
 }

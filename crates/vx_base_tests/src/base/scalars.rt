@@ -47,13 +47,12 @@ fn names_of_fields(rt: HostRuntime) -> Result<(), VortexError> {
 }
 
 #[test]
-fn data_types_are_equal(rt: HostRuntime) -> Result<(), VortexError> {
-    let first = parcel(rt.alloc())?;
-    let second = parcel(rt.alloc())?;
+fn data_types_are_equal(rt: HostRuntime) {
+    let first = parcel(rt.alloc()).expect(&rt, "made");
+    let second = parcel(rt.alloc()).expect(&rt, "made");
     assert!(rt; first == second);
     assert!(rt; first != second.with_nullability(Nullability::Nullable));
     assert!(rt; DType::Utf8(Nullability::Nullable) != DType::Binary(Nullability::Nullable));
-    Ok(())
 }
 
 // A parcel named `crate` of that size.
@@ -63,10 +62,9 @@ fn parcel_of(alloc: Global, size: i128) -> Result<Scalar, VortexError> {
 }
 
 #[test]
-fn records_fit(rt: HostRuntime) -> Result<(), VortexError> {
-    let scalar = parcel_of(rt.alloc(), -3)?;
-    assert!(rt; !scalar.is_null() && scalar.try_clone(rt.alloc())?.is_valid());
-    Ok(())
+fn records_fit(rt: HostRuntime) {
+    let scalar = parcel_of(rt.alloc(), -3).expect(&rt, "made");
+    assert!(rt; !scalar.is_null() && scalar.try_clone(rt.alloc()).expect(&rt, "made").is_valid());
 }
 
 #[test]
@@ -76,14 +74,13 @@ fn records_of_a_number_past_its_type_do_not_fit(rt: HostRuntime) {
 }
 
 #[test]
-fn texts_fit(rt: HostRuntime) -> Result<(), VortexError> {
+fn texts_fit(rt: HostRuntime) {
     let dtype = DType::Utf8(Nullability::NonNullable);
-    let broken = ByteBuffer::copy_from(rt.alloc(), &[0x6f, 0xff])?;
+    let broken = ByteBuffer::copy_from(rt.alloc(), &[0x6f, 0xff]).expect(&rt, "made");
     let refused = Scalar::try_new(dtype, Some(ScalarValue::Text(broken))).err();
     assert!(rt; refused == Some(VortexError::MismatchedTypes));
     let null = Scalar::try_new(DType::Utf8(Nullability::NonNullable), None).err();
     assert!(rt; null == Some(VortexError::MismatchedTypes));
-    Ok(())
 }
 
 #[test]
@@ -115,10 +112,11 @@ fn defaults(rt: HostRuntime) -> Result<(), VortexError> {
 }
 
 #[test]
-fn default_of_what_may_be_null(rt: HostRuntime) -> Result<(), VortexError> {
-    let null = Scalar::default_value(rt.alloc(), DType::Binary(Nullability::Nullable))?;
+fn default_of_what_may_be_null(rt: HostRuntime) {
+    let null = Scalar::default_value(rt.alloc(), DType::Binary(Nullability::Nullable)).expect(
+        &rt, "made",
+    );
     assert!(rt; null.is_null());
-    Ok(())
 }
 
 #[test]

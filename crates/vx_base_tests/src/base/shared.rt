@@ -25,30 +25,36 @@ fn fields_of_a_data_type(rt: HostRuntime) -> Result<(), VortexError> {
 }
 
 #[test]
-fn items_of_a_buffer(rt: HostRuntime) -> Result<(), VortexError> {
-    let alone = Buffer::from_vec(rt.alloc(), vec![in rt.alloc(); 5u16, 6, 7]?)?;
-    let part = alone.slice(rt.alloc(), 1..3)?;
-    assert!(rt; alone.into_vec(rt.alloc())?.as_slice() == [5, 6, 7].as_slice());
-    assert!(rt; part.into_vec(rt.alloc())?.as_slice() == [6, 7].as_slice());
-    Ok(())
+fn items_of_a_buffer(rt: HostRuntime) {
+    let alone = Buffer::from_vec(
+        rt.alloc(),
+        vec![in rt.alloc(); 5u16, 6, 7].expect(&rt, "made"),
+    )
+    .expect(&rt, "made");
+    let part = alone.slice(rt.alloc(), 1..3).expect(&rt, "made");
+    assert!(rt; alone.into_vec(rt.alloc()).expect(&rt, "made").as_slice() == [5, 6, 7].as_slice());
+    assert!(rt; part.into_vec(rt.alloc()).expect(&rt, "made").as_slice() == [6, 7].as_slice());
 }
 
 #[test]
-fn runs_of_a_mask_of_runs(rt: HostRuntime) -> Result<(), VortexError> {
-    let all = Mask::new_true(4).true_runs(rt.alloc())?;
+fn runs_of_a_mask_of_runs(rt: HostRuntime) {
+    let all = Mask::new_true(4).true_runs(rt.alloc()).expect(&rt, "made");
     assert!(rt; all.as_slice() == [(0, 4)].as_slice());
-    assert!(rt; Mask::new_false(4).true_runs(rt.alloc())?.is_empty());
-    Ok(())
+    assert!(rt;
+        Mask::new_false(4)
+            .true_runs(rt.alloc())
+            .expect(&rt, "made")
+            .is_empty()
+    );
 }
 
 #[test]
-fn null_and_default_rows(rt: HostRuntime) -> Result<(), VortexError> {
+fn null_and_default_rows(rt: HostRuntime) {
     let null = Scalar::null(DType::Utf8(Nullability::Nullable));
     assert!(rt; null.is_null() && !null.is_valid());
     let number = DType::Primitive(PType::U8, Nullability::NonNullable);
-    let zero = Scalar::default_value(rt.alloc(), number)?;
+    let zero = Scalar::default_value(rt.alloc(), number).expect(&rt, "made");
     assert!(rt; zero.as_int() == Some(0) && zero.is_valid());
-    Ok(())
 }
 
 #[test]

@@ -36,63 +36,61 @@ fn place_of(view: BinaryView) -> Option<(u32, u32)> {
 }
 
 #[test]
-fn a_buffer_ends_where_the_next_value_would_pass_the_limit(rt: HostRuntime) -> Result<(), Fail> {
-    let heap = ByteBuffer::copy_from(rt.alloc(), &LETTERS[..18])?;
-    let (buffers, _) = build_views(rt.alloc(), 0, 10, heap, &[6u8, 5, 4, 3])?;
+fn a_buffer_ends_where_the_next_value_would_pass_the_limit(rt: HostRuntime) {
+    let heap = ByteBuffer::copy_from(rt.alloc(), &LETTERS[..18]).expect(&rt, "made");
+    let (buffers, _) = build_views(rt.alloc(), 0, 10, heap, &[6u8, 5, 4, 3]).expect(&rt, "made");
     assert_eq!(rt; buffers.len(), 3);
     assert_eq!(rt; buffers[0].len(), 6);
     assert_eq!(rt; buffers[1].len(), 9);
     assert_eq!(rt; buffers[2].len(), 3);
-    Ok(())
 }
 
 #[test]
-fn a_value_longer_than_the_limit(rt: HostRuntime) -> Result<(), Fail> {
-    let heap = ByteBuffer::copy_from(rt.alloc(), &LETTERS[..18])?;
+fn a_value_longer_than_the_limit(rt: HostRuntime) {
+    let heap = ByteBuffer::copy_from(rt.alloc(), &LETTERS[..18]).expect(&rt, "made");
     let made = build_views(rt.alloc(), 0, 5, heap, &[6u8, 5, 4, 3]);
     assert_eq!(rt; refusal(made), Some(VortexError::ValueTooLong { row: 0 }));
-    Ok(())
 }
 
 #[test]
-fn lengths_that_are_not_the_heap(rt: HostRuntime) -> Result<(), Fail> {
-    let heap = ByteBuffer::copy_from(rt.alloc(), &LETTERS[..18])?;
+fn lengths_that_are_not_the_heap(rt: HostRuntime) {
+    let heap = ByteBuffer::copy_from(rt.alloc(), &LETTERS[..18]).expect(&rt, "made");
     let made = build_views(rt.alloc(), 0, 10, heap, &[6u8, 5]);
     assert_eq!(rt; refusal(made), Some(VortexError::LengthsNotExact));
-    Ok(())
 }
 
 #[test]
-fn a_limit_past_the_greatest(rt: HostRuntime) -> Result<(), Fail> {
-    let heap = ByteBuffer::copy_from(rt.alloc(), &LETTERS[..18])?;
+fn a_limit_past_the_greatest(rt: HostRuntime) {
+    let heap = ByteBuffer::copy_from(rt.alloc(), &LETTERS[..18]).expect(&rt, "made");
     let made = build_views(rt.alloc(), 0, 4294967296, heap, &[6u8, 5, 4, 3]);
     assert_eq!(rt; refusal(made), Some(VortexError::LimitTooLarge));
-    Ok(())
 }
 
 #[test]
-fn the_greatest_limit(rt: HostRuntime) -> Result<(), Fail> {
-    let heap = ByteBuffer::copy_from(rt.alloc(), b"abc")?;
-    let (buffers, views) = build_views(rt.alloc(), 0, MAX_BUFFER_LEN, heap, &[3u8])?;
+fn the_greatest_limit(rt: HostRuntime) {
+    let heap = ByteBuffer::copy_from(rt.alloc(), b"abc").expect(&rt, "made");
+    let (buffers, views) = build_views(rt.alloc(), 0, MAX_BUFFER_LEN, heap, &[3u8]).expect(
+        &rt, "made",
+    );
     assert!(rt; buffers.len() == 1 && views.len() == 1);
     assert_eq!(rt; buffers[0].len(), 3);
-    Ok(())
 }
 
 #[test]
-fn nothing(rt: HostRuntime) -> Result<(), Fail> {
-    let heap = ByteBuffer::copy_from(rt.alloc(), &[])?;
+fn nothing(rt: HostRuntime) {
+    let heap = ByteBuffer::copy_from(rt.alloc(), &[]).expect(&rt, "made");
     let none: [u32; 0] = [];
-    let (buffers, views) = build_views(rt.alloc(), 0, 10, heap, &none)?;
+    let (buffers, views) = build_views(rt.alloc(), 0, 10, heap, &none).expect(&rt, "made");
     assert_eq!(rt; buffers.len(), 0);
     assert_eq!(rt; views.len(), 0);
-    Ok(())
 }
 
 #[test]
-fn views_name_their_buffers(rt: HostRuntime) -> Result<(), Fail> {
-    let heap = ByteBuffer::copy_from(rt.alloc(), LETTERS)?;
-    let (buffers, views) = build_views(rt.alloc(), 0, 26, heap, &[13u32, 13, 13, 13])?;
+fn views_name_their_buffers(rt: HostRuntime) {
+    let heap = ByteBuffer::copy_from(rt.alloc(), LETTERS).expect(&rt, "made");
+    let (buffers, views) = build_views(rt.alloc(), 0, 26, heap, &[13u32, 13, 13, 13]).expect(
+        &rt, "made",
+    );
     assert_eq!(rt; buffers.len(), 2);
     assert_eq!(rt; buffers[0].len(), 26);
     assert_eq!(rt; buffers[1].len(), 26);
@@ -102,57 +100,62 @@ fn views_name_their_buffers(rt: HostRuntime) -> Result<(), Fail> {
     assert_eq!(rt; place_of(views.value(2)), Some((1, 0)));
     assert_eq!(rt; place_of(views.value(3)), Some((1, 13)));
     assert_eq!(rt; views.value(2).as_u128(), THIRD);
-    Ok(())
 }
 
 #[test]
-fn a_full_buffer_is_not_cut(rt: HostRuntime) -> Result<(), Fail> {
-    let heap = ByteBuffer::copy_from(rt.alloc(), SENTENCES)?;
-    let (buffers, views) = build_views(rt.alloc(), 0, 52, heap, &[29u16, 23])?;
+fn a_full_buffer_is_not_cut(rt: HostRuntime) {
+    let heap = ByteBuffer::copy_from(rt.alloc(), SENTENCES).expect(&rt, "made");
+    let (buffers, views) = build_views(rt.alloc(), 0, 52, heap, &[29u16, 23]).expect(&rt, "made");
     assert_eq!(rt; buffers.len(), 1);
     assert_eq!(rt; buffers[0].len(), 52);
     assert_eq!(rt; views.len(), 2);
     assert_eq!(rt; place_of(views.value(0)), Some((0, 0)));
     assert_eq!(rt; place_of(views.value(1)), Some((0, 29)));
-    Ok(())
 }
 
 #[test]
-fn a_buffer_one_byte_short_is_cut(rt: HostRuntime) -> Result<(), Fail> {
-    let heap = ByteBuffer::copy_from(rt.alloc(), SENTENCES)?;
-    let (buffers, views) = build_views(rt.alloc(), 0, 51, heap, &[29u16, 23])?;
+fn a_buffer_one_byte_short_is_cut(rt: HostRuntime) {
+    let heap = ByteBuffer::copy_from(rt.alloc(), SENTENCES).expect(&rt, "made");
+    let (buffers, views) = build_views(rt.alloc(), 0, 51, heap, &[29u16, 23]).expect(&rt, "made");
     assert_eq!(rt; buffers.len(), 2);
     assert_eq!(rt; buffers[0].len(), 29);
     assert_eq!(rt; buffers[1].len(), 23);
     assert_eq!(rt; views.len(), 2);
     assert_eq!(rt; place_of(views.value(0)), Some((0, 0)));
     assert_eq!(rt; place_of(views.value(1)), Some((1, 0)));
-    Ok(())
 }
 
 #[test]
-fn places_past_sixteen_bits(rt: HostRuntime) -> Result<(), Fail> {
-    let heap = ByteBuffer::from_vec(rt.alloc(), vec![in rt.alloc(); 0; 9000000]?)?;
-    let lens = vec![in rt.alloc(); 1000u32; 9000]?;
-    let (buffers, views) = build_views(rt.alloc(), 0, MAX_BUFFER_LEN, heap, &lens)?;
+fn places_past_sixteen_bits(rt: HostRuntime) {
+    let heap = ByteBuffer::from_vec(
+        rt.alloc(),
+        vec![in rt.alloc(); 0; 9000000].expect(&rt, "made"),
+    )
+    .expect(&rt, "made");
+    let lens = vec![in rt.alloc(); 1000u32; 9000].expect(&rt, "made");
+    let (buffers, views) = build_views(rt.alloc(), 0, MAX_BUFFER_LEN, heap, &lens).expect(
+        &rt, "made",
+    );
     assert_eq!(rt; buffers.len(), 1);
     assert_eq!(rt; views.len(), 9000);
     assert_eq!(rt; place_of(views.value(66)), Some((0, 66000)));
     assert_eq!(rt; place_of(views.value(8999)), Some((0, 8999000)));
-    Ok(())
 }
 
 #[test]
-fn views_are_those_of_their_values(rt: HostRuntime) -> Result<(), Fail> {
-    let heap = ByteBuffer::copy_from(rt.alloc(), b"inlinethis is a long reference value")?;
-    let (_, views) = build_views(rt.alloc(), 0, MAX_BUFFER_LEN, heap, &[6u32, 30, 0])?;
+fn views_are_those_of_their_values(rt: HostRuntime) {
+    let heap = ByteBuffer::copy_from(rt.alloc(), b"inlinethis is a long reference value").expect(
+        &rt, "made",
+    );
+    let (_, views) = build_views(rt.alloc(), 0, MAX_BUFFER_LEN, heap, &[6u32, 30, 0]).expect(
+        &rt, "made",
+    );
     let expected = [
         BinaryView::make_view(b"inline", 0, 0),
         BinaryView::make_view(b"this is a long reference value", 0, 6),
         BinaryView::make_view(b"", 0, 36),
     ];
     assert_eq!(rt; views.as_slice(), expected.as_slice());
-    Ok(())
 }
 
 // The buffers and views of the part of the text between its offsets.
@@ -169,47 +172,49 @@ fn built_by_offsets(alloc: Global) -> Result<(Vec<ByteBuffer>, Buffer<BinaryView
 }
 
 #[test]
-fn offsets_build_as_their_lengths_do(rt: HostRuntime) -> Result<(), Fail> {
-    let (cut, views) = built_by_offsets(rt.alloc())?;
-    let (others, same) = built_of_a_part(rt.alloc())?;
+fn offsets_build_as_their_lengths_do(rt: HostRuntime) {
+    let (cut, views) = built_by_offsets(rt.alloc()).expect(&rt, "made");
+    let (others, same) = built_of_a_part(rt.alloc()).expect(&rt, "made");
     assert!(rt; views.as_slice() == same.as_slice() && cut.len() == 2 && others.len() == 2);
     assert!(rt; cut[0].as_slice() == others[0].as_slice());
     assert!(rt; cut[1].as_slice() == b"tiny".as_slice());
-    Ok(())
 }
 
 #[test]
-fn the_last_number_is_passed(rt: HostRuntime) -> Result<(), Fail> {
-    let heap = ByteBuffer::copy_from(rt.alloc(), LETTERS)?;
+fn the_last_number_is_passed(rt: HostRuntime) {
+    let heap = ByteBuffer::copy_from(rt.alloc(), LETTERS).expect(&rt, "made");
     let made = build_views(rt.alloc(), 4294967295, 26, heap, &[13u32, 13, 13, 13]);
     assert_eq!(rt; refusal(made), Some(VortexError::Overflow));
-    Ok(())
 }
 
 #[test]
-fn the_last_number_is_named(rt: HostRuntime) -> Result<(), Fail> {
-    let heap = ByteBuffer::copy_from(rt.alloc(), LETTERS)?;
-    let (buffers, views) = build_views(rt.alloc(), 4294967295, 52, heap, &[13u32, 13, 13, 13])?;
+fn the_last_number_is_named(rt: HostRuntime) {
+    let heap = ByteBuffer::copy_from(rt.alloc(), LETTERS).expect(&rt, "made");
+    let (buffers, views) = build_views(
+        rt.alloc(),
+        4294967295,
+        52,
+        heap,
+        &[13u32, 13, 13, 13],
+    ).expect(&rt, "made");
     assert_eq!(rt; buffers.len(), 1);
     assert_eq!(rt; views.len(), 4);
     assert_eq!(rt;
         views.value(0).as_u128(),
         0x00000000_ffffffff_61616161_0000000d
     );
-    Ok(())
 }
 
 #[test]
-fn a_negative_length(rt: HostRuntime) -> Result<(), Fail> {
-    let heap = ByteBuffer::copy_from(rt.alloc(), &LETTERS[..3])?;
+fn a_negative_length(rt: HostRuntime) {
+    let heap = ByteBuffer::copy_from(rt.alloc(), &LETTERS[..3]).expect(&rt, "made");
     let made = build_views(rt.alloc(), 0, 10, heap, &[-1i8]);
     assert_eq!(rt; refusal(made), Some(VortexError::Negative { row: 0 }));
-    Ok(())
 }
 
 #[test]
-fn a_last_offset_past_the_heap(rt: HostRuntime) -> Result<(), Fail> {
-    let heap = ByteBuffer::copy_from(rt.alloc(), TEXT)?;
+fn a_last_offset_past_the_heap(rt: HostRuntime) {
+    let heap = ByteBuffer::copy_from(rt.alloc(), TEXT).expect(&rt, "made");
     let made = build_views_from_offsets(rt.alloc(), 0, 100, heap, &[2u32, 34, 41]);
     assert!(rt;
         matches!(
@@ -217,21 +222,25 @@ fn a_last_offset_past_the_heap(rt: HostRuntime) -> Result<(), Fail> {
             Some(VortexError::OutOfBounds { index: 41, .. })
         )
     );
-    Ok(())
 }
 
 #[test]
-fn a_negative_offset(rt: HostRuntime) -> Result<(), Fail> {
-    let heap = ByteBuffer::copy_from(rt.alloc(), TEXT)?;
+fn a_negative_offset(rt: HostRuntime) {
+    let heap = ByteBuffer::copy_from(rt.alloc(), TEXT).expect(&rt, "made");
     let made = build_views_from_offsets(rt.alloc(), 0, 100, heap, &[-1i32, 3]);
     assert_eq!(rt; refusal(made), Some(VortexError::Negative { row: 0 }));
-    Ok(())
 }
 
 #[test]
-fn the_part_between_the_offsets(rt: HostRuntime) -> Result<(), Fail> {
-    let heap = ByteBuffer::copy_from(rt.alloc(), TEXT)?;
-    let (buffers, views) = build_views_from_offsets(rt.alloc(), 5, 40, heap, &[2u32, 34, 38])?;
+fn the_part_between_the_offsets(rt: HostRuntime) {
+    let heap = ByteBuffer::copy_from(rt.alloc(), TEXT).expect(&rt, "made");
+    let (buffers, views) = build_views_from_offsets(
+        rt.alloc(),
+        5,
+        40,
+        heap,
+        &[2u32, 34, 38],
+    ).expect(&rt, "made");
     assert_eq!(rt; buffers.len(), 1);
     assert_eq!(rt; buffers[0].len(), 36);
     assert_eq!(rt; buffers[0].as_slice(), &TEXT[2..38]);
@@ -243,29 +252,25 @@ fn the_part_between_the_offsets(rt: HostRuntime) -> Result<(), Fail> {
         0x00000000_00000005_6f6c2061_00000020
     );
     assert_eq!(rt; views.value(1), BinaryView::make_view(b"tiny", 0, 0));
-    Ok(())
 }
 
 #[test]
-fn a_falling_offset(rt: HostRuntime) -> Result<(), Fail> {
-    let heap = ByteBuffer::copy_from(rt.alloc(), TEXT)?;
+fn a_falling_offset(rt: HostRuntime) {
+    let heap = ByteBuffer::copy_from(rt.alloc(), TEXT).expect(&rt, "made");
     let made = build_views_from_offsets(rt.alloc(), 0, 100, heap, &[2u32, 34, 33]);
     assert_eq!(rt; refusal(made), Some(VortexError::FallingOffsets { row: 2 }));
-    Ok(())
 }
 
 #[test]
-fn no_offset(rt: HostRuntime) -> Result<(), Fail> {
-    let heap = ByteBuffer::copy_from(rt.alloc(), TEXT)?;
+fn no_offset(rt: HostRuntime) {
+    let heap = ByteBuffer::copy_from(rt.alloc(), TEXT).expect(&rt, "made");
     let none: [u32; 0] = [];
     let made = build_views_from_offsets(rt.alloc(), 0, 100, heap, &none);
     assert_eq!(rt; refusal(made), Some(VortexError::EmptyInput));
-    Ok(())
 }
 
 #[test]
-fn lengths_between_offsets(rt: HostRuntime) -> Result<(), Fail> {
-    let lengths = offsets_to_lengths(rt.alloc(), &[2u32, 34, 38])?;
+fn lengths_between_offsets(rt: HostRuntime) {
+    let lengths = offsets_to_lengths(rt.alloc(), &[2u32, 34, 38]).expect(&rt, "made");
     assert_eq!(rt; lengths.as_slice(), [32, 4].as_slice());
-    Ok(())
 }

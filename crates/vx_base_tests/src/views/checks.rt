@@ -103,11 +103,13 @@ fn a_buffer_within_the_budget_is_checked_whole(rt: HostRuntime) {
 }
 
 #[test]
-fn a_buffer_past_the_budget_is_left_out(rt: HostRuntime) -> Result<(), Fail> {
+fn a_buffer_past_the_budget_is_left_out(rt: HostRuntime) {
     let mut buffers = Vec::new(rt.alloc());
     for len in [20, 30, 10, 0, 1] {
-        let bytes = vec![in rt.alloc(); b'x'; len]?;
-        buffers.push(ByteBuffer::from_vec(rt.alloc(), bytes)?)?;
+        let bytes = vec![in rt.alloc(); b'x'; len].expect(&rt, "made");
+        buffers
+            .push(ByteBuffer::from_vec(rt.alloc(), bytes).expect(&rt, "made"))
+            .expect(&rt, "made");
     }
     let views = [
         BinaryView::new_ref(20, *b"xxxx", 0, 0),
@@ -125,7 +127,6 @@ fn a_buffer_past_the_budget_is_left_out(rt: HostRuntime) -> Result<(), Fail> {
     assert_eq!(rt; unasked, Ok(0));
     let null = check_views_counted(rt.alloc(), &views, &Mask::new_false(5), &buffers, true, 0);
     assert_eq!(rt; null, Ok(0));
-    Ok(())
 }
 
 #[test]
@@ -161,24 +162,23 @@ fn faulty_buffer(alloc: Global) -> Result<[ByteBuffer; 1], VortexError> {
 }
 
 #[test]
-fn the_first_faulty_row_is_named(rt: HostRuntime) -> Result<(), Fail> {
+fn the_first_faulty_row_is_named(rt: HostRuntime) {
     let views = faulty_views();
-    let buffers = faulty_buffer(rt.alloc())?;
+    let buffers = faulty_buffer(rt.alloc()).expect(&rt, "made");
     let all = Mask::new_true(4);
-    let some = mask_of(rt.alloc(), &[true, false, true, true])?;
+    let some = mask_of(rt.alloc(), &[true, false, true, true]).expect(&rt, "made");
     for budget in [0, 14] {
         let first = check_views_counted(rt.alloc(), &views, &all, &buffers, true, budget);
         assert_eq!(rt; first, Err(VortexError::NotUtf8 { row: 1 }));
         let second = check_views_counted(rt.alloc(), &views, &some, &buffers, true, budget);
         assert_eq!(rt; second, Err(VortexError::BadEnd { row: 2 }));
     }
-    Ok(())
 }
 
 #[test]
-fn the_first_valid_faulty_row_refuses(rt: HostRuntime) -> Result<(), Fail> {
+fn the_first_valid_faulty_row_refuses(rt: HostRuntime) {
     let views = faulty_views();
-    let buffers = faulty_buffer(rt.alloc())?;
+    let buffers = faulty_buffer(rt.alloc()).expect(&rt, "made");
     for (valid, text, answer) in [
         (
             [true, true, true, true],
@@ -203,20 +203,19 @@ fn the_first_valid_faulty_row_refuses(rt: HostRuntime) -> Result<(), Fail> {
         ),
         ([false, true, false, false], false, Ok(())),
     ] {
-        let mask = mask_of(rt.alloc(), &valid)?;
+        let mask = mask_of(rt.alloc(), &valid).expect(&rt, "made");
         for budget in [0, 14, usize::MAX] {
             let told = check_views(rt.alloc(), &views, &mask, &buffers, text, budget);
             assert_eq!(rt; told, answer);
         }
     }
-    Ok(())
 }
 
 #[test]
-fn ascii_is_checked_whole(rt: HostRuntime) -> Result<(), Fail> {
+fn ascii_is_checked_whole(rt: HostRuntime) {
     let buffers = [
-        ByteBuffer::copy_from(rt.alloc(), b"abcdefghijklmnopqrstuvwxyz")?,
-        ByteBuffer::empty(rt.alloc())?,
+        ByteBuffer::copy_from(rt.alloc(), b"abcdefghijklmnopqrstuvwxyz").expect(&rt, "made"),
+        ByteBuffer::empty(rt.alloc()).expect(&rt, "made"),
     ];
     let faulty = BinaryView::new_ref(13, *b"abcd", 0, 2);
     for (third, answer) in [
@@ -241,25 +240,23 @@ fn ascii_is_checked_whole(rt: HostRuntime) -> Result<(), Fail> {
         (faulty, Err(VortexError::BadPrefix { row: 2 })),
     ] {
         let views = [BinaryView::new_inlined(b"abc"), faulty, third];
-        let mask = mask_of(rt.alloc(), &[true, false, true])?;
+        let mask = mask_of(rt.alloc(), &[true, false, true]).expect(&rt, "made");
         let told = check_views_counted(rt.alloc(), &views, &mask, &buffers, true, 26);
         assert_eq!(rt; told, answer);
         let views = [views[0], views[0], third];
         let told = check_views_counted(rt.alloc(), &views, &mask, &buffers, true, 26);
         assert_eq!(rt; told, answer);
     }
-    Ok(())
 }
 
 #[test]
-fn null_rows_are_emptied(rt: HostRuntime) -> Result<(), Fail> {
+fn null_rows_are_emptied(rt: HostRuntime) {
     let mut views = faulty_views();
-    let buffers = faulty_buffer(rt.alloc())?;
-    let some = mask_of(rt.alloc(), &[true, false, false, true])?;
+    let buffers = faulty_buffer(rt.alloc()).expect(&rt, "made");
+    let some = mask_of(rt.alloc(), &[true, false, false, true]).expect(&rt, "made");
     let counted = check_and_empty_views(rt.alloc(), &mut views, &some, &buffers, true, 0);
     assert_eq!(rt; counted, Ok(1));
     let before = faulty_views();
     let empty = BinaryView::empty_view();
     assert_eq!(rt; views, [before[0], empty, empty, before[3]]);
-    Ok(())
 }

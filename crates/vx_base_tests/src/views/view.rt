@@ -156,21 +156,19 @@ fn hash_is_of_the_bytes(rt: HostRuntime) {
 }
 
 #[test]
-fn printed_views(rt: HostRuntime) -> Result<(), Fail> {
+fn printed_views(rt: HostRuntime) {
     let view = BinaryView::from(THIRTEEN);
-    let text = format!(in rt.alloc(); "{view:?}")?;
+    let text = format!(in rt.alloc(); "{view:?}").expect(&rt, "made");
     let want =
         "BinaryView { ref: Ref { size: 13, prefix: [99, 99, 99, 99], buffer_index: 1, offset: 0 } }";
     assert_eq!(rt; text.as_str(), want);
-    Ok(())
 }
 
 #[test]
-fn printed_inlined_views(rt: HostRuntime) -> Result<(), Fail> {
+fn printed_inlined_views(rt: HostRuntime) {
     let view = BinaryView::from(INLINE);
-    let text = format!(in rt.alloc(); "{view:?}")?;
+    let text = format!(in rt.alloc(); "{view:?}").expect(&rt, "made");
     let want =
         "BinaryView { inline: Inlined { size: 6, bytes: [105, 110, 108, 105, 110, 101, 0, 0, 0, 0, 0, 0] } }";
     assert_eq!(rt; text.as_str(), want);
-    Ok(())
 }

@@ -56,68 +56,88 @@ fn are_three(records: &StructArray) -> bool {
 }
 
 #[test]
-fn a_column_that_is_asked_to_fit(rt: HostRuntime) -> Result<(), Fail> {
-    let column = ints(rt.alloc(), &[7u8, 8, 9])?;
+fn a_column_that_is_asked_to_fit(rt: HostRuntime) {
+    let column = ints(rt.alloc(), &[7u8, 8, 9]).expect(&rt, "made");
     assert!(rt; column.len() == 3);
-    let records = asked(rt.alloc(), column)?;
+    let records = asked(rt.alloc(), column).expect(&rt, "made");
     assert!(rt; records.len() == 3 && records.fields().len() == 1);
     assert!(rt; has_numbers(records.unmasked_field(0), &[7, 8, 9]));
-    Ok(())
 }
 
 #[test]
-fn columns_under_names(rt: HostRuntime) -> Result<(), Fail> {
-    let names = FieldNames::try_new(rt.alloc(), &["a", "b", "c"])?;
+fn columns_under_names(rt: HostRuntime) {
+    let names = FieldNames::try_new(rt.alloc(), &["a", "b", "c"]).expect(&rt, "made");
     let items = Boasting {
-        items: columns(rt.alloc())?.into_iter(),
+        items: columns(rt.alloc()).expect(&rt, "made").into_iter(),
     };
-    let records = StructArray::try_new(rt.alloc(), names, items, 3, Validity::NonNullable)?;
+    let records = StructArray::try_new(rt.alloc(), names, items, 3, Validity::NonNullable).expect(
+        &rt, "made",
+    );
     assert!(rt; are_three(&records));
-    Ok(())
 }
 
 #[test]
-fn columns_of_data_types(rt: HostRuntime) -> Result<(), Fail> {
-    let like = StructArray::from_fields(rt.alloc(), &named_columns(rt.alloc())?)?;
-    let fields = like.struct_fields().try_clone(rt.alloc())?;
+fn columns_of_data_types(rt: HostRuntime) {
+    let like = StructArray::from_fields(
+        rt.alloc(),
+        &named_columns(rt.alloc()).expect(&rt, "made"),
+    ).expect(&rt, "made");
+    let fields = like
+        .struct_fields()
+        .try_clone(rt.alloc())
+        .expect(&rt, "made");
     let items = Boasting {
-        items: columns(rt.alloc())?.into_iter(),
+        items: columns(rt.alloc()).expect(&rt, "made").into_iter(),
     };
     let valid = Validity::AllValid;
-    let records = StructArray::try_new_with_dtype(rt.alloc(), items, fields, 3, valid)?;
+    let records = StructArray::try_new_with_dtype(rt.alloc(), items, fields, 3, valid).expect(
+        &rt, "made",
+    );
     assert!(rt; are_three(&records));
-    Ok(())
 }
 
 #[test]
-fn columns_with_their_names(rt: HostRuntime) -> Result<(), Fail> {
+fn columns_with_their_names(rt: HostRuntime) {
     let items = Boasting {
-        items: named_columns(rt.alloc())?.into_iter(),
+        items: named_columns(rt.alloc()).expect(&rt, "made").into_iter(),
     };
-    assert!(rt; are_three(&StructArray::try_from_iter(rt.alloc(), items)?));
-    Ok(())
+    assert!(rt; are_three(&StructArray::try_from_iter(rt.alloc(), items).expect(&rt, "made")));
 }
 
 #[test]
-fn columns_and_a_validity(rt: HostRuntime) -> Result<(), Fail> {
+fn columns_and_a_validity(rt: HostRuntime) {
     let items = Boasting {
-        items: named_columns(rt.alloc())?.into_iter(),
+        items: named_columns(rt.alloc()).expect(&rt, "made").into_iter(),
     };
     let null = Validity::AllInvalid;
-    let records = StructArray::try_from_iter_with_validity(rt.alloc(), items, null)?;
-    assert!(rt; are_three(&records) && !records.as_array().is_valid(rt.alloc(), 0)?);
-    Ok(())
+    let records = StructArray::try_from_iter_with_validity(rt.alloc(), items, null).expect(
+        &rt, "made",
+    );
+    assert!(rt;
+        are_three(&records)
+            && !records
+                .as_array()
+                .is_valid(rt.alloc(), 0)
+                .expect(&rt, "made")
+    );
 }
 
 #[test]
-fn records_one_after_another(rt: HostRuntime) -> Result<(), Fail> {
-    let fields = vec![in rt.alloc(); ("a", ints(rt.alloc(), &[5u8])?)]?;
-    let one = StructArray::from_fields(rt.alloc(), &fields)?;
+fn records_one_after_another(rt: HostRuntime) {
+    let fields = vec![in rt.alloc(); ("a", ints(rt.alloc(), &[5u8]).expect(&rt, "made"))].expect(
+        &rt, "made",
+    );
+    let one = StructArray::from_fields(rt.alloc(), &fields).expect(&rt, "made");
     let chunks = [&one, &one, &one];
     let items = Boasting {
         items: chunks.iter().copied(),
     };
-    let all = StructArray::try_concat(rt.alloc(), items)?;
-    assert!(rt; all.len() == 3 && has_numbers(all.unmasked_field_by_name("a")?, &[5, 5, 5]));
-    Ok(())
+    let all = StructArray::try_concat(rt.alloc(), items).expect(&rt, "made");
+    assert!(rt;
+        all.len() == 3
+            && has_numbers(
+                all.unmasked_field_by_name("a").expect(&rt, "made"),
+                &[5, 5, 5]
+            )
+    );
 }

@@ -28,71 +28,78 @@ fn has_three(data: &VarBinViewData) -> bool {
 }
 
 #[test]
-fn texts(rt: HostRuntime) -> Result<(), Fail> {
+fn texts(rt: HostRuntime) {
     let texts = ["a", LONG, "end"];
     let items = Boasting {
         items: texts.iter().copied(),
     };
-    assert!(rt; are_three(&VarBinViewArray::from_iter_str(rt.alloc(), items)?));
+    assert!(rt; are_three(&VarBinViewArray::from_iter_str(rt.alloc(), items).expect(&rt, "made")));
     let items = Boasting {
         items: texts.iter().copied(),
     };
-    assert!(rt; has_three(&VarBinViewData::from_iter_str(rt.alloc(), items)?));
-    Ok(())
+    assert!(rt; has_three(&VarBinViewData::from_iter_str(rt.alloc(), items).expect(&rt, "made")));
 }
 
 #[test]
-fn texts_that_may_be_none(rt: HostRuntime) -> Result<(), Fail> {
+fn texts_that_may_be_none(rt: HostRuntime) {
     let texts = [None, Some(LONG), Some("end")];
     let items = Boasting {
         items: texts.iter().copied(),
     };
-    assert!(rt; are_three(&VarBinViewArray::from_iter_nullable_str(rt.alloc(), items)?));
+    assert!(rt;
+        are_three(&VarBinViewArray::from_iter_nullable_str(rt.alloc(), items).expect(&rt, "made"))
+    );
     let items = Boasting {
         items: texts.iter().copied(),
     };
-    assert!(rt; has_three(&VarBinViewData::from_iter_nullable_str(rt.alloc(), items)?));
-    Ok(())
+    assert!(rt;
+        has_three(&VarBinViewData::from_iter_nullable_str(rt.alloc(), items).expect(&rt, "made"))
+    );
 }
 
 #[test]
-fn byte_lists(rt: HostRuntime) -> Result<(), Fail> {
+fn byte_lists(rt: HostRuntime) {
     let bytes = [b"\xFF".as_slice(), LONG.as_bytes(), b"end".as_slice()];
     let items = Boasting {
         items: bytes.iter().copied(),
     };
-    assert!(rt; are_three(&VarBinViewArray::from_iter_bin(rt.alloc(), items)?));
+    assert!(rt; are_three(&VarBinViewArray::from_iter_bin(rt.alloc(), items).expect(&rt, "made")));
     let items = Boasting {
         items: bytes.iter().copied(),
     };
-    assert!(rt; has_three(&VarBinViewData::from_iter_bin(rt.alloc(), items)?));
-    Ok(())
+    assert!(rt; has_three(&VarBinViewData::from_iter_bin(rt.alloc(), items).expect(&rt, "made")));
 }
 
 #[test]
-fn byte_lists_that_may_be_none(rt: HostRuntime) -> Result<(), Fail> {
+fn byte_lists_that_may_be_none(rt: HostRuntime) {
     let bytes = [None, Some(LONG.as_bytes()), Some(b"end".as_slice())];
     let items = Boasting {
         items: bytes.iter().copied(),
     };
-    assert!(rt; are_three(&VarBinViewArray::from_iter_nullable_bin(rt.alloc(), items)?));
+    assert!(rt;
+        are_three(&VarBinViewArray::from_iter_nullable_bin(rt.alloc(), items).expect(&rt, "made"))
+    );
     let items = Boasting {
         items: bytes.iter().copied(),
     };
-    assert!(rt; has_three(&VarBinViewData::from_iter_nullable_bin(rt.alloc(), items)?));
-    Ok(())
+    assert!(rt;
+        has_three(&VarBinViewData::from_iter_nullable_bin(rt.alloc(), items).expect(&rt, "made"))
+    );
 }
 
 #[test]
-fn items_of_a_data_type(rt: HostRuntime) -> Result<(), Fail> {
+fn items_of_a_data_type(rt: HostRuntime) {
     let bytes = [None, Some(LONG.as_bytes()), Some(b"end".as_slice())];
     let items = Boasting {
         items: bytes.iter().copied(),
     };
-    assert!(rt; are_three(&VarBinViewArray::from_iter(rt.alloc(), items, SOME_BYTES)?));
+    assert!(rt;
+        are_three(&VarBinViewArray::from_iter(rt.alloc(), items, SOME_BYTES).expect(&rt, "made"))
+    );
     let items = Boasting {
         items: bytes.iter().copied(),
     };
-    assert!(rt; has_three(&VarBinViewData::from_iter(rt.alloc(), items, SOME_BYTES)?));
-    Ok(())
+    assert!(rt;
+        has_three(&VarBinViewData::from_iter(rt.alloc(), items, SOME_BYTES).expect(&rt, "made"))
+    );
 }

@@ -9,13 +9,14 @@ use Rattle.vx_base.specs.Kinds.{Kind, records, Kinds, is_nullable_kind}
 use Rattle.vx_base.specs.Rows.{null, record_of}
 use Rattle.vx_tree.specs.Canonical.{IsCanonical}
 use Rattle.vx_tree.specs.Concatenated.{are_alike, plain_fault}
+use Rattle.vx_tree.specs.Extents.{joined_extent}
 use Rattle.vx_tree.specs.Formed.{WellFormed}
 use Rattle.vx_tree.specs.Joined.{joined_len, joined_row, columns_in, column_at, column_of, IsJoined, IsValidJoined, AreRecords, AreColumnsJoined}
 use Rattle.vx_tree.specs.Layouts.{is_struct}
 use Rattle.vx_tree.specs.Meaning.{tree_len, kind_of, kinds_of, trees_from, row_at, rows, fields_at, is_valid_at, nullable}
 use Rattle.vx_tree.specs.Tree.{Tree, structure, Trees, Valid}
 use Rattle.vx_tree.proofs.Canonical.{rows_canonical}
-use Rattle.vx_tree.proofs.Concatenated.{alike_kinds, plain_states, rows_joined}
+use Rattle.vx_tree.proofs.Concatenated.{alike_kinds, plain_states, extents_same, rows_joined}
 use Rattle.vx_tree.proofs.JoinedLeaves.{shown}
 use Rattle.vx_tree.proofs.JoinedParts.{columns-kinds}
 use Rattle.vx_tree.proofs.JoinedRecords.{records_joined}
@@ -55,6 +56,7 @@ concat_joined ts ps r plain made =
       kind = refl;
       plain = made.plain;
       state = λ some. made.state ∙ plain_states ts ps plain;
+      extent = made.extent ∙ ap (joined_extent (kind_of r)) (extents_same ts ps plain);
       flag = made.flag;
       rows = λ i l.
           sym (get_or-rows r i null (omega (arith, len))) ∙ ap (λ rs. get_or rs i null) same ∙ sym (rows_listed ts i l);
@@ -146,6 +148,7 @@ records_concatenated ns ks n len ts made rs v plain are alike some count joined 
             concat_rows (map (column_of c) ts) (at_place c made) (column_at (trees_from rs) c) (plain_at_place c ts made plain) (joined.each c within)
             ∙ flat_map-map rows (column_of c) ts;
         state = whole.0.state some;
+        extent = whole.0.extent;
         plain = whole.0.plain;
       },
       whole.1,

@@ -7,6 +7,7 @@ use Rattle.vx_base.specs.Kinds.{is_nullable_kind}
 use Rattle.vx_base.specs.Refusals.{Refusal, first_fault}
 use Rattle.vx_tree.specs.Canonical.{IsCanonical}
 use Rattle.vx_tree.specs.Concatenated.{concat_fault}
+use Rattle.vx_tree.specs.Extents.{extent_of, joined_extent}
 use Rattle.vx_tree.specs.Flags.{is_flagged}
 use Rattle.vx_tree.specs.Formed.{WellFormed}
 use Rattle.vx_tree.specs.Joined.{column_at, joined_state, IsValidJoined}
@@ -39,12 +40,13 @@ at_place k made = map (λ columns. column_at (trees_from columns) k) made
 
 -- ---- one array after another
 
--- the rows of arrays, one array after another, in plain layout
+-- the rows of arrays, one array after another, in plain layout, with the elements and the buffers of all of them
 pub record IsConcat (ts : List Tree) (r : Tree) : Type 0 where
   pub same_rows : rows r ≡ flat_map rows ts
   pub kind : All (λ t. kind_of t ≡ kind_of r) ts
   pub plain : IsPlain r
   pub state : tree_state r ≡ joined_state ts
+  pub extent : extent_of r ≡ joined_extent (kind_of r) (map extent_of ts)
   pub flag : is_flagged r ≡ false
 
 -- those of the arrays at each of so many places

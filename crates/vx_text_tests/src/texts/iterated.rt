@@ -12,34 +12,6 @@ const LONG: &str = "this value is definitely long";
 
 const ALSO: &str = "and so is this one here";
 
-// One text so many times; its hint is of as many items as can be.
-#[derive(Drop)]
-struct Boasting<'a> {
-    text: &'a str,
-    left: u8,
-}
-
-impl<'a> Iterator for Boasting<'a> {
-    type Item = &'a str;
-
-    ghost use Rattle.std.specs.Prelude.{◌+◌, ◌^◌};
-    ghost use Rattle.std.specs.Iterator.{at_most};
-
-    ghost remaining = { λ s. at_most (2 ^ 64 + s.left) };
-
-    fn next(&mut self) -> Option<&'a str> {
-        if self.left == 0 {
-            return None;
-        }
-        self.left -= 1;
-        Some(self.text)
-    }
-
-    fn size_hint(&self) -> (usize, Option<usize>) {
-        (usize::MAX, None)
-    }
-}
-
 #[test]
 fn three_texts(rt: HostRuntime) -> Result<(), Fail> {
     let texts = [LONG, "tiny", ALSO];
@@ -111,13 +83,5 @@ fn no_items(rt: HostRuntime) -> Result<(), Fail> {
     let none: [Option<&str>; 0] = [];
     let data = VarBinViewData::from_iter_nullable_str(rt.alloc(), none.iter().copied())?;
     assert!(rt; data.is_empty() && data.data_buffers().is_empty());
-    Ok(())
-}
-
-#[test]
-fn hints_are_not_looked_at(rt: HostRuntime) -> Result<(), Fail> {
-    let boasting = Boasting { text: "a", left: 3 };
-    let array = VarBinViewArray::from_iter_str(rt.alloc(), boasting)?;
-    assert!(rt; array.len() == 3 && is_value(&array, 2, b"a"));
     Ok(())
 }

@@ -11,7 +11,7 @@ ghost use Rattle.vx_tree.specs.Meaning.{tree_len, kind_of, row_at, is_valid_at, 
 ghost use Rattle.vx_tree.specs.Joined.{joined_len, IsJoined, IsValidJoined, bits_in};
 ghost use Rattle.vx_tree.specs.Formed.{ValidFits};
 ghost use Rattle.vx_tree.specs.Parts.{valid_of};
-ghost use Rattle.vx_tree.specs.Canonical.{IsCanonical};
+ghost use Rattle.vx_tree.specs.Canonical.{IsCanonical, IsCanonicalAt};
 ghost use Rattle.vx_tree.specs.Operations.{IsSlice, IsSelected, IsNulled, IsNulls, AreBelow};
 
 use crate::array::{ArrayRef, Layout, Validity};
@@ -114,6 +114,20 @@ impl ArrayRef {
         };
         let validity = validity.canonical(alloc, bits.len())?;
         ArrayRef::bools(alloc, bits.try_clone(alloc)?, validity)
+    }
+
+    // The same of the rows that are picked.
+    pub(crate) fn canonical_bools_at(
+        &self,
+        alloc: Global,
+        selection: &Selection,
+    ) -> Result<ArrayRef, VortexError>
+        requires layout { is_bools self.now ≡ true }
+        requires within { AreBelow (tree_len self.now) selection.now }
+        ensures { Gives result (IsCanonicalAt self.now selection.now) }
+    {
+        let picked = self.select_bools(alloc, selection)?;
+        picked.canonical_bools(alloc)
     }
 
     // The value of row `i`, `None` where it is null.

@@ -1,6 +1,6 @@
 // One row, however often.
 
-ghost use Rattle.std.specs.Prelude.{◌≡◌, ◌<◌, ◌≤◌, ◌-◌, ◌∷◌, [], ℕ, true, false, length, IfOk};
+ghost use Rattle.std.specs.Prelude.{◌≡◌, ◌<◌, ◌≤◌, ◌-◌, ◌∷◌, [], ℕ, true, false, length, None, IfOk};
 ghost use Rattle.vx_base.specs.Kinds.{is_nullable_kind};
 ghost use Rattle.vx_base.specs.DTypes.{dtype_meaning};
 ghost use Rattle.vx_base.specs.Rows.{is_present, null};
@@ -15,7 +15,7 @@ ghost use Rattle.vx_tree.specs.Shapes.{state_of, row_state};
 ghost use Rattle.vx_tree.specs.Formed.{ValidFits};
 ghost use Rattle.vx_tree.specs.Parts.{valid_of};
 ghost use Rattle.vx_tree.specs.PlainValues.{rows_fault};
-ghost use Rattle.vx_tree.specs.Canonical.{IsCanonical, canonical_fault, plain_overflow};
+ghost use Rattle.vx_tree.specs.Canonical.{IsCanonical, IsCanonicalAt, canonical_fault, plain_overflow};
 ghost use Rattle.vx_tree.specs.Operations.{IsSlice, IsSelected, IsNulled, IsNulls, AreBelow};
 
 use crate::array::{ArrayRef, Layout, Validity};
@@ -136,6 +136,28 @@ impl ArrayRef {
             return Err(VortexError::Overflow);
         }
         Ok(row.select_within(alloc, &Selection::repeated(0, *len))?)
+    }
+
+    // The same, as often as rows are picked.
+    pub(crate) fn canonical_constant_at(
+        &self,
+        alloc: Global,
+        selection: &Selection,
+    ) -> Result<ArrayRef, VortexError>
+        requires layout { is_constant self.now ≡ true }
+        requires countable { plain_overflow (kind_of self.now) (length selection.now) ≡ None }
+        ensures ok { IfOk result (IsCanonicalAt self.now selection.now) }
+        ensures refuses { Refuses result (canonical_fault self.now) }
+    {
+        let Layout::Constant { scalar, len } = self.layout() else {
+            unreachable!();
+        };
+        if !is_countable(scalar.dtype(), *len) {
+            return Err(VortexError::Overflow);
+        }
+        let picked = ArrayRef::constant(alloc, scalar.try_clone(alloc)?, selection.len())?;
+        let rows = picked.canonical_constant(alloc)?;
+        Ok(rows)
     }
 
     // The value of each row, `None` where they are null, its parts shared.

@@ -12,7 +12,7 @@ ghost use Rattle.vx_tree.specs.Joined.{joined_len, IsJoined, IsValidJoined, elem
 ghost use Rattle.vx_tree.specs.Formed.{ValidFits, WellFormed};
 ghost use Rattle.vx_tree.specs.Parts.{valid_of};
 ghost use Rattle.vx_tree.specs.Faults.{take_overflow};
-ghost use Rattle.vx_tree.specs.Canonical.{IsCanonical, canonical_fault};
+ghost use Rattle.vx_tree.specs.Canonical.{IsCanonical, IsCanonicalAt, canonical_fault, plain_overflow};
 ghost use Rattle.vx_tree.specs.Operations.{IsSlice, IsSelected, IsNulled, IsNulls, AreBelow};
 
 use crate::array::{ArrayRef, Layout, Validity};
@@ -183,6 +183,38 @@ impl ArrayRef {
         let elements = elements.canonical(alloc)?;
         let validity = validity.canonical(alloc, *len)?;
         let lists = ArrayRef::fixed_size_list(alloc, elements, *size, validity, *len)?;
+        Ok(lists)
+    }
+
+    // The same of the lists that are picked.
+    #[cycle(canonical)]
+    pub(crate) fn canonical_fixed_lists_at(
+        &self,
+        alloc: Global,
+        selection: &Selection,
+    ) -> Result<ArrayRef, VortexError>
+        requires layout { is_fixed_list self.now ≡ true }
+        requires within { AreBelow (tree_len self.now) selection.now }
+        requires countable { plain_overflow (kind_of self.now) (length selection.now) ≡ None }
+        ensures ok { IfOk result (IsCanonicalAt self.now selection.now) }
+        ensures refuses { Refuses result (canonical_fault self.now) }
+    {
+        let Layout::FixedSizeList {
+            elements,
+            size,
+            validity,
+            ..
+        } = self.layout()
+        else {
+            unreachable!();
+        };
+        elements.known_len();
+        let len = selection.len();
+        let picked = selection.lists(alloc, *size as usize)?;
+        let elements = elements.canonical_at(alloc, &picked)?;
+        let validity = validity.select_within(alloc, selection)?;
+        let plain = validity.canonical(alloc, len)?;
+        let lists = ArrayRef::fixed_size_list(alloc, elements, *size, plain, len)?;
         Ok(lists)
     }
 

@@ -16,7 +16,7 @@ ghost use Rattle.vx_base.specs.Kinds.{lists};
 ghost use Rattle.vx_tree.specs.Meaning.{tree_len, kind_of, row_at, is_valid_at, nullable};
 ghost use Rattle.vx_tree.specs.Formed.{ValidFits, IsCounts, WellFormed};
 ghost use Rattle.vx_tree.specs.Parts.{valid_of};
-ghost use Rattle.vx_tree.specs.Canonical.{IsCanonical, canonical_fault};
+ghost use Rattle.vx_tree.specs.Canonical.{IsCanonical, IsCanonicalAt, canonical_fault};
 ghost use Rattle.vx_tree.specs.Operations.{IsSlice, IsSelected, IsNulled, IsNulls, AreBelow};
 
 use crate::array::{ArrayRef, Layout, Validity};
@@ -224,6 +224,38 @@ impl ArrayRef {
         let sizes = sizes.canonical(alloc)?;
         let flag = *flag;
         let lists = ArrayRef::list_view(alloc, elements, offsets, sizes, validity, flag)?;
+        Ok(lists)
+    }
+
+    // The same of the lists that are picked: all elements are kept.
+    #[cycle(canonical)]
+    #[tactic(auto, using(crate::proofs::CanonicalFaults::integers_countable))]
+    pub(crate) fn canonical_list_view_at(
+        &self,
+        alloc: Global,
+        selection: &Selection,
+    ) -> Result<ArrayRef, VortexError>
+        requires layout { is_list_view self.now ≡ true }
+        requires within { AreBelow (tree_len self.now) selection.now }
+        ensures ok { IfOk result (IsCanonicalAt self.now selection.now) }
+        ensures refuses { Refuses result (canonical_fault self.now) }
+    {
+        let Layout::ListView {
+            elements,
+            offsets,
+            sizes,
+            validity,
+            ..
+        } = self.layout()
+        else {
+            unreachable!();
+        };
+        let elements = elements.canonical(alloc)?;
+        let offsets = offsets.canonical_at(alloc, selection)?;
+        let sizes = sizes.canonical_at(alloc, selection)?;
+        let validity = validity.select_within(alloc, selection)?;
+        let plain = validity.canonical(alloc, selection.len())?;
+        let lists = ArrayRef::list_view(alloc, elements, offsets, sizes, plain, false)?;
         Ok(lists)
     }
 

@@ -13,7 +13,7 @@ ghost use Rattle.vx_tree.specs.Meaning.{tree_len, kind_of, row_at, is_valid_at, 
 ghost use Rattle.vx_tree.specs.Joined.{IsJoined, IsValidJoined, AreNumbers, bytes_in};
 ghost use Rattle.vx_tree.specs.Formed.{ValidFits, WellFormed};
 ghost use Rattle.vx_tree.specs.Parts.{valid_of};
-ghost use Rattle.vx_tree.specs.Canonical.{IsCanonical};
+ghost use Rattle.vx_tree.specs.Canonical.{IsCanonical, IsCanonicalAt};
 ghost use Rattle.vx_tree.specs.Operations.{IsSlice, IsSelected, IsNulled, IsNulls, IsZeroes, IsZeroCodes, AreBelow};
 
 use crate::array::{ArrayRef, Layout, Validity};
@@ -163,6 +163,20 @@ impl ArrayRef {
         };
         let validity = validity.canonical(alloc, self.len())?;
         ArrayRef::primitive(alloc, *ptype, bytes.try_clone(alloc)?, validity)
+    }
+
+    // The same of the rows that are picked.
+    pub(crate) fn canonical_primitive_at(
+        &self,
+        alloc: Global,
+        selection: &Selection,
+    ) -> Result<ArrayRef, VortexError>
+        requires layout { is_primitive self.now ≡ true }
+        requires within { AreBelow (tree_len self.now) selection.now }
+        ensures { Gives result (IsCanonicalAt self.now selection.now) }
+    {
+        let picked = self.select_primitive(alloc, selection)?;
+        picked.canonical_primitive(alloc)
     }
 
     // The value of row `i`, `None` where it is null.

@@ -15,7 +15,8 @@ ghost use Rattle.vx_tree.specs.Fitting.{ColumnsFormed};
 ghost use Rattle.vx_tree.specs.Parts.{valid_of};
 ghost use Rattle.vx_tree.specs.Faults.{take_overflow, columns_overflow};
 ghost use Rattle.vx_tree.specs.Columns.{AllReach, AllHave, AreAlike, AreSlices, AreSelected, AreFields};
-ghost use Rattle.vx_tree.specs.Canonical.{IsCanonical, AreCanonical, canonical_fault, columns_fault};
+ghost use Rattle.vx_tree.specs.Canonical.{IsCanonical, IsCanonicalAt, AreCanonical, AreCanonicalAt};
+ghost use Rattle.vx_tree.specs.Canonical.{canonical_fault, columns_fault, plain_overflow};
 ghost use Rattle.vx_tree.specs.Operations.{IsSlice, IsSelected, IsNulled, IsNulls, AreBelow};
 
 use crate::array::{ArrayRef, Layout, Validity};
@@ -274,6 +275,56 @@ impl ArrayRef {
         let mut made = Vec::with_capacity(alloc, columns.len())?;
         for column in columns {
             made.push(column.canonical(alloc)?)?;
+        }
+        Ok(made)
+    }
+
+    // The same of the records that are picked.
+    #[cycle(canonical)]
+    pub(crate) fn canonical_struct_at(
+        &self,
+        alloc: Global,
+        selection: &Selection,
+    ) -> Result<ArrayRef, VortexError>
+        requires layout { is_struct self.now ≡ true }
+        requires within { AreBelow (tree_len self.now) selection.now }
+        requires countable { plain_overflow (kind_of self.now) (length selection.now) ≡ None }
+        ensures ok { IfOk result (IsCanonicalAt self.now selection.now) }
+        ensures refuses { Refuses result (canonical_fault self.now) }
+    {
+        let Layout::Struct {
+            names,
+            columns,
+            validity,
+            ..
+        } = self.layout()
+        else {
+            unreachable!();
+        };
+        let len = selection.len();
+        let columns = ArrayRef::canonical_columns_at(alloc, columns, selection)?;
+        let names = names.try_clone(alloc)?;
+        let validity = validity.select_within(alloc, selection)?;
+        let plain = validity.canonical(alloc, len)?;
+        let records = ArrayRef::structure(alloc, names, columns, plain, len)?;
+        Ok(records)
+    }
+
+    // The same of each column.
+    #[cycle(canonical)]
+    fn canonical_columns_at(
+        alloc: Global,
+        columns: &[ArrayRef],
+        selection: &Selection,
+    ) -> Result<Vec<ArrayRef>, VortexError>
+        requires within { AllHave selection.now (trees_from columns.now) }
+        requires countable { All (λ t. plain_overflow (kind_of t) (length selection.now) ≡ None) columns.now }
+        ensures ok { IfOk result (λ cs. AreCanonicalAt (trees_from columns.now) selection.now (trees_from cs.items)) }
+        ensures refuses { Refuses result (columns_fault (trees_from columns.now)) }
+    {
+        let mut made = Vec::with_capacity(alloc, columns.len())?;
+        for column in columns {
+            made.push(column.canonical_at(alloc, selection)?)?;
         }
         Ok(made)
     }

@@ -34,7 +34,7 @@ pub(crate) fn no_elements(alloc: Global, size: u32, len: usize) -> Result<ArrayR
 }
 
 // One list of 1048576 lists of 2147483648 zeroes each.
-fn huge_list(alloc: Global) -> Result<ArrayRef, VortexError> {
+pub(crate) fn huge_list(alloc: Global) -> Result<ArrayRef, VortexError> {
     let scalar = Scalar::int(0, PType::U8, Nullability::NonNullable);
     let zeroes = ArrayRef::constant(alloc, scalar, 2251799813685248)?;
     let validity = Validity::NonNullable;
@@ -54,10 +54,10 @@ pub(crate) fn expect_elements(rt: &impl Abort, array: &ArrayRef, start: usize, w
 }
 
 #[test]
-fn rows_of_pairs(rt: HostRuntime) -> Result<(), VortexError> {
-    let array = pairs(rt.alloc())?;
+fn rows_of_pairs(rt: HostRuntime) {
+    let array = pairs(rt.alloc()).expect(&rt, "made");
     fewer_rows_are_countable(&array);
-    assert!(rt; array.len() == 3 && array.is_valid(rt.alloc(), 2)?);
+    assert!(rt; array.len() == 3 && array.is_valid(rt.alloc(), 2).expect(&rt, "made"));
     assert!(rt;
         matches!(
             array.dtype(),
@@ -65,92 +65,113 @@ fn rows_of_pairs(rt: HostRuntime) -> Result<(), VortexError> {
         )
     );
     expect_elements(&rt, &array, 0, &[1, 2, 3, 4, 5, 6]);
-    Ok(())
 }
 
 #[test]
-fn rows_of_no_elements(rt: HostRuntime) -> Result<(), VortexError> {
-    let array = no_elements(rt.alloc(), 0, 3)?;
-    assert!(rt; array.len() == 3 && array.is_valid(rt.alloc(), 2)?);
-    let taken = array.take(rt.alloc(), &indices(rt.alloc())?)?;
-    assert!(rt; taken.len() == 3 && !taken.is_valid(rt.alloc(), 1)?);
-    assert_eq!(rt; taken.slice(rt.alloc(), 1..3)?.len(), 2);
-    Ok(())
+fn rows_of_no_elements(rt: HostRuntime) {
+    let array = no_elements(rt.alloc(), 0, 3).expect(&rt, "made");
+    assert!(rt; array.len() == 3 && array.is_valid(rt.alloc(), 2).expect(&rt, "made"));
+    let taken = array
+        .take(rt.alloc(), &indices(rt.alloc()).expect(&rt, "made"))
+        .expect(&rt, "made");
+    assert!(rt; taken.len() == 3 && !taken.is_valid(rt.alloc(), 1).expect(&rt, "made"));
+    assert_eq!(rt; taken.slice(rt.alloc(), 1..3).expect(&rt, "made").len(), 2);
 }
 
 #[test]
-fn slice_of_pairs(rt: HostRuntime) -> Result<(), VortexError> {
-    let part = pairs(rt.alloc())?.slice(rt.alloc(), 1..3)?;
+fn slice_of_pairs(rt: HostRuntime) {
+    let part = pairs(rt.alloc())
+        .expect(&rt, "made")
+        .slice(rt.alloc(), 1..3)
+        .expect(&rt, "made");
     assert_eq!(rt; part.len(), 2);
     expect_elements(&rt, &part, 0, &[3, 4, 5, 6]);
-    Ok(())
 }
 
 #[test]
-fn take_of_pairs(rt: HostRuntime) -> Result<(), VortexError> {
-    let taken = pairs(rt.alloc())?.take(rt.alloc(), &indices(rt.alloc())?)?;
-    assert!(rt; taken.len() == 3 && !taken.is_valid(rt.alloc(), 1)?);
-    assert!(rt; taken.is_valid(rt.alloc(), 0)? && taken.is_valid(rt.alloc(), 2)?);
+fn take_of_pairs(rt: HostRuntime) {
+    let taken = pairs(rt.alloc())
+        .expect(&rt, "made")
+        .take(rt.alloc(), &indices(rt.alloc()).expect(&rt, "made"))
+        .expect(&rt, "made");
+    assert!(rt; taken.len() == 3 && !taken.is_valid(rt.alloc(), 1).expect(&rt, "made"));
+    assert!(rt;
+        taken.is_valid(rt.alloc(), 0).expect(&rt, "made")
+            && taken.is_valid(rt.alloc(), 2).expect(&rt, "made")
+    );
     expect_elements(&rt, &taken, 0, &[5, 6]);
     expect_elements(&rt, &taken, 4, &[1, 2]);
-    Ok(())
 }
 
 // No position of their elements is written out.
 #[test]
-fn take_of_one_pair_again_and_again(rt: HostRuntime) -> Result<(), VortexError> {
+fn take_of_one_pair_again_and_again(rt: HostRuntime) {
     let seven = Scalar::int(7, PType::U8, Nullability::NonNullable);
-    let elements = ArrayRef::constant(rt.alloc(), seven, 6)?;
-    let lists = ArrayRef::fixed_size_list(rt.alloc(), elements, 2, Validity::NonNullable, 3)?;
+    let elements = ArrayRef::constant(rt.alloc(), seven, 6).expect(&rt, "made");
+    let lists = ArrayRef::fixed_size_list(rt.alloc(), elements, 2, Validity::NonNullable, 3).expect(
+        &rt, "made",
+    );
     let one = Scalar::int(1, PType::U8, Nullability::NonNullable);
-    let indices = ArrayRef::constant(rt.alloc(), one, 1099511627776)?;
-    let taken = lists.take(rt.alloc(), &indices)?;
+    let indices = ArrayRef::constant(rt.alloc(), one, 1099511627776).expect(&rt, "made");
+    let taken = lists.take(rt.alloc(), &indices).expect(&rt, "made");
     assert_eq!(rt; taken.len(), 1099511627776);
     expect_elements(&rt, &taken, 2199023255550, &[7, 7]);
-    let indices = indices.slice(rt.alloc(), 0..3)?;
-    let taken = pairs(rt.alloc())?.take(rt.alloc(), &indices)?;
+    let indices = indices.slice(rt.alloc(), 0..3).expect(&rt, "made");
+    let taken = pairs(rt.alloc())
+        .expect(&rt, "made")
+        .take(rt.alloc(), &indices)
+        .expect(&rt, "made");
     expect_elements(&rt, &taken, 0, &[3, 4, 3, 4, 3, 4]);
-    Ok(())
 }
 
 #[test]
-fn mask_of_pairs(rt: HostRuntime) -> Result<(), VortexError> {
-    let mask = booleans(rt.alloc(), &[true, false, true])?;
-    let masked = pairs(rt.alloc())?.mask(rt.alloc(), &mask)?;
-    assert!(rt; masked.is_valid(rt.alloc(), 0)? && !masked.is_valid(rt.alloc(), 1)?);
+fn mask_of_pairs(rt: HostRuntime) {
+    let mask = booleans(rt.alloc(), &[true, false, true]).expect(&rt, "made");
+    let masked = pairs(rt.alloc())
+        .expect(&rt, "made")
+        .mask(rt.alloc(), &mask)
+        .expect(&rt, "made");
+    assert!(rt;
+        masked.is_valid(rt.alloc(), 0).expect(&rt, "made")
+            && !masked.is_valid(rt.alloc(), 1).expect(&rt, "made")
+    );
     expect_elements(&rt, &masked, 0, &[1, 2, 3, 4, 5, 6]);
-    Ok(())
 }
 
 #[test]
-fn nulls_taken_from_no_pairs(rt: HostRuntime) -> Result<(), VortexError> {
+fn nulls_taken_from_no_pairs(rt: HostRuntime) {
     let nulls = ArrayRef::constant(
         rt.alloc(),
         Scalar::null(DType::Primitive(PType::U8, Nullability::Nullable)),
         2,
-    )?;
-    let taken = no_elements(rt.alloc(), 2, 0)?.take(rt.alloc(), &nulls)?;
-    assert!(rt; taken.len() == 2 && !taken.is_valid(rt.alloc(), 0)?);
+    )
+    .expect(&rt, "made");
+    let taken = no_elements(rt.alloc(), 2, 0)
+        .expect(&rt, "made")
+        .take(rt.alloc(), &nulls)
+        .expect(&rt, "made");
+    assert!(rt; taken.len() == 2 && !taken.is_valid(rt.alloc(), 0).expect(&rt, "made"));
     assert!(rt;
         matches!(
             taken.dtype(),
             DType::FixedSizeList(_, 2, Nullability::Nullable)
         )
     );
-    Ok(())
 }
 
 #[test]
-fn take_of_a_huge_list(rt: HostRuntime) -> Result<(), VortexError> {
-    let list = huge_list(rt.alloc())?;
+fn take_of_a_huge_list(rt: HostRuntime) {
+    let list = huge_list(rt.alloc()).expect(&rt, "made");
     let zero = Scalar::int(0, PType::U8, Nullability::NonNullable);
-    let indices = ArrayRef::constant(rt.alloc(), zero, 8192)?;
+    let indices = ArrayRef::constant(rt.alloc(), zero, 8192).expect(&rt, "made");
     let refused = match list.take(rt.alloc(), &indices) {
         Err(VortexError::Overflow) => true,
         _ => false,
     };
     assert!(rt; refused);
-    let fewer = indices.slice(rt.alloc(), 1..8192)?;
-    assert_eq!(rt; list.take(rt.alloc(), &fewer)?.len(), 8191);
-    Ok(())
+    let fewer = indices.slice(rt.alloc(), 1..8192).expect(&rt, "made");
+    assert_eq!(rt;
+        list.take(rt.alloc(), &fewer).expect(&rt, "made").len(),
+        8191
+    );
 }

@@ -40,27 +40,38 @@ fn mask_of_both(rt: HostRuntime) -> Result<(), Fail> {
 }
 
 #[test]
-fn bits_that_are_done(rt: HostRuntime) -> Result<(), Fail> {
-    let bits = BitBuffer::from_bools(rt.alloc(), &[false, true])?;
-    let array = bits.into_array(rt.alloc())?;
+fn bits_that_are_done(rt: HostRuntime) {
+    let bits = BitBuffer::from_bools(rt.alloc(), &[false, true]).expect(&rt, "made");
+    let array = bits.into_array(rt.alloc()).expect(&rt, "made");
     assert!(rt; array.len() == 2 && array.dtype().is_plain_bool());
-    assert!(rt; !array.execute_scalar(rt.alloc(), 0)?.as_bool());
-    assert!(rt; array.execute_scalar(rt.alloc(), 1)?.as_bool());
-    Ok(())
+    assert!(rt;
+        !array
+            .execute_scalar(rt.alloc(), 0)
+            .expect(&rt, "made")
+            .as_bool()
+    );
+    assert!(rt;
+        array
+            .execute_scalar(rt.alloc(), 1)
+            .expect(&rt, "made")
+            .as_bool()
+    );
 }
 
 #[test]
-fn bits(rt: HostRuntime) -> Result<(), Fail> {
-    let mut bits = BitBufferMut::with_capacity(rt.alloc(), 2)?;
-    bits.append(true)?;
-    let array = bits.into_array(rt.alloc())?;
+fn bits(rt: HostRuntime) {
+    let mut bits = BitBufferMut::with_capacity(rt.alloc(), 2).expect(&rt, "made");
+    bits.append(true).expect(&rt, "made");
+    let array = bits.into_array(rt.alloc()).expect(&rt, "made");
     assert!(rt; array.len() == 1 && matches!(array.dtype(), DType::Bool(Nullability::NonNullable)));
-    Ok(())
 }
 
 #[test]
-fn numbers(rt: HostRuntime) -> Result<(), Fail> {
-    let array = Buffer::copy_from(rt.alloc(), &[-5i16, 7])?.into_array(rt.alloc())?;
+fn numbers(rt: HostRuntime) {
+    let array = Buffer::copy_from(rt.alloc(), &[-5i16, 7])
+        .expect(&rt, "made")
+        .into_array(rt.alloc())
+        .expect(&rt, "made");
     assert!(rt;
         matches!(
             array.dtype(),
@@ -68,7 +79,6 @@ fn numbers(rt: HostRuntime) -> Result<(), Fail> {
         )
     );
     assert_eq!(rt; array.len(), 2);
-    Ok(())
 }
 
 #[test]

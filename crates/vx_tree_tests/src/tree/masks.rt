@@ -5,49 +5,75 @@ use vx_base::{BitBuffer, Mask, Nullability, PType, Scalar, VortexError};
 use vx_tree::{ArrayRef, Layout};
 
 #[test]
-fn filter_of_lists(rt: HostRuntime) -> Result<(), VortexError> {
-    let bits = BitBuffer::from_bools(rt.alloc(), &[true, false, true])?;
-    let mask = Mask::from_buffer(rt.alloc(), bits)?;
-    let left = lists(rt.alloc())?.filter(rt.alloc(), &mask)?;
+fn filter_of_lists(rt: HostRuntime) {
+    let bits = BitBuffer::from_bools(rt.alloc(), &[true, false, true]).expect(&rt, "made");
+    let mask = Mask::from_buffer(rt.alloc(), bits).expect(&rt, "made");
+    let left = lists(rt.alloc())
+        .expect(&rt, "made")
+        .filter(rt.alloc(), &mask)
+        .expect(&rt, "made");
     assert_eq!(rt; left.len(), 2);
-    expect_list(&rt, rt.alloc(), &left, 0, Some(&[3, 4]))?;
-    expect_list(&rt, rt.alloc(), &left, 1, Some(&[2, 3]))
+    expect_list(&rt, rt.alloc(), &left, 0, Some(&[3, 4])).expect(&rt, "made");
+    expect_list(&rt, rt.alloc(), &left, 1, Some(&[2, 3])).expect(&rt, "made");
 }
 
 #[test]
-fn filter_of_a_dictionary(rt: HostRuntime) -> Result<(), VortexError> {
-    let bits = BitBuffer::from_bools(rt.alloc(), &[false, true, true, false, true])?;
-    let mask = Mask::from_buffer(rt.alloc(), bits)?;
-    let left = dictionary(rt.alloc())?.filter(rt.alloc(), &mask)?;
+fn filter_of_a_dictionary(rt: HostRuntime) {
+    let bits = BitBuffer::from_bools(rt.alloc(), &[false, true, true, false, true]).expect(
+        &rt, "made",
+    );
+    let mask = Mask::from_buffer(rt.alloc(), bits).expect(&rt, "made");
+    let left = dictionary(rt.alloc())
+        .expect(&rt, "made")
+        .filter(rt.alloc(), &mask)
+        .expect(&rt, "made");
     assert!(rt; left.len() == 3 && number(&rt, &left, 0) == None);
     assert!(rt; number(&rt, &left, 1) == Some(9) && number(&rt, &left, 2) == Some(6));
-    Ok(())
 }
 
 #[test]
-fn filter_of_a_huge_constant(rt: HostRuntime) -> Result<(), VortexError> {
+fn filter_of_a_huge_constant(rt: HostRuntime) {
     let len = 1 << 60;
     let scalar = Scalar::int(7, PType::I32, Nullability::NonNullable);
-    let array = ArrayRef::constant(rt.alloc(), scalar, len)?;
-    assert_eq!(rt; array.filter(rt.alloc(), &Mask::new_true(len))?.len(), len);
-    assert!(rt; array.filter(rt.alloc(), &Mask::new_false(len))?.is_empty());
-    Ok(())
+    let array = ArrayRef::constant(rt.alloc(), scalar, len).expect(&rt, "made");
+    assert_eq!(rt;
+        array
+            .filter(rt.alloc(), &Mask::new_true(len))
+            .expect(&rt, "made")
+            .len(),
+        len
+    );
+    assert!(rt;
+        array
+            .filter(rt.alloc(), &Mask::new_false(len))
+            .expect(&rt, "made")
+            .is_empty()
+    );
 }
 
 #[test]
-fn filter_of_a_constant(rt: HostRuntime) -> Result<(), VortexError> {
+fn filter_of_a_constant(rt: HostRuntime) {
     let scalar = Scalar::int(7, PType::I32, Nullability::NonNullable);
-    let array = ArrayRef::constant(rt.alloc(), scalar, 5)?;
-    let bits = BitBuffer::from_bools(rt.alloc(), &[true, false, true, true, false])?;
-    let left = array.filter(rt.alloc(), &Mask::from_buffer(rt.alloc(), bits)?)?;
+    let array = ArrayRef::constant(rt.alloc(), scalar, 5).expect(&rt, "made");
+    let bits = BitBuffer::from_bools(rt.alloc(), &[true, false, true, true, false]).expect(
+        &rt, "made",
+    );
+    let left = array
+        .filter(
+            rt.alloc(),
+            &Mask::from_buffer(rt.alloc(), bits).expect(&rt, "made"),
+        )
+        .expect(&rt, "made");
     assert!(rt; left.len() == 3 && matches!(left.layout(), Layout::Constant { .. }));
     assert_eq!(rt; number(&rt, &left, 2), Some(7));
-    Ok(())
 }
 
 #[test]
-fn filter_by_a_longer_mask(rt: HostRuntime) -> Result<(), VortexError> {
-    let found = match lists(rt.alloc())?.filter(rt.alloc(), &Mask::new_true(4)) {
+fn filter_by_a_longer_mask(rt: HostRuntime) {
+    let found = match lists(rt.alloc())
+        .expect(&rt, "made")
+        .filter(rt.alloc(), &Mask::new_true(4))
+    {
         Err(
             VortexError::LengthMismatch {
                 expected: 3,
@@ -57,45 +83,55 @@ fn filter_by_a_longer_mask(rt: HostRuntime) -> Result<(), VortexError> {
         _ => false,
     };
     assert!(rt; found);
-    Ok(())
 }
 
 #[test]
-fn mask_of_lists(rt: HostRuntime) -> Result<(), VortexError> {
-    let mask = booleans(rt.alloc(), &[true, false, true])?;
-    let masked = lists(rt.alloc())?.mask(rt.alloc(), &mask)?;
+fn mask_of_lists(rt: HostRuntime) {
+    let mask = booleans(rt.alloc(), &[true, false, true]).expect(&rt, "made");
+    let masked = lists(rt.alloc())
+        .expect(&rt, "made")
+        .mask(rt.alloc(), &mask)
+        .expect(&rt, "made");
     assert!(rt; masked.len() == 3 && masked.dtype().is_nullable());
-    expect_list(&rt, rt.alloc(), &masked, 0, Some(&[3, 4]))?;
-    expect_list(&rt, rt.alloc(), &masked, 1, None)?;
-    expect_list(&rt, rt.alloc(), &masked, 2, Some(&[2, 3]))
+    expect_list(&rt, rt.alloc(), &masked, 0, Some(&[3, 4])).expect(&rt, "made");
+    expect_list(&rt, rt.alloc(), &masked, 1, None).expect(&rt, "made");
+    expect_list(&rt, rt.alloc(), &masked, 2, Some(&[2, 3])).expect(&rt, "made");
 }
 
 #[test]
-fn mask_of_a_constant(rt: HostRuntime) -> Result<(), VortexError> {
+fn mask_of_a_constant(rt: HostRuntime) {
     let scalar = Scalar::int(7, PType::I32, Nullability::NonNullable);
-    let array = ArrayRef::constant(rt.alloc(), scalar, 2)?;
-    let masked = array.mask(rt.alloc(), &booleans(rt.alloc(), &[false, true])?)?;
+    let array = ArrayRef::constant(rt.alloc(), scalar, 2).expect(&rt, "made");
+    let masked = array
+        .mask(
+            rt.alloc(),
+            &booleans(rt.alloc(), &[false, true]).expect(&rt, "made"),
+        )
+        .expect(&rt, "made");
     assert!(rt; masked.len() == 2 && matches!(masked.layout(), Layout::Dict { .. }));
     assert!(rt; number(&rt, &masked, 0) == None && number(&rt, &masked, 1) == Some(7));
-    Ok(())
 }
 
 #[test]
-fn mask_by_numbers(rt: HostRuntime) -> Result<(), VortexError> {
-    let found = match lists(rt.alloc())?.mask(rt.alloc(), &indices(rt.alloc())?) {
+fn mask_by_numbers(rt: HostRuntime) {
+    let found = match lists(rt.alloc())
+        .expect(&rt, "made")
+        .mask(rt.alloc(), &indices(rt.alloc()).expect(&rt, "made"))
+    {
         Err(VortexError::MismatchedTypes) => true,
         _ => false,
     };
     assert!(rt; found);
-    Ok(())
 }
 
 #[test]
-fn mask_by_a_shorter_array(rt: HostRuntime) -> Result<(), VortexError> {
-    let found = match lists(rt.alloc())?.mask(rt.alloc(), &booleans(rt.alloc(), &[true])?) {
+fn mask_by_a_shorter_array(rt: HostRuntime) {
+    let found = match lists(rt.alloc()).expect(&rt, "made").mask(
+        rt.alloc(),
+        &booleans(rt.alloc(), &[true]).expect(&rt, "made"),
+    ) {
         Err(VortexError::LengthMismatch { .. }) => true,
         _ => false,
     };
     assert!(rt; found);
-    Ok(())
 }

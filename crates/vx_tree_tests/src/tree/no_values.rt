@@ -29,54 +29,71 @@ fn null_rows(alloc: Global, values: ArrayRef) -> Result<ArrayRef, VortexError> {
 }
 
 #[test]
-fn texts_keep_their_buffers(rt: HostRuntime) -> Result<(), VortexError> {
+fn texts_keep_their_buffers(rt: HostRuntime) {
     let alloc = rt.alloc();
-    let values = texts(alloc)?.slice(alloc, 0..0)?;
-    let array = null_rows(alloc, values)?;
-    let joined = ArrayRef::concat(alloc, std::slice::from_ref(&array))?;
+    let values = texts(alloc)
+        .expect(&rt, "made")
+        .slice(alloc, 0..0)
+        .expect(&rt, "made");
+    let array = null_rows(alloc, values).expect(&rt, "made");
+    let joined = ArrayRef::concat(alloc, std::slice::from_ref(&array)).expect(&rt, "made");
     let Layout::VarBinView { buffers, .. } = joined.layout() else {
         panic!(rt; "no texts");
     };
     assert!(rt; joined.len() == 2 && buffers.len() == 1);
-    assert!(rt; !joined.is_valid(alloc, 0)? && !joined.is_valid(alloc, 1)?);
-    Ok(())
+    assert!(rt;
+        !joined.is_valid(alloc, 0).expect(&rt, "made")
+            && !joined.is_valid(alloc, 1).expect(&rt, "made")
+    );
 }
 
 #[test]
-fn lists_keep_their_elements(rt: HostRuntime) -> Result<(), VortexError> {
+fn lists_keep_their_elements(rt: HostRuntime) {
     let alloc = rt.alloc();
-    let values = lists(alloc)?.slice(alloc, 0..0)?;
-    let array = null_rows(alloc, values)?;
-    let joined = ArrayRef::concat(alloc, std::slice::from_ref(&array))?;
+    let values = lists(alloc)
+        .expect(&rt, "made")
+        .slice(alloc, 0..0)
+        .expect(&rt, "made");
+    let array = null_rows(alloc, values).expect(&rt, "made");
+    let joined = ArrayRef::concat(alloc, std::slice::from_ref(&array)).expect(&rt, "made");
     let Layout::ListView { elements, .. } = joined.layout() else {
         panic!(rt; "no list view");
     };
     assert!(rt; joined.len() == 2 && elements.len() == 4);
-    assert!(rt; !joined.is_valid(alloc, 0)? && !joined.is_valid(alloc, 1)?);
-    Ok(())
+    assert!(rt;
+        !joined.is_valid(alloc, 0).expect(&rt, "made")
+            && !joined.is_valid(alloc, 1).expect(&rt, "made")
+    );
 }
 
 #[test]
-fn lists_of_one_size_have_elements_for_each_row(rt: HostRuntime) -> Result<(), VortexError> {
+fn lists_of_one_size_have_elements_for_each_row(rt: HostRuntime) {
     let alloc = rt.alloc();
-    let values = pairs(alloc)?.slice(alloc, 0..0)?;
-    let array = null_rows(alloc, values)?;
-    let plain = array.to_canonical(alloc)?;
+    let values = pairs(alloc)
+        .expect(&rt, "made")
+        .slice(alloc, 0..0)
+        .expect(&rt, "made");
+    let array = null_rows(alloc, values).expect(&rt, "made");
+    let plain = array.to_canonical(alloc).expect(&rt, "made");
     let Layout::FixedSizeList { elements, .. } = plain.layout() else {
         panic!(rt; "no lists of one size");
     };
     assert!(rt; plain.len() == 2 && elements.len() == 4);
     assert!(rt; matches!(elements.layout(), Layout::Primitive { .. }));
-    Ok(())
 }
 
 #[test]
-fn lists_within_lists_keep_their_elements(rt: HostRuntime) -> Result<(), VortexError> {
+fn lists_within_lists_keep_their_elements(rt: HostRuntime) {
     let alloc = rt.alloc();
-    let none = lists(alloc)?.slice(alloc, 0..0)?;
-    let values = ArrayRef::fixed_size_list(alloc, none, 3, Validity::NonNullable, 0)?;
-    let array = null_rows(alloc, values)?;
-    let plain = array.to_canonical(alloc)?;
+    let none = lists(alloc)
+        .expect(&rt, "made")
+        .slice(alloc, 0..0)
+        .expect(&rt, "made");
+    let values = ArrayRef::fixed_size_list(alloc, none, 3, Validity::NonNullable, 0).expect(
+        &rt, "made",
+    );
+    let array = null_rows(alloc, values).expect(&rt, "made");
+    let plain = array.to_canonical(alloc).expect(&rt, "made");
     let Layout::FixedSizeList { elements, .. } = plain.layout() else {
         panic!(rt; "no lists of one size");
     };
@@ -88,5 +105,4 @@ fn lists_within_lists_keep_their_elements(rt: HostRuntime) -> Result<(), VortexE
         panic!(rt; "no list view");
     };
     assert!(rt; elements.len() == 6 && within.len() == 4);
-    Ok(())
 }

@@ -31,47 +31,66 @@ fn expect_null_nine_five(
 }
 
 #[test]
-fn a_null_index_over_any_number(rt: HostRuntime) -> Result<(), VortexError> {
+fn a_null_index_over_any_number(rt: HostRuntime) {
     let alloc = rt.alloc();
-    expect_null_nine_five(&rt, alloc, &null_first(alloc, 1, 2, 0)?)?;
-    expect_null_nine_five(&rt, alloc, &null_first(alloc, 100, 2, 0)?)?;
-    expect_null_nine_five(&rt, alloc, &null_first(alloc, 255, 2, 0)?)
+    expect_null_nine_five(&rt, alloc, &null_first(alloc, 1, 2, 0).expect(&rt, "made")).expect(
+        &rt, "made",
+    );
+    expect_null_nine_five(
+        &rt,
+        alloc,
+        &null_first(alloc, 100, 2, 0).expect(&rt, "made"),
+    )
+    .expect(&rt, "made");
+    expect_null_nine_five(
+        &rt,
+        alloc,
+        &null_first(alloc, 255, 2, 0).expect(&rt, "made"),
+    )
+    .expect(&rt, "made");
 }
 
 #[test]
-fn a_faulty_index_after_a_null_one(rt: HostRuntime) -> Result<(), VortexError> {
+fn a_faulty_index_after_a_null_one(rt: HostRuntime) {
     let alloc = rt.alloc();
-    let past = three_numbers(alloc)?.take(alloc, &null_first(alloc, 100, 3, 255)?);
+    let past = three_numbers(alloc)
+        .expect(&rt, "made")
+        .take(alloc, &null_first(alloc, 100, 3, 255).expect(&rt, "made"));
     let found = match past {
         Err(VortexError::OutOfBounds { index: 3, len: 3 }) => true,
         _ => false,
     };
     assert!(rt; found);
-    let negative = three_numbers(alloc)?.take(alloc, &null_first(alloc, 100, 2, 255)?);
+    let negative = three_numbers(alloc)
+        .expect(&rt, "made")
+        .take(alloc, &null_first(alloc, 100, 2, 255).expect(&rt, "made"));
     let found = match negative {
         Err(VortexError::Negative { row: 2 }) => true,
         _ => false,
     };
     assert!(rt; found);
-    Ok(())
 }
 
 #[test]
-fn indices_that_are_all_null(rt: HostRuntime) -> Result<(), VortexError> {
+fn indices_that_are_all_null(rt: HostRuntime) {
     let alloc = rt.alloc();
-    let nulls = numbers(alloc, PType::U8, &[100, 200], Validity::AllInvalid)?;
-    let taken = three_numbers(alloc)?.take(alloc, &nulls)?;
+    let nulls = numbers(alloc, PType::U8, &[100, 200], Validity::AllInvalid).expect(&rt, "made");
+    let taken = three_numbers(alloc)
+        .expect(&rt, "made")
+        .take(alloc, &nulls)
+        .expect(&rt, "made");
     assert!(rt; taken.len() == 2 && number(&rt, &taken, 0) == None);
     assert!(rt; number(&rt, &taken, 1) == None);
-    Ok(())
 }
 
 #[test]
-fn a_validity_by_a_null_index_over_any_number(rt: HostRuntime) -> Result<(), VortexError> {
+fn a_validity_by_a_null_index_over_any_number(rt: HostRuntime) {
     let alloc = rt.alloc();
-    let rows = Validity::Array(booleans(alloc, &[true, false, true])?);
-    let taken = rows.take(alloc, &null_first(alloc, 100, 2, 1)?)?;
-    expect_valid(&rt, alloc, &taken, &[false, true, false])
+    let rows = Validity::Array(booleans(alloc, &[true, false, true]).expect(&rt, "made"));
+    let taken = rows
+        .take(alloc, &null_first(alloc, 100, 2, 1).expect(&rt, "made"))
+        .expect(&rt, "made");
+    expect_valid(&rt, alloc, &taken, &[false, true, false]).expect(&rt, "made");
 }
 
 // Stops unless the array is a dictionary of three values.
@@ -84,25 +103,37 @@ fn expect_three_values(rt: &impl Abort, array: &ArrayRef) {
 }
 
 #[test]
-fn a_dictionary_keeps_its_values(rt: HostRuntime) -> Result<(), VortexError> {
+fn a_dictionary_keeps_its_values(rt: HostRuntime) {
     let alloc = rt.alloc();
-    let array = dictionary(alloc)?;
-    expect_three_values(&rt, &array.slice(alloc, 1..2)?);
-    expect_three_values(&rt, &array.take(alloc, &indices(alloc)?)?);
-    expect_three_values(&rt, &array.filter(alloc, &Mask::new_false(5))?);
-    let mask = booleans(alloc, &[true, false, true, false, false])?;
-    expect_three_values(&rt, &array.mask(alloc, &mask)?);
-    Ok(())
+    let array = dictionary(alloc).expect(&rt, "made");
+    expect_three_values(&rt, &array.slice(alloc, 1..2).expect(&rt, "made"));
+    expect_three_values(
+        &rt,
+        &array
+            .take(alloc, &indices(alloc).expect(&rt, "made"))
+            .expect(&rt, "made"),
+    );
+    expect_three_values(
+        &rt,
+        &array.filter(alloc, &Mask::new_false(5)).expect(&rt, "made"),
+    );
+    let mask = booleans(alloc, &[true, false, true, false, false]).expect(&rt, "made");
+    expect_three_values(&rt, &array.mask(alloc, &mask).expect(&rt, "made"));
 }
 
 #[test]
-fn bits_that_begin_within_a_byte_are_turned(rt: HostRuntime) -> Result<(), VortexError> {
+fn bits_that_begin_within_a_byte_are_turned(rt: HostRuntime) {
     let alloc = rt.alloc();
     let bits = [
         true, true, true, false, true, true, false, false, true, false, true, true,
     ];
-    let bits = BitBuffer::from_bools(alloc, &bits)?.slice(alloc, 3..11)?;
-    let rows = Validity::Array(ArrayRef::bools(alloc, bits, Validity::NonNullable)?);
+    let bits = BitBuffer::from_bools(alloc, &bits)
+        .expect(&rt, "made")
+        .slice(alloc, 3..11)
+        .expect(&rt, "made");
+    let rows = Validity::Array(ArrayRef::bools(alloc, bits, Validity::NonNullable).expect(
+        &rt, "made",
+    ));
     let want = [true, false, false, true, true, false, true, false];
-    expect_valid(&rt, alloc, &rows.not(alloc)?, &want)
+    expect_valid(&rt, alloc, &rows.not(alloc).expect(&rt, "made"), &want).expect(&rt, "made");
 }

@@ -66,24 +66,24 @@ fn three_lists(alloc: Global) -> Result<ArrayRef, VortexError> {
 }
 
 #[test]
-fn lists_have_their_elements_once(rt: HostRuntime) -> Result<(), VortexError> {
-    let array = three_lists(rt.alloc())?;
+fn lists_have_their_elements_once(rt: HostRuntime) {
+    let array = three_lists(rt.alloc()).expect(&rt, "made");
     assert!(rt; array.len() == 3 && array.dtype().is_nullable());
     for i in 0..3 {
-        expect_list(&rt, rt.alloc(), &array, i, Some(&[7, -8]))?;
+        expect_list(&rt, rt.alloc(), &array, i, Some(&[7, -8])).expect(&rt, "made");
     }
     let Layout::ListView { elements, .. } = array.layout() else {
         panic!(rt; "no list view");
     };
     assert!(rt; elements.len() == 2 && matches!(elements.layout(), Layout::Primitive { .. }));
-    Ok(())
 }
 
 #[test]
-fn lists_that_are_null(rt: HostRuntime) -> Result<(), VortexError> {
-    let none = plain(rt.alloc(), lists(rt.alloc())?, None, 2)?;
-    assert!(rt; none.len() == 2 && !none.is_valid(rt.alloc(), 1)?);
-    Ok(())
+fn lists_that_are_null(rt: HostRuntime) {
+    let none = plain(rt.alloc(), lists(rt.alloc()).expect(&rt, "made"), None, 2).expect(
+        &rt, "made",
+    );
+    assert!(rt; none.len() == 2 && !none.is_valid(rt.alloc(), 1).expect(&rt, "made"));
 }
 
 // Two times the pair of 7 and null.
@@ -93,15 +93,16 @@ fn two_pairs(alloc: Global) -> Result<ArrayRef, VortexError> {
 }
 
 #[test]
-fn pairs_are_repeated(rt: HostRuntime) -> Result<(), VortexError> {
-    let array = two_pairs(rt.alloc())?;
+fn pairs_are_repeated(rt: HostRuntime) {
+    let array = two_pairs(rt.alloc()).expect(&rt, "made");
     let Layout::FixedSizeList { elements, .. } = array.layout() else {
         panic!(rt; "no lists of one size");
     };
-    assert!(rt; array.len() == 2 && elements.len() == 4 && array.is_valid(rt.alloc(), 1)?);
+    assert!(rt;
+        array.len() == 2 && elements.len() == 4 && array.is_valid(rt.alloc(), 1).expect(&rt, "made")
+    );
     assert!(rt; number(&rt, elements, 0) == Some(7) && number(&rt, elements, 1) == None);
     assert!(rt; number(&rt, elements, 2) == Some(7) && number(&rt, elements, 3) == None);
-    Ok(())
 }
 
 // The value of a record of a long text and no pair.
@@ -133,43 +134,51 @@ fn expect_records(rt: &impl Abort, alloc: Global, array: &ArrayRef) -> Result<()
 }
 
 #[test]
-fn records_by_columns(rt: HostRuntime) -> Result<(), VortexError> {
-    let array = same_records(rt.alloc(), 2)?;
-    expect_records(&rt, rt.alloc(), &array)
+fn records_by_columns(rt: HostRuntime) {
+    let array = same_records(rt.alloc(), 2).expect(&rt, "made");
+    expect_records(&rt, rt.alloc(), &array).expect(&rt, "made");
 }
 
 #[test]
-fn plain_records_stay_as_they_are(rt: HostRuntime) -> Result<(), VortexError> {
-    let array = same_records(rt.alloc(), 2)?.to_canonical(rt.alloc())?;
-    expect_records(&rt, rt.alloc(), &array)
+fn plain_records_stay_as_they_are(rt: HostRuntime) {
+    let array = same_records(rt.alloc(), 2)
+        .expect(&rt, "made")
+        .to_canonical(rt.alloc())
+        .expect(&rt, "made");
+    expect_records(&rt, rt.alloc(), &array).expect(&rt, "made");
 }
 
 #[test]
-fn no_records(rt: HostRuntime) -> Result<(), VortexError> {
-    let none = same_records(rt.alloc(), 0)?;
+fn no_records(rt: HostRuntime) {
+    let none = same_records(rt.alloc(), 0).expect(&rt, "made");
     assert!(rt; none.is_empty() && matches!(none.layout(), Layout::Struct { .. }));
-    Ok(())
 }
 
 #[test]
-fn lists_that_do_not_stand(rt: HostRuntime) -> Result<(), VortexError> {
-    let value = list_value(rt.alloc(), &[Some(1), Some(2)])?;
-    let none = plain(rt.alloc(), lists(rt.alloc())?, Some(value), 0)?;
+fn lists_that_do_not_stand(rt: HostRuntime) {
+    let value = list_value(rt.alloc(), &[Some(1), Some(2)]).expect(&rt, "made");
+    let none = plain(
+        rt.alloc(),
+        lists(rt.alloc()).expect(&rt, "made"),
+        Some(value),
+        0,
+    )
+    .expect(&rt, "made");
     let Layout::ListView { elements, .. } = none.layout() else {
         panic!(rt; "no list view");
     };
     assert!(rt; none.is_empty() && elements.len() == 2);
-    Ok(())
 }
 
 #[test]
-fn texts_that_do_not_stand(rt: HostRuntime) -> Result<(), VortexError> {
-    let text = ScalarValue::Text(ByteBuffer::copy_from(rt.alloc(), b"thirteen byte")?);
+fn texts_that_do_not_stand(rt: HostRuntime) {
+    let text = ScalarValue::Text(ByteBuffer::copy_from(rt.alloc(), b"thirteen byte").expect(
+        &rt, "made",
+    ));
     let dtype = DType::Utf8(Nullability::NonNullable);
-    let none = plain(rt.alloc(), dtype, Some(text), 0)?;
+    let none = plain(rt.alloc(), dtype, Some(text), 0).expect(&rt, "made");
     let Layout::VarBinView { buffers, .. } = none.layout() else {
         panic!(rt; "no texts");
     };
     assert!(rt; none.is_empty() && buffers.len() == 1);
-    Ok(())
 }

@@ -25,21 +25,28 @@ fn two_runs(
 }
 
 #[test]
-fn booleans_in_runs(rt: HostRuntime) -> Result<(), VortexError> {
-    let array = booleans(rt.alloc(), &[true, true, false, true])?;
-    let taken = two_runs(&rt, rt.alloc(), &array, (2, 4), (0, 1))?;
+fn booleans_in_runs(rt: HostRuntime) {
+    let array = booleans(rt.alloc(), &[true, true, false, true]).expect(&rt, "made");
+    let taken = two_runs(&rt, rt.alloc(), &array, (2, 4), (0, 1)).expect(&rt, "made");
     assert_eq!(rt; taken.len(), 3);
-    expect_bool(&rt, rt.alloc(), &taken, 0, Some(false))?;
-    expect_bool(&rt, rt.alloc(), &taken, 1, Some(true))?;
-    expect_bool(&rt, rt.alloc(), &taken, 2, Some(true))
+    expect_bool(&rt, rt.alloc(), &taken, 0, Some(false)).expect(&rt, "made");
+    expect_bool(&rt, rt.alloc(), &taken, 1, Some(true)).expect(&rt, "made");
+    expect_bool(&rt, rt.alloc(), &taken, 2, Some(true)).expect(&rt, "made");
 }
 
 #[test]
-fn lists_in_runs(rt: HostRuntime) -> Result<(), VortexError> {
-    let taken = two_runs(&rt, rt.alloc(), &lists(rt.alloc())?, (1, 3), (3, 3))?;
+fn lists_in_runs(rt: HostRuntime) {
+    let taken = two_runs(
+        &rt,
+        rt.alloc(),
+        &lists(rt.alloc()).expect(&rt, "made"),
+        (1, 3),
+        (3, 3),
+    )
+    .expect(&rt, "made");
     assert_eq!(rt; taken.len(), 2);
-    expect_list(&rt, rt.alloc(), &taken, 0, Some(&[1]))?;
-    expect_list(&rt, rt.alloc(), &taken, 1, Some(&[2, 3]))
+    expect_list(&rt, rt.alloc(), &taken, 0, Some(&[1])).expect(&rt, "made");
+    expect_list(&rt, rt.alloc(), &taken, 1, Some(&[2, 3])).expect(&rt, "made");
 }
 
 // The number 7 so many times.
@@ -52,20 +59,18 @@ fn sevens(alloc: Global, len: usize) -> Result<ArrayRef, VortexError> {
 }
 
 #[test]
-fn runs_of_a_huge_constant(rt: HostRuntime) -> Result<(), VortexError> {
-    let array = sevens(rt.alloc(), HUGE)?;
-    let taken = two_runs(&rt, rt.alloc(), &array, (0, HUGE), (5, 7))?;
+fn runs_of_a_huge_constant(rt: HostRuntime) {
+    let array = sevens(rt.alloc(), HUGE).expect(&rt, "made");
+    let taken = two_runs(&rt, rt.alloc(), &array, (0, HUGE), (5, 7)).expect(&rt, "made");
     assert!(rt; taken.len() == HUGE + 2 && matches!(taken.layout(), Layout::Constant { .. }));
-    Ok(())
 }
 
 #[test]
-fn runs_that_cannot_be_counted(rt: HostRuntime) -> Result<(), VortexError> {
-    let array = sevens(rt.alloc(), HALF)?;
+fn runs_that_cannot_be_counted(rt: HostRuntime) {
+    let array = sevens(rt.alloc(), HALF).expect(&rt, "made");
     let found = match two_runs(&rt, rt.alloc(), &array, (0, HALF), (0, HALF)) {
         Err(VortexError::Overflow) => true,
         _ => false,
     };
     assert!(rt; found);
-    Ok(())
 }

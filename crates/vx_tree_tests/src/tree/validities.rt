@@ -67,7 +67,7 @@ fn expect_patched(
 }
 
 #[test]
-fn all_valid_rows_are_patched(rt: HostRuntime) -> Result<(), VortexError> {
+fn all_valid_rows_are_patched(rt: HostRuntime) {
     let alloc = rt.alloc();
     let all = Validity::AllValid;
     expect_patched(
@@ -76,7 +76,8 @@ fn all_valid_rows_are_patched(rt: HostRuntime) -> Result<(), VortexError> {
         all,
         &Validity::AllValid,
         &[true, true, true, true, true],
-    )?;
+    )
+    .expect(&rt, "made");
     let all = Validity::AllValid;
     expect_patched(
         &rt,
@@ -84,8 +85,9 @@ fn all_valid_rows_are_patched(rt: HostRuntime) -> Result<(), VortexError> {
         all,
         &Validity::AllInvalid,
         &[true, true, false, true, false],
-    )?;
-    let patches = valid(alloc, &[true, false])?;
+    )
+    .expect(&rt, "made");
+    let patches = valid(alloc, &[true, false]).expect(&rt, "made");
     expect_patched(
         &rt,
         alloc,
@@ -93,10 +95,11 @@ fn all_valid_rows_are_patched(rt: HostRuntime) -> Result<(), VortexError> {
         &patches,
         &[true, true, true, true, false],
     )
+    .expect(&rt, "made");
 }
 
 #[test]
-fn null_rows_are_patched(rt: HostRuntime) -> Result<(), VortexError> {
+fn null_rows_are_patched(rt: HostRuntime) {
     let alloc = rt.alloc();
     let none = Validity::AllInvalid;
     expect_patched(
@@ -105,10 +108,11 @@ fn null_rows_are_patched(rt: HostRuntime) -> Result<(), VortexError> {
         none,
         &Validity::AllValid,
         &[false, false, true, false, true],
-    )?;
+    )
+    .expect(&rt, "made");
     let none = Validity::AllInvalid;
-    expect_patched(&rt, alloc, none, &Validity::AllInvalid, &[false; 5])?;
-    let patches = valid(alloc, &[true, false])?;
+    expect_patched(&rt, alloc, none, &Validity::AllInvalid, &[false; 5]).expect(&rt, "made");
+    let patches = valid(alloc, &[true, false]).expect(&rt, "made");
     let none = Validity::AllInvalid;
     expect_patched(
         &rt,
@@ -117,32 +121,56 @@ fn null_rows_are_patched(rt: HostRuntime) -> Result<(), VortexError> {
         &patches,
         &[false, false, true, false, false],
     )
+    .expect(&rt, "made");
 }
 
 #[test]
-fn places_of_patches_are_counted_from_an_offset(rt: HostRuntime) -> Result<(), VortexError> {
+fn places_of_patches_are_counted_from_an_offset(rt: HostRuntime) {
     let alloc = rt.alloc();
     let rows = Validity::AllInvalid;
-    let patched = rows.patch(alloc, 3, 2, &two_and_four(alloc)?, &Validity::AllValid)?;
-    expect_valid(&rt, alloc, &patched, &[true, false, true])
+    let patched = rows
+        .patch(
+            alloc,
+            3,
+            2,
+            &two_and_four(alloc).expect(&rt, "made"),
+            &Validity::AllValid,
+        )
+        .expect(&rt, "made");
+    expect_valid(&rt, alloc, &patched, &[true, false, true]).expect(&rt, "made");
 }
 
 #[test]
-fn rows_of_an_array_are_patched(rt: HostRuntime) -> Result<(), VortexError> {
+fn rows_of_an_array_are_patched(rt: HostRuntime) {
     let alloc = rt.alloc();
     let rows = [false, true, false, true, false];
     let want = [false, true, true, true, true];
-    expect_patched(&rt, alloc, valid(alloc, &rows)?, &Validity::AllValid, &want)?;
     expect_patched(
         &rt,
         alloc,
-        valid(alloc, &rows)?,
+        valid(alloc, &rows).expect(&rt, "made"),
+        &Validity::AllValid,
+        &want,
+    )
+    .expect(&rt, "made");
+    expect_patched(
+        &rt,
+        alloc,
+        valid(alloc, &rows).expect(&rt, "made"),
         &Validity::AllInvalid,
         &rows,
-    )?;
-    let patches = valid(alloc, &[true, false])?;
+    )
+    .expect(&rt, "made");
+    let patches = valid(alloc, &[true, false]).expect(&rt, "made");
     let want = [false, true, true, true, false];
-    expect_patched(&rt, alloc, valid(alloc, &rows)?, &patches, &want)
+    expect_patched(
+        &rt,
+        alloc,
+        valid(alloc, &rows).expect(&rt, "made"),
+        &patches,
+        &want,
+    )
+    .expect(&rt, "made");
 }
 
 // Five rows that are all valid, by a constant.
@@ -152,48 +180,64 @@ fn five_valid(alloc: Global) -> Result<Validity, VortexError> {
 }
 
 #[test]
-fn rows_of_a_constant_are_patched(rt: HostRuntime) -> Result<(), VortexError> {
+fn rows_of_a_constant_are_patched(rt: HostRuntime) {
     let alloc = rt.alloc();
-    let rows = five_valid(alloc)?;
-    expect_patched(&rt, alloc, rows, &Validity::AllValid, &[true; 5])?;
+    let rows = five_valid(alloc).expect(&rt, "made");
+    expect_patched(&rt, alloc, rows, &Validity::AllValid, &[true; 5]).expect(&rt, "made");
     let want = [true, true, false, true, false];
-    expect_patched(&rt, alloc, five_valid(alloc)?, &Validity::AllInvalid, &want)
+    expect_patched(
+        &rt,
+        alloc,
+        five_valid(alloc).expect(&rt, "made"),
+        &Validity::AllInvalid,
+        &want,
+    )
+    .expect(&rt, "made");
 }
 
 #[test]
-fn no_row_is_patched(rt: HostRuntime) -> Result<(), VortexError> {
+fn no_row_is_patched(rt: HostRuntime) {
     let alloc = rt.alloc();
-    let none = two_and_four(alloc)?.slice(alloc, 0..0)?;
-    let patched = five_valid(alloc)?.patch(alloc, 5, 0, &none, &Validity::AllInvalid)?;
-    expect_valid(&rt, alloc, &patched, &[true; 5])?;
-    let patched = Validity::AllInvalid.patch(alloc, 5, 0, &none, &Validity::AllValid)?;
-    expect_valid(&rt, alloc, &patched, &[false; 5])
+    let none = two_and_four(alloc)
+        .expect(&rt, "made")
+        .slice(alloc, 0..0)
+        .expect(&rt, "made");
+    let patched = five_valid(alloc)
+        .expect(&rt, "made")
+        .patch(alloc, 5, 0, &none, &Validity::AllInvalid)
+        .expect(&rt, "made");
+    expect_valid(&rt, alloc, &patched, &[true; 5]).expect(&rt, "made");
+    let patched = Validity::AllInvalid
+        .patch(alloc, 5, 0, &none, &Validity::AllValid)
+        .expect(&rt, "made");
+    expect_valid(&rt, alloc, &patched, &[false; 5]).expect(&rt, "made");
 }
 
 #[test]
-fn last_of_equal_positions_wins(rt: HostRuntime) -> Result<(), VortexError> {
+fn last_of_equal_positions_wins(rt: HostRuntime) {
     let scalar = Scalar::int(1, PType::U8, Nullability::NonNullable);
-    let places = ArrayRef::constant(rt.alloc(), scalar, 2)?;
-    let patches = valid(rt.alloc(), &[false, true])?;
-    let patched = Validity::AllValid.patch(rt.alloc(), 3, 0, &places, &patches)?;
-    expect_valid(&rt, rt.alloc(), &patched, &[true, true, true])
+    let places = ArrayRef::constant(rt.alloc(), scalar, 2).expect(&rt, "made");
+    let patches = valid(rt.alloc(), &[false, true]).expect(&rt, "made");
+    let patched = Validity::AllValid
+        .patch(rt.alloc(), 3, 0, &places, &patches)
+        .expect(&rt, "made");
+    expect_valid(&rt, rt.alloc(), &patched, &[true, true, true]).expect(&rt, "made");
 }
 
 #[test]
-fn patch_past_the_end(rt: HostRuntime) -> Result<(), VortexError> {
+fn patch_past_the_end(rt: HostRuntime) {
     let scalar = Scalar::int(4, PType::U8, Nullability::NonNullable);
-    let places = ArrayRef::constant(rt.alloc(), scalar, 1)?;
+    let places = ArrayRef::constant(rt.alloc(), scalar, 1).expect(&rt, "made");
     let found = match Validity::AllValid.patch(rt.alloc(), 2, 0, &places, &Validity::AllInvalid) {
         Err(VortexError::PatchOutOfRange { row: 0 }) => true,
         _ => false,
     };
     assert!(rt; found);
-    Ok(())
 }
 
 #[test]
-fn patch_of_another_nullability(rt: HostRuntime) -> Result<(), VortexError> {
-    let places = two_and_four(rt.alloc())?;
+fn patch_of_another_nullability(rt: HostRuntime) {
+    let places = two_and_four(rt.alloc()).expect(&rt, "made");
     let found = match Validity::NonNullable.patch(
         rt.alloc(),
         5,
@@ -205,7 +249,6 @@ fn patch_of_another_nullability(rt: HostRuntime) -> Result<(), VortexError> {
         _ => false,
     };
     assert!(rt; found);
-    Ok(())
 }
 
 // ---- rows
@@ -234,92 +277,121 @@ fn expect_taken(
 }
 
 #[test]
-fn rows_at_indices_with_null(rt: HostRuntime) -> Result<(), VortexError> {
+fn rows_at_indices_with_null(rt: HostRuntime) {
     let alloc = rt.alloc();
-    let places = zero_and_null(alloc)?;
-    expect_taken(&rt, alloc, Validity::AllValid, &places, &[true, false])?;
-    expect_taken(&rt, alloc, Validity::NonNullable, &places, &[true, false])
+    let places = zero_and_null(alloc).expect(&rt, "made");
+    expect_taken(&rt, alloc, Validity::AllValid, &places, &[true, false]).expect(&rt, "made");
+    expect_taken(&rt, alloc, Validity::NonNullable, &places, &[true, false]).expect(&rt, "made");
 }
 
 #[test]
-fn rows_at_indices_that_are_all_null(rt: HostRuntime) -> Result<(), VortexError> {
+fn rows_at_indices_that_are_all_null(rt: HostRuntime) {
     let alloc = rt.alloc();
-    let places = two_nulls(alloc)?;
-    expect_taken(&rt, alloc, Validity::AllValid, &places, &[false, false])?;
-    expect_taken(&rt, alloc, Validity::NonNullable, &places, &[false, false])?;
-    let rows = valid(alloc, &[true, true])?;
-    expect_taken(&rt, alloc, rows, &places, &[false, false])
+    let places = two_nulls(alloc).expect(&rt, "made");
+    expect_taken(&rt, alloc, Validity::AllValid, &places, &[false, false]).expect(&rt, "made");
+    expect_taken(&rt, alloc, Validity::NonNullable, &places, &[false, false]).expect(&rt, "made");
+    let rows = valid(alloc, &[true, true]).expect(&rt, "made");
+    expect_taken(&rt, alloc, rows, &places, &[false, false]).expect(&rt, "made");
 }
 
 #[test]
-fn rows_at_indices(rt: HostRuntime) -> Result<(), VortexError> {
-    let places = zero_and_one(rt.alloc())?;
-    expect_taken(&rt, rt.alloc(), Validity::AllValid, &places, &[true, true])?;
-    let taken = Validity::NonNullable.take(rt.alloc(), &places)?;
+fn rows_at_indices(rt: HostRuntime) {
+    let places = zero_and_one(rt.alloc()).expect(&rt, "made");
+    expect_taken(&rt, rt.alloc(), Validity::AllValid, &places, &[true, true]).expect(&rt, "made");
+    let taken = Validity::NonNullable
+        .take(rt.alloc(), &places)
+        .expect(&rt, "made");
     assert!(rt; taken.nullability() == Nullability::NonNullable);
-    Ok(())
 }
 
 #[test]
-fn rows_of_an_array_at_indices(rt: HostRuntime) -> Result<(), VortexError> {
+fn rows_of_an_array_at_indices(rt: HostRuntime) {
     let alloc = rt.alloc();
-    let places = two_and_four(alloc)?.mask(alloc, &booleans(alloc, &[false, true])?)?;
-    let rows = valid(alloc, &[false, false, true, false, true])?;
-    expect_valid(&rt, alloc, &rows.take(alloc, &places)?, &[false, true])
-}
-
-#[test]
-fn rows_in_a_range(rt: HostRuntime) -> Result<(), VortexError> {
-    let rows = valid(rt.alloc(), &[false, true, true])?;
+    let places = two_and_four(alloc)
+        .expect(&rt, "made")
+        .mask(alloc, &booleans(alloc, &[false, true]).expect(&rt, "made"))
+        .expect(&rt, "made");
+    let rows = valid(alloc, &[false, false, true, false, true]).expect(&rt, "made");
     expect_valid(
         &rt,
-        rt.alloc(),
-        &rows.slice(rt.alloc(), 0..2)?,
-        &[false, true],
-    )?;
-    assert!(rt;
-        Validity::AllInvalid
-            .slice(rt.alloc(), 7..3)?
-            .definitely_all_null()
-    );
-    Ok(())
-}
-
-#[test]
-fn rows_under_a_mask(rt: HostRuntime) -> Result<(), VortexError> {
-    let bits = BitBuffer::from_bools(rt.alloc(), &[true, false, true])?;
-    let mask = Mask::from_buffer(rt.alloc(), bits)?;
-    let rows = valid(rt.alloc(), &[false, true, true])?;
-    expect_valid(
-        &rt,
-        rt.alloc(),
-        &rows.filter(rt.alloc(), &mask)?,
+        alloc,
+        &rows.take(alloc, &places).expect(&rt, "made"),
         &[false, true],
     )
+    .expect(&rt, "made");
 }
 
 #[test]
-fn rows_the_other_way(rt: HostRuntime) -> Result<(), VortexError> {
-    let rows = valid(rt.alloc(), &[false, true, true])?;
+fn rows_in_a_range(rt: HostRuntime) {
+    let rows = valid(rt.alloc(), &[false, true, true]).expect(&rt, "made");
     expect_valid(
         &rt,
         rt.alloc(),
-        &rows.not(rt.alloc())?,
-        &[true, false, false],
-    )?;
-    assert!(rt; Validity::AllValid.not(rt.alloc())?.definitely_all_null());
-    assert!(rt; Validity::NonNullable.not(rt.alloc())?.definitely_no_nulls());
-    Ok(())
+        &rows.slice(rt.alloc(), 0..2).expect(&rt, "made"),
+        &[false, true],
+    )
+    .expect(&rt, "made");
+    assert!(rt;
+        Validity::AllInvalid
+            .slice(rt.alloc(), 7..3)
+            .expect(&rt, "made")
+            .definitely_all_null()
+    );
 }
 
 #[test]
-fn row_of_another_data_type(rt: HostRuntime) -> Result<(), VortexError> {
-    let found = match not_of_booleans(rt.alloc())?.is_null(rt.alloc(), 7) {
+fn rows_under_a_mask(rt: HostRuntime) {
+    let bits = BitBuffer::from_bools(rt.alloc(), &[true, false, true]).expect(&rt, "made");
+    let mask = Mask::from_buffer(rt.alloc(), bits).expect(&rt, "made");
+    let rows = valid(rt.alloc(), &[false, true, true]).expect(&rt, "made");
+    expect_valid(
+        &rt,
+        rt.alloc(),
+        &rows.filter(rt.alloc(), &mask).expect(&rt, "made"),
+        &[false, true],
+    )
+    .expect(&rt, "made");
+}
+
+#[test]
+fn rows_the_other_way(rt: HostRuntime) {
+    let rows = valid(rt.alloc(), &[false, true, true]).expect(&rt, "made");
+    expect_valid(
+        &rt,
+        rt.alloc(),
+        &rows.not(rt.alloc()).expect(&rt, "made"),
+        &[true, false, false],
+    )
+    .expect(&rt, "made");
+    assert!(rt;
+        Validity::AllValid
+            .not(rt.alloc())
+            .expect(&rt, "made")
+            .definitely_all_null()
+    );
+    assert!(rt;
+        Validity::NonNullable
+            .not(rt.alloc())
+            .expect(&rt, "made")
+            .definitely_no_nulls()
+    );
+}
+
+#[test]
+fn row_of_another_data_type(rt: HostRuntime) {
+    let found = match not_of_booleans(rt.alloc())
+        .expect(&rt, "made")
+        .is_null(rt.alloc(), 7)
+    {
         Err(VortexError::MismatchedTypes) => true,
         _ => false,
     };
-    assert!(rt; found && Validity::AllInvalid.is_null(rt.alloc(), 7)?);
-    Ok(())
+    assert!(rt;
+        found
+            && Validity::AllInvalid
+                .is_null(rt.alloc(), 7)
+                .expect(&rt, "made")
+    );
 }
 
 // ---- two of them
@@ -336,133 +408,176 @@ fn expect_both(
 }
 
 #[test]
-fn rows_valid_in_both(rt: HostRuntime) -> Result<(), VortexError> {
+fn rows_valid_in_both(rt: HostRuntime) {
     let alloc = rt.alloc();
     let (first, second) = ([true, true, false], [true, false, false]);
     expect_both(
         &rt,
         alloc,
-        valid(alloc, &first)?,
-        valid(alloc, &second)?,
+        valid(alloc, &first).expect(&rt, "made"),
+        valid(alloc, &second).expect(&rt, "made"),
         &second,
-    )?;
-    let some = valid(alloc, &[true, false])?;
-    expect_both(&rt, alloc, some, Validity::NonNullable, &[true, false])
+    )
+    .expect(&rt, "made");
+    let some = valid(alloc, &[true, false]).expect(&rt, "made");
+    expect_both(&rt, alloc, some, Validity::NonNullable, &[true, false]).expect(&rt, "made");
 }
 
 #[test]
-fn states_of_both(rt: HostRuntime) -> Result<(), VortexError> {
-    let both = Validity::AllValid.and(rt.alloc(), Validity::NonNullable)?;
+fn states_of_both(rt: HostRuntime) {
+    let both = Validity::AllValid
+        .and(rt.alloc(), Validity::NonNullable)
+        .expect(&rt, "made");
     assert!(rt; both.definitely_no_nulls() && both.nullability() == Nullability::Nullable);
-    let none = valid(rt.alloc(), &[true, false])?.and(rt.alloc(), Validity::AllInvalid)?;
+    let none = valid(rt.alloc(), &[true, false])
+        .expect(&rt, "made")
+        .and(rt.alloc(), Validity::AllInvalid)
+        .expect(&rt, "made");
     assert!(rt; none.definitely_all_null());
-    Ok(())
 }
 
 #[test]
-fn arrays_of_other_lengths(rt: HostRuntime) -> Result<(), VortexError> {
-    let rows = valid(rt.alloc(), &[true, true, false])?;
-    let found = match rows.and(rt.alloc(), valid(rt.alloc(), &[true])?) {
+fn arrays_of_other_lengths(rt: HostRuntime) {
+    let rows = valid(rt.alloc(), &[true, true, false]).expect(&rt, "made");
+    let found = match rows.and(rt.alloc(), valid(rt.alloc(), &[true]).expect(&rt, "made")) {
         Err(VortexError::LengthMismatch { .. }) => true,
         _ => false,
     };
     assert!(rt; found);
-    Ok(())
 }
 
 // ---- the same rows
 
 #[test]
-fn states_with_the_same_rows(rt: HostRuntime) -> Result<(), VortexError> {
+fn states_with_the_same_rows(rt: HostRuntime) {
     let alloc = rt.alloc();
-    assert!(rt; Validity::NonNullable.mask_eq(alloc, &Validity::AllValid, 3)?);
-    assert!(rt; Validity::AllValid.mask_eq(alloc, &Validity::NonNullable, 3)?);
-    assert!(rt; !Validity::AllValid.mask_eq(alloc, &Validity::AllInvalid, 3)?);
-    assert!(rt; !Validity::NonNullable.mask_eq(alloc, &Validity::AllInvalid, 3)?);
-    Ok(())
+    assert!(rt;
+        Validity::NonNullable
+            .mask_eq(alloc, &Validity::AllValid, 3)
+            .expect(&rt, "made")
+    );
+    assert!(rt;
+        Validity::AllValid
+            .mask_eq(alloc, &Validity::NonNullable, 3)
+            .expect(&rt, "made")
+    );
+    assert!(rt;
+        !Validity::AllValid
+            .mask_eq(alloc, &Validity::AllInvalid, 3)
+            .expect(&rt, "made")
+    );
+    assert!(rt;
+        !Validity::NonNullable
+            .mask_eq(alloc, &Validity::AllInvalid, 3)
+            .expect(&rt, "made")
+    );
 }
 
 #[test]
-fn arrays_of_even_rows(rt: HostRuntime) -> Result<(), VortexError> {
-    let all = valid(rt.alloc(), &[true, true, true])?;
-    assert!(rt; all.mask_eq(rt.alloc(), &Validity::AllValid, 3)?);
-    assert!(rt; Validity::NonNullable.mask_eq(rt.alloc(), &all, 3)?);
-    Ok(())
+fn arrays_of_even_rows(rt: HostRuntime) {
+    let all = valid(rt.alloc(), &[true, true, true]).expect(&rt, "made");
+    assert!(rt;
+        all.mask_eq(rt.alloc(), &Validity::AllValid, 3)
+            .expect(&rt, "made")
+    );
+    assert!(rt;
+        Validity::NonNullable
+            .mask_eq(rt.alloc(), &all, 3)
+            .expect(&rt, "made")
+    );
 }
 
 #[test]
-fn arrays_of_nulls(rt: HostRuntime) -> Result<(), VortexError> {
-    let none = valid(rt.alloc(), &[false, false, false])?;
-    assert!(rt; none.mask_eq(rt.alloc(), &Validity::AllInvalid, 3)?);
-    Ok(())
+fn arrays_of_nulls(rt: HostRuntime) {
+    let none = valid(rt.alloc(), &[false, false, false]).expect(&rt, "made");
+    assert!(rt;
+        none.mask_eq(rt.alloc(), &Validity::AllInvalid, 3)
+            .expect(&rt, "made")
+    );
 }
 
 #[test]
-fn arrays_of_mixed_rows(rt: HostRuntime) -> Result<(), VortexError> {
-    let some = valid(rt.alloc(), &[true, false, true])?;
-    assert!(rt; !some.mask_eq(rt.alloc(), &Validity::AllValid, 3)?);
-    assert!(rt; !some.mask_eq(rt.alloc(), &Validity::AllInvalid, 3)?);
-    Ok(())
+fn arrays_of_mixed_rows(rt: HostRuntime) {
+    let some = valid(rt.alloc(), &[true, false, true]).expect(&rt, "made");
+    assert!(rt;
+        !some
+            .mask_eq(rt.alloc(), &Validity::AllValid, 3)
+            .expect(&rt, "made")
+    );
+    assert!(rt;
+        !some
+            .mask_eq(rt.alloc(), &Validity::AllInvalid, 3)
+            .expect(&rt, "made")
+    );
 }
 
 #[test]
-fn arrays_that_are_true_as_often(rt: HostRuntime) -> Result<(), VortexError> {
-    let first = valid(rt.alloc(), &[true, false])?;
-    let second = valid(rt.alloc(), &[false, true])?;
-    assert!(rt; !first.mask_eq(rt.alloc(), &second, 2)?);
-    assert!(rt; first.mask_eq(rt.alloc(), &first, 2)?);
-    Ok(())
+fn arrays_that_are_true_as_often(rt: HostRuntime) {
+    let first = valid(rt.alloc(), &[true, false]).expect(&rt, "made");
+    let second = valid(rt.alloc(), &[false, true]).expect(&rt, "made");
+    assert!(rt; !first.mask_eq(rt.alloc(), &second, 2).expect(&rt, "made"));
+    assert!(rt; first.mask_eq(rt.alloc(), &first, 2).expect(&rt, "made"));
 }
 
 #[test]
-fn masks_as_validities(rt: HostRuntime) -> Result<(), VortexError> {
-    let bits = BitBuffer::from_bools(rt.alloc(), &[true, false])?;
-    let mask = Mask::from_buffer(rt.alloc(), bits)?;
-    let some = Validity::from_mask(rt.alloc(), mask, Nullability::Nullable)?;
-    expect_valid(&rt, rt.alloc(), &some, &[true, false])
+fn masks_as_validities(rt: HostRuntime) {
+    let bits = BitBuffer::from_bools(rt.alloc(), &[true, false]).expect(&rt, "made");
+    let mask = Mask::from_buffer(rt.alloc(), bits).expect(&rt, "made");
+    let some = Validity::from_mask(rt.alloc(), mask, Nullability::Nullable).expect(&rt, "made");
+    expect_valid(&rt, rt.alloc(), &some, &[true, false]).expect(&rt, "made");
 }
 
 #[test]
-fn even_masks_as_validities(rt: HostRuntime) -> Result<(), VortexError> {
-    let none = Validity::from_mask(rt.alloc(), Mask::new_false(9), Nullability::Nullable)?;
+fn even_masks_as_validities(rt: HostRuntime) {
+    let none = Validity::from_mask(rt.alloc(), Mask::new_false(9), Nullability::Nullable).expect(
+        &rt, "made",
+    );
     assert!(rt; none.definitely_all_null());
-    Ok(())
 }
 
 // ---- booleans
 
 #[test]
-fn arrays_of_states(rt: HostRuntime) -> Result<(), VortexError> {
-    let array = Validity::AllInvalid.to_array(rt.alloc(), 3)?;
+fn arrays_of_states(rt: HostRuntime) {
+    let array = Validity::AllInvalid
+        .to_array(rt.alloc(), 3)
+        .expect(&rt, "made");
     let validity = Validity::Array(array);
-    expect_valid(&rt, rt.alloc(), &validity, &[false, false, false])?;
+    expect_valid(&rt, rt.alloc(), &validity, &[false, false, false]).expect(&rt, "made");
     assert!(rt; validity.as_array().is_some() && Validity::AllValid.as_array().is_none());
     assert!(rt; validity.into_array().is_some());
-    Ok(())
 }
 
 #[test]
-fn booleans_as_a_validity(rt: HostRuntime) -> Result<(), VortexError> {
-    let bits = BitBuffer::from_bools(rt.alloc(), &[true, false])?;
-    let some = Validity::from_buffer(rt.alloc(), bits)?;
-    expect_valid(&rt, rt.alloc(), &some, &[true, false])
+fn booleans_as_a_validity(rt: HostRuntime) {
+    let bits = BitBuffer::from_bools(rt.alloc(), &[true, false]).expect(&rt, "made");
+    let some = Validity::from_buffer(rt.alloc(), bits).expect(&rt, "made");
+    expect_valid(&rt, rt.alloc(), &some, &[true, false]).expect(&rt, "made");
 }
 
 #[test]
-fn even_booleans_as_a_validity(rt: HostRuntime) -> Result<(), VortexError> {
-    let none = Validity::from_buffer(rt.alloc(), BitBuffer::new_unset(rt.alloc(), 2)?)?;
+fn even_booleans_as_a_validity(rt: HostRuntime) {
+    let none = Validity::from_buffer(
+        rt.alloc(),
+        BitBuffer::new_unset(rt.alloc(), 2).expect(&rt, "made"),
+    )
+    .expect(&rt, "made");
     assert!(rt; none.definitely_all_null());
-    let all = BitBuffer::new_set(rt.alloc(), 2)?;
-    let all = Validity::from_bit_buffer(rt.alloc(), all, Nullability::NonNullable)?;
+    let all = BitBuffer::new_set(rt.alloc(), 2).expect(&rt, "made");
+    let all = Validity::from_bit_buffer(rt.alloc(), all, Nullability::NonNullable).expect(
+        &rt, "made",
+    );
     assert!(rt; all.nullability() == Nullability::NonNullable);
-    Ok(())
 }
 
 #[test]
-fn no_booleans_as_a_validity(rt: HostRuntime) -> Result<(), VortexError> {
-    let empty = Validity::from_buffer(rt.alloc(), BitBuffer::new_set(rt.alloc(), 0)?)?;
+fn no_booleans_as_a_validity(rt: HostRuntime) {
+    let empty = Validity::from_buffer(
+        rt.alloc(),
+        BitBuffer::new_set(rt.alloc(), 0).expect(&rt, "made"),
+    )
+    .expect(&rt, "made");
     assert!(rt; empty.definitely_no_nulls() && empty.nullability() == Nullability::Nullable);
-    Ok(())
 }
 
 #[test]
@@ -475,23 +590,48 @@ fn states_of_a_nullability() {
 // ---- casts
 
 #[test]
-fn casts_to_plain(rt: HostRuntime) -> Result<(), VortexError> {
+fn casts_to_plain(rt: HostRuntime) {
     let alloc = rt.alloc();
-    assert!(rt; Validity::AllInvalid.into_non_nullable(alloc, 0)?.is_some());
-    assert!(rt; Validity::AllInvalid.into_non_nullable(alloc, 2)?.is_none());
-    assert!(rt; Validity::AllInvalid.trivial_into_non_nullable(0)?.is_some());
-    assert!(rt; Validity::AllValid.trivial_into_non_nullable(2)?.is_some());
     assert!(rt;
-        valid(alloc, &[true])?
-            .trivial_into_non_nullable(1)?
+        Validity::AllInvalid
+            .into_non_nullable(alloc, 0)
+            .expect(&rt, "made")
+            .is_some()
+    );
+    assert!(rt;
+        Validity::AllInvalid
+            .into_non_nullable(alloc, 2)
+            .expect(&rt, "made")
             .is_none()
     );
-    assert!(rt; Validity::AllValid.execute_no_nulls(alloc, 3)?);
-    Ok(())
+    assert!(rt;
+        Validity::AllInvalid
+            .trivial_into_non_nullable(0)
+            .expect(&rt, "made")
+            .is_some()
+    );
+    assert!(rt;
+        Validity::AllValid
+            .trivial_into_non_nullable(2)
+            .expect(&rt, "made")
+            .is_some()
+    );
+    assert!(rt;
+        valid(alloc, &[true])
+            .expect(&rt, "made")
+            .trivial_into_non_nullable(1)
+            .expect(&rt, "made")
+            .is_none()
+    );
+    assert!(rt;
+        Validity::AllValid
+            .execute_no_nulls(alloc, 3)
+            .expect(&rt, "made")
+    );
 }
 
 #[test]
-fn casts_of_nulls(rt: HostRuntime) -> Result<(), VortexError> {
+fn casts_of_nulls(rt: HostRuntime) {
     let cast = Validity::AllInvalid.cast_nullability(rt.alloc(), Nullability::NonNullable, 2);
     let found = match cast {
         Err(VortexError::HasNulls) => true,
@@ -504,16 +644,16 @@ fn casts_of_nulls(rt: HostRuntime) -> Result<(), VortexError> {
         _ => false,
     };
     assert!(rt; found);
-    Ok(())
 }
 
 #[test]
-fn casts_to_nullable(rt: HostRuntime) -> Result<(), VortexError> {
-    let cast = Validity::NonNullable.cast_nullability(rt.alloc(), Nullability::Nullable, 2)?;
+fn casts_to_nullable(rt: HostRuntime) {
+    let cast = Validity::NonNullable
+        .cast_nullability(rt.alloc(), Nullability::Nullable, 2)
+        .expect(&rt, "made");
     assert!(rt; cast.nullability() == Nullability::Nullable);
     let united = Validity::NonNullable.union_nullability(Nullability::Nullable);
     assert!(rt; united.nullability() == Nullability::Nullable);
-    Ok(())
 }
 
 // ---- laws

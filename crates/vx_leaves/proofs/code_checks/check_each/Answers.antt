@@ -3,11 +3,12 @@ use Rattle.std.proofs.lemmas.Bool.{cases_lt}
 use Rattle.std.proofs.lemmas.Result.{err_from_is_err_and}
 use Rattle.vx_base.specs.Integers.{numbers}
 use Rattle.vx_base.proofs.FirstFaults.{first_fault-of_none, first_fault-none_at}
+use Rattle.vx_base.proofs.RunLoops.{row_of_run}
 use Rattle.vx_tree.specs.Faults.{index_fault}
 use Rattle.vx_tree.specs.Meaning.{row_at}
 use Rattle.vx_tree.specs.Operations.{masked_numbers}
 use Rattle.vx_leaves.proofs.CodeRows.{run_fault, masked_out, masked_in, Names-run}
-use Rattle.vx_leaves.proofs.RunRows.{start_is, start_past, gap_first, gap_after, row_in_run}
+use Rattle.vx_leaves.proofs.RunRows.{start_is, start_past, gap_first, gap_after}
 use Rattle.vx_leaves.proofs.code_checks.check_each.Goals as goal
 
 pub loop-run-init : goal.loop-run-init
@@ -36,7 +37,7 @@ returns-in_err-check_run g c =
     let start = start_is mask runs are same at (0, 0) there in
     let p = err_from_is_err_and c.from_residual.result c.from_residual.ensures.1 in
     rw (p.1, p.2) (Names-run t bs mask c.args.len run.0 run.1 (length (numbers t bs)) c.in_err-check_run.field-0.0 (omega arith) (omega (arith, within, c.requires))
-    (λ i before. c.loop-run.invariant i (omega (arith, start, before))) (λ i low high. row_in_run mask runs are same at (0, 0) i there low high) c.in_err-check_run.ensures)
+    (λ i before. c.loop-run.invariant i (omega (arith, start, before))) (λ i low high. row_of_run mask runs at i (0, 0) are same there low high) c.in_err-check_run.ensures)
 
 pub loop-run-preserved : goal.loop-run-preserved
 loop-run-preserved g c = λ i before.
@@ -53,7 +54,7 @@ loop-run-preserved g c = λ i before.
     elim (cases_lt i run.0) [
       | inl early ↦ c.loop-run.invariant i (omega (arith, start, early))
       | inr late ↦ elim (cases_lt i run.1) [
-        | inl inside ↦ masked_in t bs mask c.args.len run.0 i late (row_in_run mask runs are same at (0, 0) i there late inside) ∙ first_fault-none_at (run_fault c.args.len (numbers t bs) run.0) run.1 i c.in_ok-check_run.ensures inside
+        | inl inside ↦ masked_in t bs mask c.args.len run.0 i late (row_of_run mask runs at i (0, 0) are same there late inside) ∙ first_fault-none_at (run_fault c.args.len (numbers t bs) run.0) run.1 i c.in_ok-check_run.ensures inside
         | inr past ↦ masked_out t bs mask c.args.len i (gap_after mask runs are same at (0, 0) i there past before)
       ]
     ]

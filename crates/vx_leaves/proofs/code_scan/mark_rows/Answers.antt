@@ -6,9 +6,10 @@ use Rattle.std.proofs.lemmas.List.Sorted.{IsPartitionPoint-from_clause}
 use Rattle.vx_base.specs.Bits.{bool_at}
 use Rattle.vx_base.specs.MaskRuns.{IsFirstPast}
 use Rattle.vx_base.proofs.MaskStretches.{ends_partition, IsFirstPast-point}
+use Rattle.vx_base.proofs.RunLoops.{row_of_run}
 use Rattle.vx_leaves.specs.Dictionaries.{AreNamed}
 use Rattle.vx_leaves.proofs.MarkedRuns.{AreNamed-run, AreNamed-skip}
-use Rattle.vx_leaves.proofs.RunRows.{row_in_run, row_before_run, row_past_runs, ends_by}
+use Rattle.vx_leaves.proofs.RunRows.{start_is, start_past, gap_before, ends_by}
 use Rattle.vx_leaves.proofs.code_scan.mark_rows.Goals as goal
 
 pub loop-row-init : goal.loop-row-init
@@ -31,7 +32,7 @@ mark_run-requires-clause-within g c = λ i low high.
     let mask = c.args.mask.now in
     let runs = c.runs-runs.result.now in
     let at = c.loop-row.at in
-    let within = c.requires.within i (omega arith) (row_in_run mask runs c.runs-runs.ensures.apart c.runs-runs.ensures.trues at (0, 0) i (omega arith) (omega arith) (omega arith)) in
+    let within = c.requires.within i (omega arith) (row_of_run mask runs at i (0, 0) c.runs-runs.ensures.apart c.runs-runs.ensures.trues (omega arith) (omega arith) (omega arith)) in
     omega (arith, within, c.loop-row.auto.out)
 
 pub loop-row-preserved : goal.loop-row-preserved
@@ -51,8 +52,8 @@ loop-row-preserved g c =
     let before : All (λ run. run.1 ≤ row) (take at runs) = c.loop-row.invariant.before more in
     let long : length old ≡ length new = sym c.mark_run.ensures.len in
     let named = AreNamed-run places (bool_at mask) row c.min-first.result c.min-row.result (length old) c.args.referenced old new (omega arith) (omega arith)
-    (λ i low high. row_before_run mask runs are same at (0, 0) row i there before low (omega arith))
-    (λ i low high. row_in_run mask runs are same at (0, 0) i there (omega arith) (omega arith))
+    (λ i low high. gap_before mask runs are same at row i before low (omega (arith, start_is mask runs are same at (0, 0) there)))
+    (λ i low high. row_of_run mask runs at i (0, 0) are same there (omega arith) (omega arith))
     c.loop-row.invariant.named c.mark_run.ensures in
     record {
       inside = omega arith;
@@ -73,8 +74,10 @@ returns-else-at-runs g c =
     let runs = c.runs-runs.result.now in
     let at = c.loop-row.at in
     let row = c.loop-row.row in
+    let are = c.runs-runs.ensures.apart in
+    let same = c.runs-runs.ensures.trues in
     let more : row < c.args.rows.end = omega arith in
     let skipped = AreNamed-skip places (bool_at mask) row c.args.rows.end (length c.loop-row.out) c.args.referenced c.loop-row.out (omega arith)
-    (λ i low high. row_past_runs mask runs c.runs-runs.ensures.apart c.runs-runs.ensures.trues at row i (omega arith) (c.loop-row.invariant.before more) low (omega arith))
+    (λ i low high. gap_before mask runs are same at row i (c.loop-row.invariant.before more) low (omega (arith, start_past mask runs are same at (omega arith))))
     c.loop-row.invariant.named in
     subst (λ n. AreNamed places (bool_at mask) c.args.rows.end n c.args.referenced c.loop-row.out) c.loop-row.auto.out skipped

@@ -4,10 +4,11 @@ use Rattle.std.proofs.Math.Nat.{mul-le-mul_right}
 use Rattle.std.proofs.lemmas.List.{ext_get_or, length-replicate}
 use Rattle.vx_base.specs.Integers.{byte_width, numbers, number_nth, Holds}
 use Rattle.vx_base.proofs.NumberLists.{length_numbers, whole}
+use Rattle.vx_base.proofs.RunLoops.{row_of_run}
 use Rattle.vx_leaves.specs.Narrow.{zeroed}
 use Rattle.vx_leaves.proofs.NarrowedRows.{zeroed_at, length-zeroed}
 use Rattle.vx_leaves.proofs.NumbersPlaced.{zero_nth}
-use Rattle.vx_leaves.proofs.RunRows.{row_in_run, runs_all, put_runs}
+use Rattle.vx_leaves.proofs.RunRows.{runs_all, put_runs}
 use Rattle.vx_leaves.proofs.narrow.put_numbers.Goals as goal
 
 pub loop-run-init : goal.loop-run-init
@@ -25,7 +26,7 @@ put_run-requires-clause-holds g c = λ k low high.
     let runs = c.runs-run-items.result.now in
     let are = c.runs-run-items.ensures.apart in
     let within = are.within c.loop-run.run-index (0, 0) c.loop-run-test.true in
-    let on = row_in_run mask runs are c.runs-run-items.ensures.trues c.loop-run.run-index (0, 0) k c.loop-run-test.true low high in
+    let on = row_of_run mask runs c.loop-run.run-index k (0, 0) are c.runs-run-items.ensures.trues c.loop-run-test.true low high in
     subst (Holds g.U.NativePType.PTYPE) (zeroed_at mask zs k ∙ ap (λ b. cond b (number_nth zs k) (pos 0)) on)
     (c.requires.holds k (pos 0) (omega (arith, within, high, length-zeroed mask zs c.requires.same_len)))
 

@@ -1,10 +1,11 @@
 use Rattle.std.proofs.Common.{◌≡◌, ◌+◌, ◌-◌, ◌++◌, length, get_or, take, map, sym, ap, ◌∙◌, subst, arith}
 use Rattle.std.specs.List.{range_with_len}
 use Rattle.vx_base.specs.Integers.{numbers, number_nth}
+use Rattle.vx_base.proofs.RunLoops.{row_of_run}
 use Rattle.vx_leaves.specs.Narrow.{IsSpan, kept}
 use Rattle.vx_leaves.proofs.NarrowedRows.{kept_gap, kept_run, kept_whole}
 use Rattle.vx_leaves.proofs.NarrowedTypes.{IsSpan-none, IsSpan-passed}
-use Rattle.vx_leaves.proofs.RunRows.{start_of, start_is, start_past, start_within, gap_first, gap_after, end_before, row_in_run}
+use Rattle.vx_leaves.proofs.RunRows.{start_of, start_is, start_past, start_within, gap_first, gap_after, end_before}
 use Rattle.vx_leaves.proofs.narrow.typed_span.Goals as goal
 
 pub loop-run-init : goal.loop-run-init
@@ -42,7 +43,7 @@ loop-run-preserved g c =
     let wide = c.widened_span-span.ensures (kept (take p mask) (take p zs)) c.loop-run.invariant in
     let list : kept (take p mask) (take p zs) ++ map (number_nth zs) (range_with_len run.0 (run.1 - run.0)) ≡ kept (take q mask) (take q zs) =
     ap (λ n. kept (take n mask) (take n zs) ++ map (number_nth zs) (range_with_len run.0 (run.1 - run.0))) (start_is mask runs are same i (0, 0) there)
-    ∙ sym (kept_run mask zs run.0 run.1 c.requires (omega arith) (are.within i (0, 0) there) (λ k low high. row_in_run mask runs are same i (0, 0) k there low high))
+    ∙ sym (kept_run mask zs run.0 run.1 c.requires (omega arith) (are.within i (0, 0) there) (λ k low high. row_of_run mask runs i k (0, 0) are same there low high))
     ∙ sym (kept_gap mask zs run.1 q c.requires (end_before mask runs are same i (0, 0) there) (start_within mask runs are same (i + 1)) (λ k low high. gap_after mask runs are same i (0, 0) k there low high)) in
     subst (λ ys. IsSpan t ys (g.T.Number.value c.widened_span-span.result.0) (g.T.Number.value c.widened_span-span.result.1)) list wide
 

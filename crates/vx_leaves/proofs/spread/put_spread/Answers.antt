@@ -5,9 +5,10 @@ use Rattle.std.proofs.lemmas.List.{ext_get_or, length-take, length-replicate}
 use Rattle.std.proofs.lemmas.List.Sums.{count_by-le-length}
 use Rattle.vx_base.specs.Integers.{numbers, number_nth, byte_width}
 use Rattle.vx_base.proofs.NumberLists.{length_numbers, whole}
+use Rattle.vx_base.proofs.RunLoops.{row_of_run}
 use Rattle.vx_leaves.specs.Spread.{spread}
 use Rattle.vx_leaves.proofs.NumbersPlaced.{zero_nth}
-use Rattle.vx_leaves.proofs.RunRows.{start_of, start_is, start_within, gap_first, gap_after, end_before, row_in_run, runs_all, count_gap, count_run}
+use Rattle.vx_leaves.proofs.RunRows.{start_of, start_is, start_within, gap_first, gap_after, end_before, runs_all, count_gap, count_run}
 use Rattle.vx_leaves.proofs.SpreadRows.{spread_at, spread_run, length-spread}
 use Rattle.vx_leaves.proofs.spread.put_spread.Goals as goal
 
@@ -39,7 +40,7 @@ overflow_add-next c =
     let run = get_or runs i (0, 0) in
     let start = start_is mask runs are same i (0, 0) there in
     let filled = are.filled i (0, 0) there in
-    let more = count_run mask run.0 run.1 (omega arith) (are.within i (0, 0) there) (λ k low high. row_in_run mask runs are same i (0, 0) k there low high) in
+    let more = count_run mask run.0 run.1 (omega arith) (are.within i (0, 0) there) (λ k low high. row_of_run mask runs i k (0, 0) are same there low high) in
     omega (arith, more, c.loop-run.invariant.counted, ap (λ n. count_by (λ b. b) (take n mask)) start, count_by-le-length (λ (b : Bool). b) (take run.1 mask), length-take run.1 mask)
 
 pub loop-run-preserved : goal.loop-run-preserved
@@ -54,7 +55,7 @@ loop-run-preserved c =
     let run = get_or runs i (0, 0) in
     let start = start_is mask runs are same i (0, 0) there in
     let filled = are.filled i (0, 0) there in
-    let more = count_run mask run.0 run.1 (omega arith) (are.within i (0, 0) there) (λ k low high. row_in_run mask runs are same i (0, 0) k there low high) in
+    let more = count_run mask run.0 run.1 (omega arith) (are.within i (0, 0) there) (λ k low high. row_of_run mask runs i k (0, 0) are same there low high) in
     let gap = count_gap mask run.1 (start_of (length mask) runs (i + 1)) (end_before mask runs are same i (0, 0) there) (start_within mask runs are same (i + 1)) (λ k low high. gap_after mask runs are same i (0, 0) k there low high) in
     record {
       counted = omega (arith, more, gap, c.loop-run.invariant.counted, ap (λ n. count_by (λ b. b) (take n mask)) start);

@@ -18,7 +18,7 @@ pub loop-place-preserved : goal.loop-place-preserved
 loop-place-preserved c =
     let same = c.deref.ensures.value ∙ c.in_ok-columns.ensures in
     let t = c.in_ok-concat.ensures in
-    let made : IsConcat c.deref.result.now c.in_ok-concat.field-0 = record { same_rows = t.rows; kind = t.kind; plain = t.plain; state = t.state; flag = t.flag } in
+    let made : IsConcat c.deref.result.now c.in_ok-concat.field-0 = record { same_rows = t.rows; kind = t.kind; plain = t.plain; state = t.state; extent = t.extent; flag = t.flag } in
     record {
       joined = concats-more (lists_of c.args.plain.now) c.loop-place.place c.loop-place.made.items c.push.new.self.items c.in_ok-concat.field-0 c.loop-place.invariant.joined
           (subst (λ d. IsConcat d c.in_ok-concat.field-0) same made) c.in_ok-push.ensures.items;

@@ -1,12 +1,15 @@
-use Rattle.std.proofs.Common.{◌≡◌, ◌<◌, length, true, ap, sym, subst, ◌∙◌, arith}
+use Rattle.std.proofs.Common.{◌≡◌, ◌<◌, length, map, true, None, Some, ap, sym, subst, ◌∙◌, inr, arith}
+use Rattle.std.specs.Prelude.{if◌then◌else◌}
 use Rattle.std.specs.List.{All}
 use Rattle.vx_base.specs.DTypes.{dtype_meaning, is_nullable}
 use Rattle.vx_base.specs.Kinds.{integers}
 use Rattle.vx_tree.specs.Meaning.{kind_of}
-use Rattle.vx_base.specs.Refusals.{Refuses}
-use Rattle.vx_tree.specs.Joined.{AreJoinable}
+use Rattle.vx_base.specs.Refusals.{Refuses, overflow}
+use Rattle.vx_tree.specs.Canonical.{plain_overflow}
+use Rattle.vx_tree.specs.Extents.{extent_of, joined_extent}
+use Rattle.vx_tree.specs.Joined.{joined_len, AreJoinable}
 use Rattle.vx_tree.specs.Concatenated.{are_alike}
-use Rattle.vx_tree.proofs.Concatenated.{alike_kinds, rows_joined, numbers_concatenated, given_none, join_fault-concat, first_kind, first_plain, kinds_of_first, ok_rows, ok_kind, ok_plain, ok_state, ok_flag, plain_count, plain_joinable}
+use Rattle.vx_tree.proofs.Concatenated.{alike_kinds, rows_joined, numbers_concatenated, rows_refused, given_none, join_fault-concat, first_kind, first_plain, kinds_of_first, ok_rows, ok_kind, ok_plain, ok_state, ok_extent, ok_flag, plain_count, plain_joinable}
 use Rattle.vx_tree.proofs.array.ArrayRef.concat.Goals as goal
 
 pub join_like-requires-clause-plain : goal.join_like-requires-clause-plain
@@ -52,6 +55,10 @@ returns-clause-state c =
     let some : 0 < length ps = omega (arith, plain_count ts ps c.in_ok-plain.ensures.ok, c.in-Some.ensures.item.3.0) in
     ok_state c.join_like.result (kind_of c.index.result.now) ts ps c.in_ok-plain.ensures.ok some (rw c.deref-2.ensures.value at c.join_like.ensures.ok)
 
+pub returns-clause-extent : goal.returns-clause-extent
+returns-clause-extent c =
+    ok_extent c.join_like.result (kind_of c.index.result.now) c.args.arrays.now c.in_ok-plain.plain.items c.in_ok-plain.ensures.ok (rw c.deref-2.ensures.value at c.join_like.ensures.ok)
+
 pub returns-clause-flag : goal.returns-clause-flag
 returns-clause-flag c = ok_flag c.join_like.result (kind_of c.index.result.now) c.deref-2.result.now c.join_like.ensures.ok
 
@@ -96,6 +103,10 @@ returns-in-Primitive-clause-plain c = c.in_ok-concat_numbers.ensures.plain
 pub returns-in-Primitive-clause-state : goal.returns-in-Primitive-clause-state
 returns-in-Primitive-clause-state c = c.in_ok-concat_numbers.ensures.state c.in-Some.ensures.item.3.0
 
+pub returns-in-Primitive-clause-extent : goal.returns-in-Primitive-clause-extent
+returns-in-Primitive-clause-extent c =
+    c.in_ok-concat_numbers.ensures.extent ∙ ap (λ k. joined_extent k (map extent_of c.args.arrays.now)) (sym c.in_ok-concat_numbers.ensures.kind)
+
 pub returns-in-Primitive-clause-flag : goal.returns-in-Primitive-clause-flag
 returns-in-Primitive-clause-flag c = c.in_ok-concat_numbers.ensures.flag
 
@@ -107,3 +118,13 @@ returns-in-Primitive-clause-refuses c =
     let alike : are_alike (kind_of t) ts ≡ true = sym (ap (λ k. are_alike k ts) c.dtype.ensures) ∙ sym c.are_alike.ensures ∙ c.if-not-are_alike.false in
     let kind : kind_of t ≡ integers c.in-Primitive.ptype (is_nullable c.in-Primitive.nullability) = sym c.dtype-2.ensures ∙ ap dtype_meaning c.in-Primitive.is in
     numbers_concatenated ts t c.in-Primitive.ptype (is_nullable c.in-Primitive.nullability) kind item.3.0 item.1 alike c.in_ok-len.ensures.tests
+
+pub returns-then-not-is_countable : goal.returns-then-not-is_countable
+returns-then-not-is_countable c =
+    let ts = c.args.arrays.now in
+    let t = c.in-Some.first.now in
+    let item = c.in-Some.ensures.item in
+    let alike : are_alike (kind_of t) ts ≡ true = sym (ap (λ k. are_alike k ts) c.dtype.ensures) ∙ sym c.are_alike.ensures ∙ c.if-not-are_alike.false in
+    let told : plain_overflow (kind_of t) (joined_len ts) ≡ (if c.is_countable.result then None else Some overflow) =
+    (λ i. plain_overflow (sym c.dtype-3.ensures i) (sym c.in_ok-len.ensures.len i)) ∙ c.is_countable.ensures in
+    record { rows = tt; kind = tt; plain = tt; state = tt; extent = tt; flag = tt; refuses = inr (rows_refused ts t c.is_countable.result item.3.0 item.1 alike c.in_ok-len.ensures.tests told c.if-not-is_countable.true) }

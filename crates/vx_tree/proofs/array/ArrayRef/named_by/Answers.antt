@@ -12,16 +12,16 @@ pub select_within-requires-clause-within : goal.select_within-requires-clause-wi
 select_within-requires-clause-within c =
     let v = c.args.self.now in
     let ps = c.in_ok-positions.positions in
-    let are : AreIndices c.args.codes.now (tree_len v) ps = rw c.len-3.ensures at c.in_ok-positions.ensures in
+    let are : AreIndices c.args.codes.now (tree_len v) ps = rw c.len-2.ensures at c.in_ok-positions.ensures in
     let below = positions_below c.args.codes.now (tree_len v) ps are (not_empty c.is_empty.result (tree_len v) c.is_empty.ensures c.if-is_empty.false) in
     rw c.selection.ensures below
 
-pub returns-clause-ok : goal.returns-clause-ok
-returns-clause-ok c =
+pub returns : goal.returns
+returns c =
     let v = c.args.self.now in
     let ps = c.in_ok-positions.positions in
-    let are : AreIndices c.args.codes.now (tree_len v) ps = rw c.len-3.ensures at c.in_ok-positions.ensures in
+    let are : AreIndices c.args.codes.now (tree_len v) ps = rw c.len-2.ensures at c.in_ok-positions.ensures in
     let selected : IsSelected v ps c.in_ok-selected.selected = rw c.selection.ensures at c.in_ok-selected.ensures in
-    let valid : IsCanonicalValid (valid_of c.in_ok-validity.field-0) (tree_len c.args.codes.now) (valid_of c.in_ok-nulls.nulls) = rw c.len-2.ensures at c.in_ok-nulls.ensures in
+    let valid : IsCanonicalValid (valid_of c.in_ok-validity.field-0) (tree_len c.args.codes.now) (valid_of c.in_ok-nulls.nulls) = rw c.len.ensures at c.in_ok-nulls.ensures in
     named_values c.args.codes.now v c.in_ok-selected.selected c.in_ok-nulled.field-0 ps (valid_of c.in_ok-validity.field-0) (valid_of c.in_ok-nulls.nulls)
     c.requires.plain c.in_ok-validity.ensures valid are selected c.in_ok-nulled.ensures.by_row
