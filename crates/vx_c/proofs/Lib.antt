@@ -8,3 +8,7 @@ pub mod WrittenTables
 pub mod WrittenLayouts
 pub mod SameNodes
 pub mod Moved
+pub mod Sixteen
+pub mod RunParts
+pub mod Meant
+pub mod RunFaults

@@ -41,7 +41,7 @@ use Rattle.vx_c.specs.Written.{IsWritten, IsPut, IsParent, IsBitsNode, node_of, 
 use Rattle.vx_c.proofs.LayoutParts.{made_by}
 use Rattle.vx_c.proofs.Names.{columns_taken, values_faultless}
 use Rattle.vx_c.proofs.Unflagged.{kept_len, kept_kind, kept_row, kept_valid, kept_nullable, unflagged-trees_from, trees_count-from}
-use Rattle.vx_c.proofs.WrittenTables.{parts-written, leaf-written, written-none, written-both}
+use Rattle.vx_c.proofs.WrittenTables.{parts-written, leaf-written, none_written, written-both}
 
 -- ---- kinds and counts
 
@@ -200,13 +200,15 @@ lists_none e o s v f formed short =
     or_else-second (list_parts_fault a b u) (list_rows_fault (tree_len (unflagged e)) a b) None parts (kept_rows e o s ∙ rows_none e o s f formed.1 short)
 
 pub lists_written : (e o s : Tree) (v : Valid) (f : Bool) (n size : ℕ) (names : List (List ℕ)) (old m1 m2 m3 new : List WrittenNode) → WellFormed (list_view e o s v f)
-    → tree_len e < 2 ^ 64 → n ≡ tree_len o → IsParent ListView size n names v old m1
-    → IsWritten m1 (unflagged e ∷ unflagged o ∷ unflagged s ∷ []) new → IsWritten old (unflagged (list_view e o s v f) ∷ []) new
-lists_written e o s v f n size names old m1 m2 m3 new formed short rows parent parts =
+    → tree_len e < 2 ^ 64 → n ≡ tree_len o → IsParent ListView size n names v old m1 → IsWritten m1 (unflagged e ∷ []) m2 → IsWritten m2 (unflagged o ∷ []) m3
+    → IsWritten m3 (unflagged s ∷ []) new → IsWritten old (unflagged (list_view e o s v f) ∷ []) new
+lists_written e o s v f n size names old m1 m2 m3 new formed short rows parent first second third =
     let u = unflagged_valid v in
     let w = parent.node in
     let t : Tree = list_view (unflagged e) (unflagged o) (unflagged s) u false in
     let us : List Tree = unflagged e ∷ unflagged o ∷ unflagged s ∷ [] in
+    let parts : IsWritten m1 us new =
+    written-both m1 m2 new (unflagged e ∷ []) (unflagged o ∷ unflagged s ∷ []) first (written-both m2 m3 new (unflagged o ∷ []) (unflagged s ∷ []) second third) in
     parts-written w ListView v old m1 new us t (known_as w ListView parent.kind) parent.validity parent.put parts
     (λ others. made_by (list_view_fault (unflagged e) (unflagged o) (unflagged s) u) t t others (lists_none e o s v f formed short) refl)
     (kept_len o ∙ sym rows ∙ sym parent.len_is) (let all = count-valid u us in omega (arith, all))
@@ -372,7 +374,7 @@ values_written w vs bs k v old new kind number len views buffers formed put =
 -- ---- what each call puts
 
 pub put_alone : (w : WrittenNode) (v : Valid) (old new : List WrittenNode) → new ≡ old ++ w ∷ [] → valid_trees (unflagged_valid v) ≡ [] → IsPut w v old new
-put_alone w v old new pushed none = record { mid = new; first = pushed; valid = subst (λ ts. IsWritten new ts new) (sym none) (written-none new) }
+put_alone w v old new pushed none = record { mid = new; first = pushed; valid = subst (λ ts. IsWritten new ts new) (sym none) (none_written new) }
 
 pub put_masked : (w : WrittenNode) (t : Tree) (old mid new : List WrittenNode) → mid ≡ old ++ w ∷ [] → IsWritten mid (unflagged t ∷ []) new → IsPut w (by_array t) old new
 put_masked w t old mid new pushed mask = record { mid = mid; first = pushed; valid = mask }

@@ -55,8 +55,8 @@ append_nothing : (ws : List WrittenNode) → ws ≡ ws ++ []
 append_nothing [] = refl
 append_nothing (w ∷ ws) = ap (λ xs. w ∷ xs) (append_nothing ws)
 
-pub written-none : (old : List WrittenNode) → IsWritten old [] old
-written-none old = record { more = []; put = append_nothing old; len = refl; tables = tables-none }
+pub none_written : (old : List WrittenNode) → IsWritten old [] old
+none_written old = record { more = []; put = append_nothing old; len = refl; tables = tables-none }
 
 pub written-both : (old mid new : List WrittenNode) (ts us : List Tree) → IsWritten old ts mid → IsWritten mid us new → IsWritten old (ts ++ us) new
 written-both old mid new ts us first second = record {
@@ -114,4 +114,4 @@ pub leaf-written : (w : WrittenNode) (k : NodeKind) (v : Valid) (old new : List 
     → ((others : List Tree) → layout_made k (node_of w) (unflagged_valid v) others ≡ Ok (t, others)) → tree_len t ≡ w.length
     → node_count t ≡ suc (nodes_of (valid_trees (unflagged_valid v) ++ [])) → IsWritten old (t ∷ []) new
 leaf-written w k v old new t known number put made len count =
-    parts-written w k v old new new [] t known number put (written-none new) made len count
+    parts-written w k v old new new [] t known number put (none_written new) made len count

@@ -156,6 +156,7 @@ impl CodraskRunFault {
 }
 
 // What C is told of a run that is refused.
+#[tactic(auto, using(crate::proofs::RunFaults::told_some))]
 pub(crate) fn told_of_run(error: RunError) -> CodraskRunFault
     ensures told { result ≡ told_of_run error }
     ensures some { 0 < result.number }

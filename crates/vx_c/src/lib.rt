@@ -56,6 +56,7 @@ pub extern "C" fn codrask_check(
 /// empty is one. Else the answer is the number of the first fault, and `fault` says where it is: of
 /// the tables, then of the steps, then of the step that is refused, then of what is asked for. It
 /// is 1 where memory was refused. `made` is then as it was.
+#[tactic(auto, using(crate::proofs::RunParts::told_run))]
 #[unsafe(no_mangle)]
 pub extern "C" fn codrask_run(
     alloc: Global,

@@ -1,11 +1,11 @@
 // A run: columns that C hands over, steps on them, and the tables of what is asked for.
 
-ghost use Rattle.std.specs.Prelude.{◌≡◌, ◌≤◌, Ok, IfOk, IfErr, length, map};
+ghost use Rattle.std.specs.Prelude.{IfOk, IfErr, map};
 ghost use Rattle.std.specs.List.{AllZip};
-ghost use Rattle.vx_run.specs.Steps.{HasRun, IsStop};
+ghost use Rattle.vx_run.specs.Steps.{HasRun};
 ghost use Rattle.vx_c.specs.Tables.{column_of};
 ghost use Rattle.vx_c.specs.Written.{node_of};
-ghost use Rattle.vx_c.specs.Runs.{column_in, AreColumns, AreSteps, IsMade, IsMadeOf, IsRunError, IsNoTable, AreColumnsOr, AreStepsOr, IsRanOr, AreTablesOr};
+ghost use Rattle.vx_c.specs.Runs.{AreColumns, AreSteps, IsMade, IsMadeOf, IsRunError, IsNoTable, AreColumnsOr, AreStepsOr, IsRanOr, AreTablesOr};
 
 use crate::faults::{NodeError, RunError};
 use crate::lending::lend_tables;
@@ -23,6 +23,7 @@ use vx_tree::ArrayRef;
 pub(crate) const MAX_STEPS: usize = 1024;
 
 // Runs steps on the columns of tables, and gives the tables of the arrays that are asked for.
+#[tactic(auto, using(crate::proofs::RunParts::run_parts))]
 pub(crate) fn run_tables(
     alloc: Global,
     tables: &[CodraskTable<'_>],
@@ -41,6 +42,7 @@ pub(crate) fn run_tables(
 }
 
 // The columns of tables.
+#[tactic(auto, using(crate::proofs::RunParts::columns_read, crate::proofs::Running::no_column))]
 fn columns_of(alloc: Global, tables: &[CodraskTable<'_>]) -> Result<Vec<ArrayRef>, RunError>
     ensures ok { IfOk result (λ columns. AreColumns tables.now columns.items) }
     ensures err { IfErr result (AreColumnsOr tables.now) }
@@ -56,6 +58,7 @@ fn columns_of(alloc: Global, tables: &[CodraskTable<'_>]) -> Result<Vec<ArrayRef
 }
 
 // The steps that C means.
+#[tactic(auto, using(crate::proofs::RunParts::step_parts))]
 fn steps_of(alloc: Global, steps: &[CodraskStep<'_>]) -> Result<Vec<Step>, RunError>
     ensures ok { IfOk result (λ read. AreSteps steps.now read.items) }
     ensures err { IfErr result (AreStepsOr steps.now) }
@@ -89,6 +92,7 @@ fn results_of(
 }
 
 // The tables of the arrays that are asked for.
+#[tactic(auto, using(crate::proofs::RunParts::tables_read, crate::proofs::Running::no_table))]
 fn tables_of(
     alloc: Global,
     results: &[ArrayRef],
@@ -108,6 +112,7 @@ fn tables_of(
 }
 
 // The table of the array at a position, in plain layouts.
+#[tactic(auto, using(crate::proofs::RunParts::table_parts))]
 fn table_of(
     alloc: Global,
     results: &[ArrayRef],

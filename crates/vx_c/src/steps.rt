@@ -1,11 +1,11 @@
 // The steps that C hands over.
 
-ghost use Rattle.std.specs.Prelude.{◌≡◌, ◌≤◌, ◌⊎◌, IfOk, IfErr, length, map, AllZip};
+ghost use Rattle.std.specs.Prelude.{◌≡◌, Some, None, IfOk, IfErr, map};
 ghost use Rattle.vx_base.specs.Refusals.{Refuses};
-ghost use Rattle.vx_c.specs.declared.reading.TheConstants.{MAX_STEPS};
-ghost use Rattle.vx_c.specs.Tables.{names_fault};
+ghost use Rattle.vx_c.specs.Tables.{utf8_fault, names_fault};
 ghost use Rattle.vx_c.specs.Answers.{IsFormFault};
-ghost use Rattle.vx_c.specs.Steps.{step_numbered, mode_numbered, flag_numbered, form_fault, means, MeansStep, IsStepOf};
+ghost use Rattle.vx_c.specs.StepKinds.{step_numbered, mode_numbered, flag_numbered};
+ghost use Rattle.vx_c.specs.Steps.{form_fault, MeansStep, IsStepOf};
 
 use crate::faults::NodeError;
 use crate::layouts::name_of;
@@ -125,6 +125,7 @@ pub(crate) fn step_of(alloc: Global, step: &CodraskStep<'_>) -> Result<Step, Nod
 
 // The step of a kind. Refuses `BadMode` where the kind has no such mode, then `NotUtf8` at the first
 // name that is no text.
+#[tactic(auto, using(crate::proofs::Meant::meant))]
 fn step_of_kind(
     alloc: Global,
     kind: StepKind,

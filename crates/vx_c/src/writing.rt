@@ -83,6 +83,7 @@ pub(crate) fn write(
 
 // Puts the tables of columns after these nodes.
 #[cycle(write)]
+#[tactic(auto, using(crate::proofs::WrittenTables::none_written, crate::proofs::WrittenLayouts::columns_more, crate::proofs::Moved::plain_column))]
 fn write_columns(
     alloc: Global,
     columns: &[ArrayRef],
