@@ -37,7 +37,7 @@ use Rattle.vx_c.specs.declared.written.WrittenNode.{WrittenNode}
 use Rattle.vx_c.specs.NodeKinds.{kind_numbered, kind_number}
 use Rattle.vx_c.specs.Tables.{unless, layout_made, records_made, views_made, buffers_in, views_in, view_bytes, bits_fault, names_fault, missing_nodes}
 use Rattle.vx_c.specs.Unflagged.{unflagged, unflagged_trees, unflagged_valid, node_count, trees_count, valid_count, nodes_of}
-use Rattle.vx_c.specs.Written.{IsWritten, IsPut, IsParent, IsBitsNode, node_of, valid_number, valid_trees}
+use Rattle.vx_c.specs.Written.{IsWritten, IsPut, IsParent, IsBitsNode, node_of, valid_number, valid_trees, view_kind}
 use Rattle.vx_c.proofs.LayoutParts.{made_by}
 use Rattle.vx_c.proofs.Names.{columns_taken, values_faultless}
 use Rattle.vx_c.proofs.Unflagged.{kept_len, kept_kind, kept_row, kept_valid, kept_nullable, unflagged-trees_from, trees_count-from}
@@ -348,11 +348,6 @@ values-made n vs bs k v others views buffers formed =
     let same : view_array vs bs k u ≡ array_of_views (views_in n) (buffers_in n) k u =
     (λ j. view_array (sym (emptied_same vs bs k v formed) j) bs k u) ∙ (λ j. array_of_views (sym views j) (sym buffers j) k u) in
     made_by (view_array_fault (views_in n) (buffers_in n) k u) (array_of_views (views_in n) (buffers_in n) k u) (view_array vs bs k u) others none same
-
--- the kind that a layout of views has
-abbrev pub view_kind : Bool → NodeKind
-view_kind true = Utf8
-view_kind false = Binary
 
 values-layout : (b : Bool) (n : CodraskNode) (vs bs : List (List ℕ)) (k : Kind) (v : Valid) (others : List Tree) → is_texts k ≡ b → views_in n ≡ vs → buffers_in n ≡ bs
     → WellFormed (view_array vs bs k v) → layout_made (view_kind b) n (unflagged_valid v) others ≡ Ok (view_array vs bs k (unflagged_valid v), others)

@@ -1,5 +1,5 @@
 -- The tables of arrays, as they are written.
-use Rattle.std.specs.Prelude.{◌≡◌, ◌+◌, ◌++◌, ℕ, Bool, List, [], ◌∷◌, length, map, Ok, None}
+use Rattle.std.specs.Prelude.{◌≡◌, ◌+◌, ◌++◌, ℕ, Bool, true, false, List, [], ◌∷◌, length, map, Ok, None}
 use Rattle.vx_base.specs.Bits.{unpacked}
 use Rattle.vx_tree.specs.Tree.{Tree, Valid, non_nullable, all_valid, all_invalid, by_array}
 use Rattle.vx_c.specs.declared.table.CodraskNode.{CodraskNode}
@@ -54,6 +54,11 @@ pub record IsWritten (old : List WrittenNode) (arrays : List Tree) (new : List W
   pub tables : AreTablesOf (map node_of more) arrays
 
 -- ---- one node
+
+-- the kind of texts, else of byte lists
+abbrev pub view_kind : Bool → NodeKind
+view_kind true = kind.Utf8
+view_kind false = kind.Binary
 
 -- the number of a validity, and its array
 abbrev pub valid_number : Valid → ℕ

@@ -75,8 +75,12 @@ pub extern "C" fn codrask_run(
         Ok(written) => {
             *made = CodraskTables { tables: written };
             *fault = CodraskRunFault::none();
+            0
         }
-        Err(error) => *fault = told_of_run(error),
+        Err(error) => {
+            let refusal = told_of_run(error);
+            *fault = refusal;
+            refusal.number
+        }
     }
-    fault.number
 }

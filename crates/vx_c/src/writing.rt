@@ -5,14 +5,14 @@ ghost use Rattle.vx_base.specs.DTypes.{dtype_meaning};
 ghost use Rattle.vx_base.specs.Refusals.{Gives};
 ghost use Rattle.vx_tree.specs.Formed.{WellFormed, ValidFits};
 ghost use Rattle.vx_base.specs.Kinds.{booleans};
-ghost use Rattle.vx_tree.specs.Meaning.{tree_len, kind_of, trees_from};
+ghost use Rattle.vx_tree.specs.Meaning.{tree_len, kind_of, is_texts, trees_from};
 ghost use Rattle.vx_tree.specs.Parts.{valid_of};
 ghost use Rattle.vx_tree.specs.Plain.{IsPlain, ArePlain, IsPlainValid};
 ghost use Rattle.vx_tree.specs.Tree.{bools, primitive, view_array};
 ghost use Rattle.vx_c.specs.declared.table.NodeKind.TheVariants.{FixedSizeList, ListView, Struct};
 ghost use Rattle.vx_c.specs.Tables.{view_bytes, names_fault};
 ghost use Rattle.vx_c.specs.Unflagged.{unflagged, unflagged_valid};
-ghost use Rattle.vx_c.specs.Written.{IsWritten, IsPut, IsParent, IsBitsNode, valid_number};
+ghost use Rattle.vx_c.specs.Written.{IsWritten, IsPut, IsParent, IsBitsNode, valid_number, view_kind};
 
 use crate::table::{CodraskView, NodeKind};
 use crate::written::{WrittenBuffers, WrittenNode};
@@ -201,7 +201,6 @@ fn put_numbers(
 }
 
 // Puts the nodes of texts or byte lists after these.
-#[tactic(auto, using(crate::proofs::WrittenLayouts::values_written))]
 fn put_values(
     alloc: Global,
     views: &Buffer<BinaryView>,
@@ -215,13 +214,8 @@ fn put_values(
     ensures { Gives result (λ _. IsWritten nodes.old.items
         (view_array views.now buffers.now (dtype_meaning dtype.now) (unflagged_valid (valid_of validity.now)) ∷ []) nodes.new.items) }
 {
-    let kind = if matches!(dtype, DType::Utf8(_)) {
-        NodeKind::Utf8
-    } else {
-        NodeKind::Binary
-    };
     let node = WrittenNode {
-        kind,
+        kind: kind_of_views(dtype),
         validity: number_of(validity),
         size: 0,
         length: views.len(),
@@ -231,6 +225,16 @@ fn put_values(
         buffers: WrittenBuffers::of(alloc, copies_of(alloc, buffers)?)?,
     };
     Ok(put(alloc, node, validity, nodes)?)
+}
+
+// The kind of texts, else of byte lists.
+fn kind_of_views(dtype: &DType) -> NodeKind
+    ensures { result ≡ view_kind (is_texts (dtype_meaning dtype.now)) }
+{
+    match dtype {
+        DType::Utf8(_) => NodeKind::Utf8,
+        _ => NodeKind::Binary,
+    }
 }
 
 // Puts a node of lists after these, the parts of which follow.
