@@ -1,5 +1,5 @@
 -- A run: what is read one after another, what is written of it, and why it is refused.
-use Rattle.std.proofs.Common.{◌≡◌, ◌+◌, ◌≤◌, ◌<◌, ℕ, zero, suc, List, [], ◌∷◌, ◌++◌, length, map, take, get_or, refl, sym, ◌∙◌, ap, subst, inl, inr, arith}
+use Rattle.std.proofs.Common.{◌≡◌, ◌+◌, ◌≤◌, ◌<◌, ℕ, zero, suc, List, [], ◌∷◌, ◌++◌, length, map, take, get_or, refl, sym, ◌∙◌, ap, subst, inl, inr, arith, rules}
 use Rattle.std.specs.Prelude.{Option, Some, None, Result, Ok, Err, slice_get, slice_index_or, nat_lt, IsSomeAnd, if◌then◌else◌}
 use Rattle.std.specs.List.{AllZip}
 use Rattle.std.specs.Option.{option_map}
@@ -106,7 +106,7 @@ no_array results w len none = inl (inr (ap (λ o. option_map refused (or_else o 
     outside (x ∷ xs) zero is = absurd (cc)
     outside (x ∷ xs) (suc i) is = omega (arith, outside xs i is)
     past : position_fault (length results) w ≡ Some (out_of_bounds w)
-    past = let long = outside results w none in search (arith, long)
+    past = let long = outside results w none in search (rules, arith, long)
 
 pub not_plain : (results : List Tree) (w : ℕ) (a : Tree) (v : VortexError) → slice_get results w ≡ Some a → IsMemoryOr (canonical_fault a) v
     → IsNoTable results w (Refused v)
@@ -116,7 +116,7 @@ not_plain results w a v is fault =
     inside : w < length results
     inside = slice_get_within results w a is
     stands : position_fault (length results) w ≡ None
-    stands = search (arith, inside)
+    stands = search (rules, arith, inside)
     same : or_else (position_fault (length results) w) (canonical_fault (array_at results w)) ≡ canonical_fault a
     same = ap (λ o. or_else o (canonical_fault (array_at results w))) stands ∙ ap canonical_fault (array_there results w a is)
 
