@@ -118,18 +118,18 @@ struct codrask_column {
 
 /* What a step appends to the list of arrays. */
 enum codrask_step_kind {
-    CODRASK_SLICE = 0,         /* array, start, end: the rows from start up to end */
-    CODRASK_TAKE = 1,          /* array, other: the rows at the indices that another array of integers holds */
-    CODRASK_FILTER = 2,        /* array, other: the rows at which another array of truth values is true */
-    CODRASK_MASK = 3,          /* array, other: the rows, null where another array of truth values is false */
-    CODRASK_CONCAT = 4,        /* arrays: the rows of several arrays */
-    CODRASK_CANONICAL = 5,     /* array: the rows in plain layout */
-    CODRASK_REBUILD = 6,       /* array, mode: lists, laid out anew */
-    CODRASK_NARROW = 7,        /* array: numbers in the narrowest type that has them */
-    CODRASK_PROJECT = 8,       /* array, names: the columns of these names */
-    CODRASK_WITH_COLUMN = 9,   /* array, name, other: records with one column more */
+    CODRASK_SLICE = 0,          /* array, start, end: the rows from start up to end */
+    CODRASK_TAKE = 1,           /* array, other: the rows at the indices that another array of integers holds */
+    CODRASK_FILTER = 2,         /* array, other: the rows at which another array of truth values is true */
+    CODRASK_MASK = 3,           /* array, other: the rows, null where another array of truth values is false */
+    CODRASK_CONCAT = 4,         /* arrays: the rows of several arrays */
+    CODRASK_CANONICAL = 5,      /* array: the rows in plain layout */
+    CODRASK_REBUILD = 6,        /* array, mode: lists, laid out anew */
+    CODRASK_NARROW = 7,         /* array: numbers in the narrowest type that has them */
+    CODRASK_PROJECT = 8,        /* array, names: the columns of these names */
+    CODRASK_WITH_COLUMN = 9,    /* array, name, other: records with one column more */
     CODRASK_REMOVE_COLUMN = 10, /* array, name: records without a column */
-    CODRASK_PUSH_VALIDITY = 11 /* array, mode: the nulls of records in their columns; mode 1 where no record is null any more */
+    CODRASK_PUSH_VALIDITY = 11  /* array, mode: the nulls of records in their columns; mode 1 where no record is null any more */
 };
 
 /* The modes of CODRASK_REBUILD. */
