@@ -5,7 +5,8 @@ use Rattle.std.specs.Global.{Vec}
 use Rattle.std.specs.Str.{IsUtf8}
 use Rattle.std.proofs.lemmas.List.{reverse-append, map-append, take_more, get_or_default}
 use Rattle.std.proofs.lemmas.Option.{slice_get_read}
-use Rattle.vx_c.specs.Tables.{utf8_fault, name_fault}
+use Rattle.vx_c.specs.declared.table.CodraskView.{CodraskView}
+use Rattle.vx_c.specs.Tables.{view_bytes, utf8_fault, name_fault}
 use Rattle.vx_c.proofs.Names.{utf8_good}
 use Rattle.vx_tree.specs.Meaning.{trees_from}
 use Rattle.vx_tree.specs.Plain.{IsPlain, ArePlain}
@@ -27,6 +28,11 @@ pub all_moved : {A B C : Type 0} (f : A → C) (g : B → C) (all : List C) (fro
     → length from ≡ 0 → made ≡ reverse to → map g made ≡ all
 all_moved f g all from to made before none turned =
     ap (map g) turned ∙ sym (before ∙ ap (λ xs. map f xs ++ map g (reverse to)) (none_left from none))
+
+pub views_more : (copies made : List CodraskView) (c : CodraskView) (views : List (List ℕ)) (i : ℕ) (other : List ℕ) → i < length views
+    → map view_bytes copies ≡ take i views → view_bytes c ≡ get_or views i other → made ≡ copies ++ c ∷ [] → map view_bytes made ≡ take (i + 1) views
+views_more copies made c views i other inside before here pushed =
+    ap (map view_bytes) pushed ∙ map-append view_bytes copies (c ∷ []) ∙ (λ j. before j ++ here j ∷ []) ∙ sym (take_more views i other inside)
 
 -- ---- columns in order
 

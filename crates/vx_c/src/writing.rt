@@ -304,6 +304,7 @@ fn number_of(validity: &Validity) -> u32
 }
 
 // Copies of views.
+#[tactic(auto, using(crate::proofs::Moved::views_more))]
 fn view_list(alloc: Global, views: &[BinaryView]) -> Result<Vec<CodraskView>, VortexError>
     ensures { Gives result (λ copies. map view_bytes copies.items ≡ views.now) }
 {
