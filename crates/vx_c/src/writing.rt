@@ -233,7 +233,12 @@ fn kind_of_views(dtype: &DType) -> NodeKind
 {
     match dtype {
         DType::Utf8(_) => NodeKind::Utf8,
-        _ => NodeKind::Binary,
+        DType::Bool(_)
+        | DType::Primitive(..)
+        | DType::Binary(_)
+        | DType::List(..)
+        | DType::FixedSizeList(..)
+        | DType::Struct(..) => NodeKind::Binary,
     }
 }
 
