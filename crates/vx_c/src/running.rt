@@ -42,7 +42,7 @@ pub(crate) fn run_tables(
 }
 
 // The columns of tables.
-#[tactic(auto, using(crate::proofs::RunParts::columns_read, crate::proofs::Running::no_column))]
+#[tactic(auto, using(crate::proofs::RunParts::columns_read, crate::proofs::RunParts::no_column))]
 fn columns_of(alloc: Global, tables: &[CodraskTable<'_>]) -> Result<Vec<ArrayRef>, RunError>
     ensures ok { IfOk result (λ columns. AreColumns tables.now columns.items) }
     ensures err { IfErr result (AreColumnsOr tables.now) }
@@ -92,7 +92,7 @@ fn results_of(
 }
 
 // The tables of the arrays that are asked for.
-#[tactic(auto, using(crate::proofs::RunParts::tables_read, crate::proofs::Running::no_table))]
+#[tactic(auto, using(crate::proofs::RunParts::tables_read, crate::proofs::RunParts::no_table))]
 fn tables_of(
     alloc: Global,
     results: &[ArrayRef],
