@@ -10,7 +10,7 @@ use vx_base::{
     ScalarValue, ScalarValues,
 };
 use vx_leaves::{BoolArray, ConstantArray, DictArray, PrimitiveArray};
-use vx_lists::{ListViewArray, StructArray};
+use vx_lists::{FixedSizeListArray, ListViewArray, StructArray};
 use vx_text::VarBinViewArray;
 use vx_tree::{ArrayRef, TypedArray, Validity};
 use vx_views::{BinaryView, MAX_BUFFER_LEN, build_views};
@@ -147,28 +147,15 @@ pub(crate) fn bits_in_one_run(alloc: Global, count: usize) -> Result<BitBuffer, 
     Ok(BitBuffer::from_bools(alloc, &bools)?)
 }
 
-// So many numbers, of which one in ten is left out.
-pub(crate) fn optional_numbers(alloc: Global, count: usize) -> Result<Vec<Option<u32>>, Fault> {
-    let numbers = random_numbers(alloc, count, u32::MAX, 6)?;
+// The items, of which one in ten is left out.
+pub(crate) fn some_left_out<T: Copy>(alloc: Global, items: &[T]) -> Result<Vec<Option<T>>, Fault> {
     let mut present = Random::new(3);
-    let mut items = Vec::with_capacity(alloc, count)?;
-    for number in numbers {
+    let mut left = Vec::with_capacity(alloc, items.len())?;
+    for item in items {
         let is_present = present.below(10) != 0;
-        items.push(is_present.then_some(number))?;
+        left.push(is_present.then_some(*item))?;
     }
-    Ok(items)
-}
-
-// So many truth values, of which one in ten is left out.
-pub(crate) fn optional_bools(alloc: Global, count: usize) -> Result<Vec<Option<bool>>, Fault> {
-    let bools = random_bools(alloc, count, 2, 7)?;
-    let mut present = Random::new(3);
-    let mut items = Vec::with_capacity(alloc, count)?;
-    for truth in bools {
-        let is_present = present.below(10) != 0;
-        items.push(is_present.then_some(truth))?;
-    }
-    Ok(items)
+    Ok(left)
 }
 
 // The multiples of `step`, from 0 on.
@@ -187,7 +174,22 @@ pub(crate) fn number_array(alloc: Global, numbers: Vec<u32>) -> Result<ArrayRef,
     Ok(PrimitiveArray::try_new(alloc, buffer, Validity::NonNullable)?.into_array())
 }
 
-// The bytes of so many numbers.
+// So many numbers below `limit`, as an array.
+pub(crate) fn numbers_below(
+    alloc: Global,
+    rows: usize,
+    limit: u32,
+    seed: u64,
+) -> Result<ArrayRef, Fault> {
+    number_array(alloc, random_numbers(alloc, rows, limit, seed)?)
+}
+
+// So many numbers.
+pub(crate) fn numbers(alloc: Global, rows: usize) -> Result<ArrayRef, Fault> {
+    numbers_below(alloc, rows, u32::MAX, 6)
+}
+
+// The bytes of the same.
 pub(crate) fn number_bytes(alloc: Global, rows: usize) -> Result<ByteBuffer, Fault> {
     let buffer = Buffer::from_vec(alloc, random_numbers(alloc, rows, u32::MAX, 6)?)?;
     Ok(buffer.into_byte_buffer(alloc)?)
@@ -197,10 +199,14 @@ pub(crate) fn bool_array(alloc: Global, bits: BitBuffer) -> Result<ArrayRef, Fau
     Ok(BoolArray::try_new(alloc, bits, Validity::NonNullable)?.into_array())
 }
 
+// So many truth values, of which one in `limit` is false, as an array.
+pub(crate) fn truths(alloc: Global, rows: usize, limit: u32, seed: u64) -> Result<ArrayRef, Fault> {
+    bool_array(alloc, random_bits(alloc, rows, limit, seed)?)
+}
+
 // A validity of so many rows, of which one in ten is null.
 pub(crate) fn some_null(alloc: Global, rows: usize, seed: u64) -> Result<Validity, Fault> {
-    let valid = random_bits(alloc, rows, 10, seed)?;
-    Ok(Validity::Array(bool_array(alloc, valid)?))
+    Ok(Validity::Array(truths(alloc, rows, 10, seed)?))
 }
 
 // The lists of a list view.
@@ -221,7 +227,7 @@ pub(crate) fn list_view(
     shape: ListShape,
 ) -> Result<ListViewArray, Fault> {
     let count = 4 * scale.rows();
-    let elements = number_array(alloc, random_numbers(alloc, count, u32::MAX, 1)?)?;
+    let elements = numbers_below(alloc, count, u32::MAX, 1)?;
     lists_over(alloc, elements, shape)
 }
 
@@ -348,40 +354,34 @@ pub(crate) fn text_array(alloc: Global, rows: usize) -> Result<ArrayRef, Fault> 
 // Lists of four numbers each.
 pub(crate) fn fixed_size_lists(alloc: Global, scale: Scale) -> Result<ArrayRef, Fault> {
     let rows = scale.rows();
-    let elements = number_array(alloc, random_numbers(alloc, 4 * rows, u32::MAX, 1)?)?;
-    if elements.len() != 4 * rows {
-        return Err(Fault::Usage);
-    }
-    Ok(ArrayRef::fixed_size_list(alloc, elements, 4, Validity::NonNullable, rows)?)
+    let elements = numbers_below(alloc, 4 * rows, u32::MAX, 1)?;
+    let none = Validity::NonNullable;
+    Ok(FixedSizeListArray::try_new(alloc, elements, 4, none, rows)?.into_array())
 }
 
 // Records of a number and a truth value.
 pub(crate) fn records(alloc: Global, rows: usize) -> Result<ArrayRef, Fault> {
-    let numbers = number_array(alloc, random_numbers(alloc, rows, u32::MAX, 6)?)?;
-    let truths = bool_array(alloc, random_bits(alloc, rows, 2, 7)?)?;
-    if numbers.len() != rows || truths.len() != rows {
-        return Err(Fault::Usage);
-    }
     let mut columns = Vec::with_capacity(alloc, 2)?;
-    columns.push(numbers)?;
-    columns.push(truths)?;
-    let names = FieldNames::try_new(alloc, &["number", "truth"])?;
-    Ok(ArrayRef::structure(alloc, names, columns, Validity::NonNullable, rows)?)
+    columns.push(numbers(alloc, rows)?)?;
+    columns.push(truths(alloc, rows, 2, 7)?)?;
+    let names = ["number", "truth"];
+    let records = records_under(alloc, &names, columns, rows, Validity::NonNullable)?;
+    Ok(records.into_array())
 }
 
 // So many codes of a thousand numbers, of which so many first ones are named.
 pub(crate) fn dictionary(alloc: Global, rows: usize, named: u32) -> Result<DictArray, Fault> {
-    let codes = number_array(alloc, random_numbers(alloc, rows, named, 9)?)?;
-    let values = number_array(alloc, random_numbers(alloc, 1000, u32::MAX, 6)?)?;
+    let codes = numbers_below(alloc, rows, named, 9)?;
+    let values = numbers(alloc, 1000)?;
     Ok(DictArray::try_new(alloc, codes, values)?)
 }
 
 // So many codes of a dictionary of a thousand codes of a hundred numbers.
 pub(crate) fn nested_dictionary(alloc: Global, rows: usize) -> Result<ArrayRef, Fault> {
-    let codes = number_array(alloc, random_numbers(alloc, 1000, 100, 11)?)?;
-    let numbers = number_array(alloc, random_numbers(alloc, 100, u32::MAX, 6)?)?;
+    let codes = numbers_below(alloc, 1000, 100, 11)?;
+    let numbers = numbers(alloc, 100)?;
     let values = DictArray::try_new(alloc, codes, numbers)?.into_array();
-    let codes = number_array(alloc, random_numbers(alloc, rows, 1000, 9)?)?;
+    let codes = numbers_below(alloc, rows, 1000, 9)?;
     Ok(DictArray::try_new(alloc, codes, values)?.into_array())
 }
 
@@ -418,8 +418,8 @@ pub(crate) fn lists_of_one_size(alloc: Global, scale: Scale) -> Result<ArrayRef,
     let rows = scale.rows();
     let count = 4 * rows;
     let limit = limit_of(count).saturating_sub(4);
-    let elements = number_array(alloc, random_numbers(alloc, count, u32::MAX, 1)?)?;
-    let offsets = number_array(alloc, random_numbers(alloc, rows, limit, 2)?)?;
+    let elements = numbers_below(alloc, count, u32::MAX, 1)?;
+    let offsets = numbers_below(alloc, rows, limit, 2)?;
     let sizes = constant_number(alloc, 4, rows)?;
     let validity = Validity::NonNullable;
     Ok(ListViewArray::try_new(alloc, elements, offsets, sizes, validity)?.into_array())
@@ -446,25 +446,10 @@ pub(crate) fn repeated_texts(
     Ok(texts)
 }
 
-// The same, of which one in ten is left out.
-pub(crate) fn optional_texts(
-    alloc: Global,
-    count: usize,
-    choices: &[&'static str],
-) -> Result<Vec<Option<&'static str>>, Fault> {
-    let mut present = Random::new(3);
-    let mut items = Vec::with_capacity(alloc, count)?;
-    for text in repeated_texts(alloc, count, choices)? {
-        let is_present = present.below(10) != 0;
-        items.push(is_present.then_some(text))?;
-    }
-    Ok(items)
-}
-
 // Columns of numbers and of truth values, in turns.
 pub(crate) fn five_columns(alloc: Global, rows: usize) -> Result<Vec<ArrayRef>, Fault> {
-    let numbers = number_array(alloc, random_numbers(alloc, rows, u32::MAX, 6)?)?;
-    let truths = bool_array(alloc, random_bits(alloc, rows, 2, 7)?)?;
+    let numbers = numbers(alloc, rows)?;
+    let truths = truths(alloc, rows, 2, 7)?;
     let mut columns = Vec::with_capacity(alloc, 5)?;
     for _ in 0..2 {
         columns.push(numbers.try_clone(alloc)?)?;
@@ -472,6 +457,19 @@ pub(crate) fn five_columns(alloc: Global, rows: usize) -> Result<Vec<ArrayRef>, 
     }
     columns.push(numbers)?;
     Ok(columns)
+}
+
+// An array so many times, shared.
+pub(crate) fn copies(
+    alloc: Global,
+    array: &ArrayRef,
+    count: usize,
+) -> Result<Vec<ArrayRef>, Fault> {
+    let mut arrays = Vec::with_capacity(alloc, count)?;
+    for _ in 0..count {
+        arrays.push(array.try_clone(alloc)?)?;
+    }
+    Ok(arrays)
 }
 
 // Records of these columns under these names.

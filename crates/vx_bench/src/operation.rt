@@ -12,23 +12,6 @@ pub(crate) trait Operation {
     fn run(&mut self, alloc: Global) -> Result<Made, Fault>;
 }
 
-// An operation that is run some times in one measurement, each result but the last let go at once.
-#[derive(Drop)]
-pub(crate) struct Repeated<O> {
-    operation: O,
-    times: usize,
-}
-
-impl<O: Operation + Drop> Operation for Repeated<O> {
-    fn run(&mut self, alloc: Global) -> Result<Made, Fault> {
-        let mut made = self.operation.run(alloc)?;
-        for _ in 1..self.times {
-            made = self.operation.run(alloc)?;
-        }
-        Ok(made)
-    }
-}
-
 // What is printed.
 #[derive(Drop)]
 pub(crate) enum Report {
@@ -45,24 +28,13 @@ pub(crate) struct Bench {
     pub(crate) report: Report,
 }
 
-// Runs the operation once and prints its checksum.
-fn run_once<O: Operation>(rt: &HostRuntime, operation: &mut O) -> Result<(), Fault> {
-    let made = operation.run(rt.alloc())?;
-    let checksum = made.checksum()?;
-    println!(rt; "{checksum}")?;
-    Ok(())
-}
-
-// Runs the operation some times, and prints nanoseconds and checksum of each run.
-fn run_timed<O: Operation>(rt: &HostRuntime, operation: &mut O, runs: usize) -> Result<(), Fault> {
-    for _ in 0..runs {
-        let start = Instant::now(rt)?;
-        let made = operation.run(rt.alloc())?;
-        let nanos = start.elapsed(rt)?.as_nanos();
-        let checksum = made.checksum()?;
-        println!(rt; "{nanos} {checksum}")?;
+// Runs the operation so many times, and once where that is 0: each result but the last is let go at
+// once.
+fn run_often<O: Operation>(operation: &mut O, alloc: Global, times: usize) -> Result<Made, Fault> {
+    for _ in 1..times {
+        let _made = operation.run(alloc)?;
     }
-    Ok(())
+    operation.run(alloc)
 }
 
 impl Bench {
@@ -74,27 +46,40 @@ impl Bench {
         }
     }
 
+    // Measures an operation whose data is ready. One that takes no time by the row is quick: one run
+    // of it repeats it once for ten rows.
+    pub(crate) fn measure_often<O: Operation + Drop>(
+        &self,
+        rt: &HostRuntime,
+        operation: O,
+        is_quick: bool,
+    ) -> Result<(), Fault> {
+        let mut operation = operation;
+        let times = if is_quick { self.scale.rows() / 10 } else { 1 };
+        for _ in 0..self.runs() {
+            let start = Instant::now(rt)?;
+            let made = run_often(&mut operation, rt.alloc(), times)?;
+            let nanos = start.elapsed(rt)?.as_nanos();
+            self.print(rt, nanos, made.checksum()?)?;
+        }
+        Ok(())
+    }
+
     // Measures an operation whose data is ready.
     pub(crate) fn measure<O: Operation + Drop>(
         &self,
         rt: &HostRuntime,
         operation: O,
     ) -> Result<(), Fault> {
-        let mut operation = operation;
-        match self.report {
-            Report::Checksum => run_once(rt, &mut operation),
-            Report::Times { runs } => run_timed(rt, &mut operation, runs),
-        }
+        self.measure_often(rt, operation, false)
     }
 
-    // Measures an operation whose data is ready and that takes no time by the row: once for ten
-    // rows.
-    pub(crate) fn measure_often<O: Operation + Drop>(
-        &self,
-        rt: &HostRuntime,
-        operation: O,
-    ) -> Result<(), Fault> {
-        let times = self.scale.rows() / 10;
-        self.measure(rt, Repeated { operation, times })
+    // Prints what a run took and what it made.
+    fn print(&self, rt: &HostRuntime, nanos: u128, checksum: u64) -> Result<(), Fault> {
+        match self.report {
+            Report::Checksum => println!(rt; "{checksum}")?,
+            Report::Times { .. } => println!(rt; "{nanos} {checksum}")?,
+        }
+        Ok(())
     }
 }

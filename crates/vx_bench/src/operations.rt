@@ -133,27 +133,67 @@ pub(crate) const OPERATIONS: [&str; 109] = [
 pub(crate) fn measure(rt: &HostRuntime, bench: &Bench, name: &str) -> Result<(), Fault> {
     let (verb, rest) = name.split_once('_').unwrap_or((name, ""));
     match verb {
-        "rebuild" => lists::measure_rebuild(rt, bench, name),
-        "slice" | "list" | "is" => lists::measure(rt, bench, name),
-        "take" if rest.ends_with("runs") => runs::measure(rt, bench, rest),
-        "take" => trees::measure_take(rt, bench, rest),
-        "filter" => trees::measure_filter(rt, bench, rest),
-        "kept" => trees::measure_kept(rt, bench, rest),
-        "mask" => trees::measure_mask(rt, bench, rest),
-        "concat" => trees::measure_concat(rt, bench, rest),
-        "canonical" => trees::measure_canonical(rt, bench, rest),
-        "build" | "check" => views::measure(rt, bench, name),
-        "rebuffer" => texts::measure_rebuffer(rt, bench),
-        "texts" => texts::measure(rt, bench, rest),
-        "fixed" => lists::measure_fixed(rt, bench),
-        "records" => records::measure(rt, bench, rest),
-        "validity" => validities::measure(rt, bench, rest),
-        "steps" => steps::measure(rt, bench, rest),
-        "bits" | "true" | "and" | "equal" | "fill" | "execute" => bits::measure(rt, bench, name),
-        "numbers" => arrays::measure_numbers(rt, bench, rest),
-        "bools" => arrays::measure_bools(rt, bench, rest),
-        "narrow" => encodings::measure_narrow(rt, bench),
-        "referenced" => encodings::measure_scan(rt, bench, rest),
-        _ => numbers::measure(rt, bench, name),
+        "take" | "filter" | "kept" | "mask" | "concat" | "canonical" => {
+            measure_tree(rt, bench, verb, rest)
+        }
+        "rebuild" | "slice" | "list" | "is" | "fixed" => measure_lists(rt, bench, name),
+        "records" | "rebuffer" | "texts" => measure_columns(rt, bench, verb, rest),
+        "numbers" | "bools" | "narrow" | "referenced" => measure_leaves(rt, bench, name, rest),
+        _ => measure_parts(rt, bench, verb, name),
+    }
+}
+
+// Measures an operation on arrays of each layout.
+fn measure_tree(rt: &HostRuntime, bench: &Bench, verb: &str, rest: &str) -> Result<(), Fault> {
+    let (alloc, scale) = (rt.alloc(), bench.scale);
+    if rest.ends_with("runs") && verb == "take" {
+        return bench.measure(rt, runs::ready(alloc, scale, rest)?);
+    }
+    let is_quick = verb == "canonical" && trees::is_plain(rest);
+    bench.measure_often(rt, trees::ready(alloc, scale, verb, rest)?, is_quick)
+}
+
+// Measures an operation on lists.
+fn measure_lists(rt: &HostRuntime, bench: &Bench, name: &str) -> Result<(), Fault> {
+    let is_quick = name == "fixed_lists_try_new";
+    bench.measure_often(rt, lists::ready(rt.alloc(), bench.scale, name)?, is_quick)
+}
+
+// Measures an operation on records or texts.
+fn measure_columns(rt: &HostRuntime, bench: &Bench, verb: &str, rest: &str) -> Result<(), Fault> {
+    let (alloc, scale) = (rt.alloc(), bench.scale);
+    if verb != "records" {
+        return bench.measure(rt, texts::ready(alloc, scale, rest)?);
+    }
+    bench.measure_often(
+        rt,
+        records::ready(alloc, scale, rest)?,
+        records::is_quick(rest),
+    )
+}
+
+// Measures an operation on arrays of numbers, of truth values or of codes.
+fn measure_leaves(rt: &HostRuntime, bench: &Bench, name: &str, rest: &str) -> Result<(), Fault> {
+    let (alloc, scale) = (rt.alloc(), bench.scale);
+    if name.starts_with("numbers") {
+        return bench.measure(rt, arrays::ready_numbers(alloc, scale, rest)?);
+    }
+    if name.starts_with("bools") {
+        return bench.measure(rt, arrays::ready_bools(alloc, scale, rest)?);
+    }
+    bench.measure(rt, encodings::ready(alloc, scale, name)?)
+}
+
+// Measures an operation on what arrays are made of, or a list of steps.
+fn measure_parts(rt: &HostRuntime, bench: &Bench, verb: &str, name: &str) -> Result<(), Fault> {
+    let (alloc, scale) = (rt.alloc(), bench.scale);
+    match verb {
+        "build" | "check" => bench.measure(rt, views::ready(alloc, scale, name)?),
+        "validity" => bench.measure(rt, validities::ready(alloc, scale, name)?),
+        "steps" => bench.measure(rt, steps::ready(alloc, scale, name)?),
+        "bits" | "true" | "and" | "equal" | "fill" | "execute" => {
+            bench.measure(rt, bits::ready(alloc, bench, name)?)
+        }
+        _ => bench.measure(rt, numbers::ready(alloc, scale, name)?),
     }
 }

@@ -2,7 +2,6 @@
 
 use std::alloc::Global;
 use std::rc::Rc;
-use std::test::Fail;
 use vx_base::{DType, Nullability, PType, VortexError};
 use vx_leaves::ConstantArray;
 use vx_lists::{FixedSizeListArray, FixedSizeListArrayExt, FixedSizeListData, FixedSizeListSlots};
@@ -21,30 +20,32 @@ fn lists(
 }
 
 #[test]
-fn lists_of_no_elements(rt: HostRuntime) -> Result<(), Fail> {
-    let empty = lists(rt.alloc(), &[], 0, 3)?;
+fn lists_of_no_elements(rt: HostRuntime) {
+    let empty = lists(rt.alloc(), &[], 0, 3).expect(&rt, "made");
     assert!(rt; empty.len() == 3 && empty.list_size() == 0);
-    assert!(rt; empty.fixed_size_list_elements_at(rt.alloc(), 2)?.is_empty());
-    assert!(rt; empty.as_array().is_valid(rt.alloc(), 2)?);
-    Ok(())
+    assert!(rt;
+        empty
+            .fixed_size_list_elements_at(rt.alloc(), 2)
+            .expect(&rt, "made")
+            .is_empty()
+    );
+    assert!(rt; empty.as_array().is_valid(rt.alloc(), 2).expect(&rt, "made"));
 }
 
 #[test]
-fn more_elements_than_can_be_counted_are_refused(rt: HostRuntime) -> Result<(), Fail> {
+fn more_elements_than_can_be_counted_are_refused(rt: HostRuntime) {
     let refused = lists(rt.alloc(), &[], 4_294_967_295, 8_589_934_592);
     assert!(rt; matches!(refused, Err(VortexError::Overflow)));
-    Ok(())
 }
 
 #[test]
-fn lists_of_size_zero_have_no_elements(rt: HostRuntime) -> Result<(), Fail> {
+fn lists_of_size_zero_have_no_elements(rt: HostRuntime) {
     let refused = lists(rt.alloc(), &[7], 0, 1);
     assert!(rt; matches!(refused, Err(VortexError::DegenerateElements)));
-    Ok(())
 }
 
 #[test]
-fn a_missing_element_is_refused(rt: HostRuntime) -> Result<(), Fail> {
+fn a_missing_element_is_refused(rt: HostRuntime) {
     let refused = lists(rt.alloc(), &[1, 2, 3, 4, 5], 2, 3);
     assert!(rt;
         matches!(
@@ -55,13 +56,12 @@ fn a_missing_element_is_refused(rt: HostRuntime) -> Result<(), Fail> {
             })
         )
     );
-    Ok(())
 }
 
 #[test]
-fn validities_are_tested_first(rt: HostRuntime) -> Result<(), Fail> {
-    let elements = ints::<u8>(rt.alloc(), &[7])?;
-    let validity = valid_where(rt.alloc(), &[true, true])?;
+fn validities_are_tested_first(rt: HostRuntime) {
+    let elements = ints::<u8>(rt.alloc(), &[7]).expect(&rt, "made");
+    let validity = valid_where(rt.alloc(), &[true, true]).expect(&rt, "made");
     assert!(rt;
         matches!(
             FixedSizeListData::validate(&elements, 1, 0, &validity),
@@ -71,7 +71,7 @@ fn validities_are_tested_first(rt: HostRuntime) -> Result<(), Fail> {
             })
         )
     );
-    let numbers = Validity::Array(ints::<u8>(rt.alloc(), &[7])?);
+    let numbers = Validity::Array(ints::<u8>(rt.alloc(), &[7]).expect(&rt, "made"));
     assert_eq!(rt;
         FixedSizeListData::validate(&elements, 1, 0, &numbers),
         Err(VortexError::MismatchedTypes)
@@ -84,7 +84,6 @@ fn validities_are_tested_first(rt: HostRuntime) -> Result<(), Fail> {
         FixedSizeListData::validate(&elements, 1, 1, &Validity::AllInvalid),
         Ok(())
     );
-    Ok(())
 }
 
 // The lists `[1, 2]`, null and `[5, 6]`.
@@ -96,18 +95,34 @@ fn three_lists(alloc: Global) -> Result<FixedSizeListArray, VortexError> {
 }
 
 #[test]
-fn elements_of_lists_of_two(rt: HostRuntime) -> Result<(), Fail> {
-    let pairs = three_lists(rt.alloc())?;
+fn elements_of_lists_of_two(rt: HostRuntime) {
+    let pairs = three_lists(rt.alloc()).expect(&rt, "made");
     assert!(rt; pairs.len() == 3 && !pairs.is_empty());
     assert!(rt; has_numbers(pairs.elements(), &[1, 2, 3, 4, 5, 6]));
-    assert!(rt; has_numbers(&pairs.fixed_size_list_elements_at(rt.alloc(), 2)?, &[5, 6]));
-    assert!(rt; has_numbers(&pairs.fixed_size_list_elements_at(rt.alloc(), 1)?, &[3, 4]));
-    Ok(())
+    assert!(rt;
+        has_numbers(
+            &pairs
+                .fixed_size_list_elements_at(rt.alloc(), 2)
+                .expect(&rt, "made"),
+            &[5, 6]
+        )
+    );
+    assert!(rt;
+        has_numbers(
+            &pairs
+                .fixed_size_list_elements_at(rt.alloc(), 1)
+                .expect(&rt, "made"),
+            &[3, 4]
+        )
+    );
 }
 
 #[test]
-fn data_types_of_lists_of_two(rt: HostRuntime) -> Result<(), Fail> {
-    let pairs = three_lists(rt.alloc())?.try_clone(rt.alloc())?;
+fn data_types_of_lists_of_two(rt: HostRuntime) {
+    let pairs = three_lists(rt.alloc())
+        .expect(&rt, "made")
+        .try_clone(rt.alloc())
+        .expect(&rt, "made");
     let (items, size, nullability) = pairs.dtype_parts();
     assert!(rt; *items == DType::Primitive(PType::I16, Nullability::NonNullable));
     assert_eq!(rt; (size, nullability), (2, Nullability::Nullable));
@@ -118,90 +133,142 @@ fn data_types_of_lists_of_two(rt: HostRuntime) -> Result<(), Fail> {
             DType::FixedSizeList(_, 2, Nullability::Nullable)
         )
     );
-    Ok(())
 }
 
 #[test]
-fn validities_of_lists_of_one_size(rt: HostRuntime) -> Result<(), Fail> {
-    let validity = three_lists(rt.alloc())?.fixed_size_list_validity(rt.alloc())?;
-    assert!(rt; validity.is_valid(rt.alloc(), 0)? && !validity.is_valid(rt.alloc(), 1)?);
-    let own = lists(rt.alloc(), &[1], 1, 1)?.fixed_size_list_validity(rt.alloc())?;
+fn validities_of_lists_of_one_size(rt: HostRuntime) {
+    let validity = three_lists(rt.alloc())
+        .expect(&rt, "made")
+        .fixed_size_list_validity(rt.alloc())
+        .expect(&rt, "made");
+    assert!(rt;
+        validity.is_valid(rt.alloc(), 0).expect(&rt, "made")
+            && !validity.is_valid(rt.alloc(), 1).expect(&rt, "made")
+    );
+    let own = lists(rt.alloc(), &[1], 1, 1)
+        .expect(&rt, "made")
+        .fixed_size_list_validity(rt.alloc())
+        .expect(&rt, "made");
     assert!(rt; matches!(own, Validity::NonNullable));
-    Ok(())
 }
 
 #[test]
-fn slots_of_lists_of_two(rt: HostRuntime) -> Result<(), Fail> {
-    let FixedSizeListSlots { elements, validity } = three_lists(rt.alloc())?.slots(rt.alloc())?;
+fn slots_of_lists_of_two(rt: HostRuntime) {
+    let FixedSizeListSlots { elements, validity } = three_lists(rt.alloc())
+        .expect(&rt, "made")
+        .slots(rt.alloc())
+        .expect(&rt, "made");
     assert!(rt; has_numbers(&elements, &[1, 2, 3, 4, 5, 6]));
     let Some(slot) = validity else {
-        return Err(VortexError::MismatchedTypes.into());
+        panic!(rt; "another layout");
     };
-    assert!(rt; slot.len() == 3 && !slot.execute_scalar(rt.alloc(), 1)?.as_bool());
-    Ok(())
+    assert!(rt;
+        slot.len() == 3
+            && !slot
+                .execute_scalar(rt.alloc(), 1)
+                .expect(&rt, "made")
+                .as_bool()
+    );
 }
 
 #[test]
-fn lists_without_nulls_have_no_slot_of_validity(rt: HostRuntime) -> Result<(), Fail> {
-    let own = lists(rt.alloc(), &[1], 1, 1)?.slots(rt.alloc())?;
+fn lists_without_nulls_have_no_slot_of_validity(rt: HostRuntime) {
+    let own = lists(rt.alloc(), &[1], 1, 1)
+        .expect(&rt, "made")
+        .slots(rt.alloc())
+        .expect(&rt, "made");
     assert!(rt; own.validity.is_none());
-    Ok(())
 }
 
 #[test]
-fn the_slot_of_null_lists_of_no_elements(rt: HostRuntime) -> Result<(), Fail> {
-    let elements = ints::<u8>(rt.alloc(), &[])?;
+fn the_slot_of_null_lists_of_no_elements(rt: HostRuntime) {
+    let elements = ints::<u8>(rt.alloc(), &[]).expect(&rt, "made");
     let alloc = rt.alloc();
-    let nulls = FixedSizeListArray::try_new(alloc, elements, 0, Validity::AllInvalid, 2)?;
-    let FixedSizeListSlots { validity, .. } = nulls.slots(rt.alloc())?;
+    let nulls = FixedSizeListArray::try_new(alloc, elements, 0, Validity::AllInvalid, 2).expect(
+        &rt, "made",
+    );
+    let FixedSizeListSlots { validity, .. } = nulls.slots(rt.alloc()).expect(&rt, "made");
     let Some(slot) = validity else {
-        return Err(VortexError::MismatchedTypes.into());
+        panic!(rt; "another layout");
     };
-    assert!(rt; slot.len() == 2 && !slot.execute_scalar(rt.alloc(), 1)?.as_bool());
+    assert!(rt;
+        slot.len() == 2
+            && !slot
+                .execute_scalar(rt.alloc(), 1)
+                .expect(&rt, "made")
+                .as_bool()
+    );
     assert!(rt; ConstantArray::try_from_array(slot).is_ok());
-    Ok(())
 }
 
 #[test]
-fn parts_of_lists_of_two(rt: HostRuntime) -> Result<(), Fail> {
-    let parts = three_lists(rt.alloc())?.into_data_parts(rt.alloc())?;
+fn parts_of_lists_of_two(rt: HostRuntime) {
+    let parts = three_lists(rt.alloc())
+        .expect(&rt, "made")
+        .into_data_parts(rt.alloc())
+        .expect(&rt, "made");
     assert!(rt; has_numbers(&parts.elements, &[1, 2, 3, 4, 5, 6]));
-    assert!(rt; !parts.validity.is_valid(rt.alloc(), 1)?);
+    assert!(rt; !parts.validity.is_valid(rt.alloc(), 1).expect(&rt, "made"));
     let items = Rc::new(
         rt.alloc(),
         DType::Primitive(PType::I16, Nullability::NonNullable),
-    )?;
+    )
+    .expect(&rt, "made");
     assert!(rt; parts.dtype == DType::FixedSizeList(items, 2, Nullability::Nullable));
-    Ok(())
 }
 
 #[test]
-fn data_of_lists_of_no_elements(rt: HostRuntime) -> Result<(), Fail> {
-    let data = lists(rt.alloc(), &[], 0, 3)?.to_data(rt.alloc())?.clone()?;
-    assert!(rt; format!(in rt.alloc(); "{data}")?.as_str() == "degenerate_len: 3");
-    let elements = ints::<u8>(rt.alloc(), &[])?;
-    FixedSizeListData::validate(&elements, usize::MAX, 0, &Validity::AllValid)?;
+fn data_of_lists_of_no_elements(rt: HostRuntime) {
+    let data = lists(rt.alloc(), &[], 0, 3)
+        .expect(&rt, "made")
+        .to_data(rt.alloc())
+        .expect(&rt, "made")
+        .clone()
+        .expect(&rt, "made");
+    assert!(rt;
+        format!(in rt.alloc(); "{data}")
+            .expect(&rt, "made")
+            .as_str()
+            == "degenerate_len: 3"
+    );
+    let elements = ints::<u8>(rt.alloc(), &[]).expect(&rt, "made");
+    FixedSizeListData::validate(&elements, usize::MAX, 0, &Validity::AllValid).expect(&rt, "made");
     let built = FixedSizeListData::build(elements, 0, Validity::AllValid, usize::MAX);
     assert!(rt;
-        format!(in rt.alloc(); "{built}")?.as_str() == "degenerate_len: 18446744073709551615"
+        format!(in rt.alloc(); "{built}")
+            .expect(&rt, "made")
+            .as_str()
+            == "degenerate_len: 18446744073709551615"
     );
-    Ok(())
 }
 
 #[test]
-fn data_of_lists_of_two(rt: HostRuntime) -> Result<(), Fail> {
-    let data = three_lists(rt.alloc())?.to_data(rt.alloc())?;
-    assert!(rt; format!(in rt.alloc(); "{data}")?.as_str() == "degenerate_len: 0");
+fn data_of_lists_of_two(rt: HostRuntime) {
+    let data = three_lists(rt.alloc())
+        .expect(&rt, "made")
+        .to_data(rt.alloc())
+        .expect(&rt, "made");
     assert!(rt;
-        format!(in rt.alloc(); "{data:?}")?.as_str() == "FixedSizeListData { degenerate_len: 0 }"
+        format!(in rt.alloc(); "{data}")
+            .expect(&rt, "made")
+            .as_str()
+            == "degenerate_len: 0"
     );
-    Ok(())
+    assert!(rt;
+        format!(in rt.alloc(); "{data:?}")
+            .expect(&rt, "made")
+            .as_str()
+            == "FixedSizeListData { degenerate_len: 0 }"
+    );
 }
 
 #[test]
-fn lists_of_one_size_come_back(rt: HostRuntime) -> Result<(), Fail> {
-    let array = three_lists(rt.alloc())?.into_array();
+fn lists_of_one_size_come_back(rt: HostRuntime) {
+    let array = three_lists(rt.alloc()).expect(&rt, "made").into_array();
     assert!(rt; FixedSizeListArray::try_from_array(array).is_ok());
-    assert!(rt; FixedSizeListArray::try_from_array(ints::<u8>(rt.alloc(), &[1])?).is_err());
-    Ok(())
+    assert!(rt;
+        FixedSizeListArray::try_from_array(ints::<u8>(rt.alloc(), &[1]).expect(
+            &rt, "made"
+        )).is_err()
+    );
 }

@@ -5,7 +5,6 @@ mod flags;
 mod parts;
 
 use std::alloc::Global;
-use std::test::Fail;
 use vx_base::{DType, NativePType, Nullability, PType, Scalar, VortexError};
 use vx_lists::{ListViewArray, ListViewArrayExt, ListViewRebuildMode};
 use vx_test_help::{bools, has_numbers, has_type, ints, valid_where};
@@ -50,7 +49,7 @@ fn rebuilds_to(
 }
 
 #[test]
-fn lists_in_another_order_are_laid_out(rt: HostRuntime) -> Result<(), Fail> {
+fn lists_in_another_order_are_laid_out(rt: HostRuntime) {
     let alloc = rt.alloc();
     let lists = view::<u32>(
         alloc,
@@ -58,9 +57,9 @@ fn lists_in_another_order_are_laid_out(rt: HostRuntime) -> Result<(), Fail> {
         &[2, 0],
         &[2, 2],
         Validity::NonNullable,
-    )?;
-    assert!(rt; rebuilds_to(alloc, &lists, &[(0, 2), (2, 2)], &[7, 8, 5, 6])?);
-    Ok(())
+    )
+    .expect(&rt, "made");
+    assert!(rt; rebuilds_to(alloc, &lists, &[(0, 2), (2, 2)], &[7, 8, 5, 6]).expect(&rt, "made"));
 }
 
 // Two lists of two zeroes each, out of nine that are one constant.
@@ -74,10 +73,11 @@ fn lists_of_a_constant(alloc: Global) -> Result<ListViewArray, VortexError> {
 }
 
 #[test]
-fn elements_of_another_layout_are_taken(rt: HostRuntime) -> Result<(), Fail> {
-    let lists = lists_of_a_constant(rt.alloc())?;
-    assert!(rt; rebuilds_to(rt.alloc(), &lists, &[(0, 2), (2, 2)], &[0, 0, 0, 0])?);
-    Ok(())
+fn elements_of_another_layout_are_taken(rt: HostRuntime) {
+    let lists = lists_of_a_constant(rt.alloc()).expect(&rt, "made");
+    assert!(rt;
+        rebuilds_to(rt.alloc(), &lists, &[(0, 2), (2, 2)], &[0, 0, 0, 0]).expect(&rt, "made")
+    );
 }
 
 // Lists of 2^31 elements in all, with these offsets and sizes of 32 bits.
@@ -89,31 +89,34 @@ fn lists_past_32_bits(alloc: Global, offsets: ArrayRef) -> Result<ListViewArray,
 }
 
 #[test]
-fn a_total_past_the_offset_type_is_refused(rt: HostRuntime) -> Result<(), Fail> {
-    let offsets = ints::<i32>(rt.alloc(), &[0, 0])?;
-    let rebuilt = lists_past_32_bits(rt.alloc(), offsets)?.rebuild_by_take(rt.alloc());
+fn a_total_past_the_offset_type_is_refused(rt: HostRuntime) {
+    let offsets = ints::<i32>(rt.alloc(), &[0, 0]).expect(&rt, "made");
+    let rebuilt = lists_past_32_bits(rt.alloc(), offsets)
+        .expect(&rt, "made")
+        .rebuild_by_take(rt.alloc());
     assert!(rt; matches!(rebuilt, Err(VortexError::Overflow)));
-    Ok(())
 }
 
 #[test]
-fn a_total_past_the_size_type_is_refused(rt: HostRuntime) -> Result<(), Fail> {
-    let offsets = ints::<i64>(rt.alloc(), &[0, 0])?;
-    let rebuilt = lists_past_32_bits(rt.alloc(), offsets)?.rebuild_by_runs(rt.alloc());
+fn a_total_past_the_size_type_is_refused(rt: HostRuntime) {
+    let offsets = ints::<i64>(rt.alloc(), &[0, 0]).expect(&rt, "made");
+    let rebuilt = lists_past_32_bits(rt.alloc(), offsets)
+        .expect(&rt, "made")
+        .rebuild_by_runs(rt.alloc());
     assert!(rt; matches!(rebuilt, Err(VortexError::Overflow)));
-    Ok(())
 }
 
 #[test]
-fn no_rows_keep_the_elements(rt: HostRuntime) -> Result<(), Fail> {
+fn no_rows_keep_the_elements(rt: HostRuntime) {
     let alloc = rt.alloc();
-    let lists = view::<u32>(alloc, &[1, 2, 3], &[], &[], Validity::NonNullable)?;
-    assert!(rt; lists.is_empty() && rebuilds_to(alloc, &lists, &[], &[1, 2, 3])?);
-    Ok(())
+    let lists = view::<u32>(alloc, &[1, 2, 3], &[], &[], Validity::NonNullable).expect(&rt, "made");
+    assert!(rt;
+        lists.is_empty() && rebuilds_to(alloc, &lists, &[], &[1, 2, 3]).expect(&rt, "made")
+    );
 }
 
 #[test]
-fn small_offsets_grow(rt: HostRuntime) -> Result<(), Fail> {
+fn small_offsets_grow(rt: HostRuntime) {
     let alloc = rt.alloc();
     let lists = view::<u8>(
         alloc,
@@ -121,50 +124,62 @@ fn small_offsets_grow(rt: HostRuntime) -> Result<(), Fail> {
         &[0, 0],
         &[150, 150],
         Validity::NonNullable,
-    )?;
-    let rebuilt = lists.rebuild_by_take(alloc)?;
+    )
+    .expect(&rt, "made");
+    let rebuilt = lists.rebuild_by_take(alloc).expect(&rt, "made");
     assert!(rt; has_ranges(&rebuilt, &[(0, 150), (150, 150)]) && rebuilt.is_consecutive());
     assert!(rt; has_type(rebuilt.offsets(), PType::U32) && has_type(rebuilt.sizes(), PType::U32));
-    Ok(())
 }
 
 #[test]
-fn negative_offsets_are_refused(rt: HostRuntime) -> Result<(), Fail> {
+fn negative_offsets_are_refused(rt: HostRuntime) {
     let refused = view::<i8>(rt.alloc(), &[7; 255], &[-1], &[0], Validity::NonNullable);
     assert!(rt; matches!(refused, Err(VortexError::Negative { row: 0 })));
-    Ok(())
 }
 
 #[test]
-fn a_flagged_view_stays(rt: HostRuntime) -> Result<(), Fail> {
+fn a_flagged_view_stays(rt: HostRuntime) {
     let alloc = rt.alloc();
-    let lists = view::<i64>(alloc, &[5, 6], &[1, 0], &[1, 1], Validity::AllValid)?;
-    let once = lists.rebuild_by_take(alloc)?.try_clone(alloc)?;
-    assert!(rt; rebuilds_to(alloc, &once, &[(0, 1), (1, 1)], &[6, 5])?);
-    Ok(())
+    let lists = view::<i64>(alloc, &[5, 6], &[1, 0], &[1, 1], Validity::AllValid).expect(
+        &rt, "made",
+    );
+    let once = lists
+        .rebuild_by_take(alloc)
+        .expect(&rt, "made")
+        .try_clone(alloc)
+        .expect(&rt, "made");
+    assert!(rt; rebuilds_to(alloc, &once, &[(0, 1), (1, 1)], &[6, 5]).expect(&rt, "made"));
 }
 
 #[test]
-fn list_elements_are_a_slice(rt: HostRuntime) -> Result<(), Fail> {
+fn list_elements_are_a_slice(rt: HostRuntime) {
     let alloc = rt.alloc();
-    let lists = view::<u16>(alloc, &[1, 2, 3], &[0, 1], &[3, 2], Validity::NonNullable)?;
+    let lists = view::<u16>(alloc, &[1, 2, 3], &[0, 1], &[3, 2], Validity::NonNullable).expect(
+        &rt, "made",
+    );
     assert!(rt; lists.len() == 2);
-    assert!(rt; has_numbers(&lists.list_elements_at(alloc, 1)?, &[2, 3]));
-    Ok(())
+    assert!(rt;
+        has_numbers(
+            &lists.list_elements_at(alloc, 1).expect(&rt, "made"),
+            &[2, 3]
+        )
+    );
 }
 
 #[test]
-fn lists_come_back(rt: HostRuntime) -> Result<(), Fail> {
-    let lists = view::<u32>(rt.alloc(), &[1], &[0], &[1], Validity::NonNullable)?;
+fn lists_come_back(rt: HostRuntime) {
+    let lists = view::<u32>(rt.alloc(), &[1], &[0], &[1], Validity::NonNullable).expect(
+        &rt, "made",
+    );
     assert!(rt; matches!(lists.dtype(), DType::List(_, _)) && lists.as_array().len() == 1);
     assert!(rt; ListViewArray::try_from_array(lists.into_array()).is_ok());
-    Ok(())
 }
 
 #[test]
-fn another_layout_comes_back(rt: HostRuntime) -> Result<(), Fail> {
-    assert!(rt; ListViewArray::try_from_array(bools(rt.alloc(), &[true])?).is_err());
-    Ok(())
+fn another_layout_comes_back(rt: HostRuntime) {
+    assert!(rt;
+        ListViewArray::try_from_array(bools(rt.alloc(), &[true]).expect(&rt, "made")).is_err()
+    );
 }
 
 // The lists `[9]`, `[1]`, `[2]`, `[9]`, of which the middle two are left: flagged, over four
@@ -191,33 +206,36 @@ fn scattered(alloc: Global) -> Result<ListViewArray, VortexError> {
 }
 
 #[test]
-fn bounds_count_null_and_empty_lists(rt: HostRuntime) -> Result<(), Fail> {
-    let lists = scattered(rt.alloc())?;
-    let (start, end) = lists.referenced_element_bounds()?;
+fn bounds_count_null_and_empty_lists(rt: HostRuntime) {
+    let lists = scattered(rt.alloc()).expect(&rt, "made");
+    let (start, end) = lists.referenced_element_bounds().expect(&rt, "made");
     assert_eq!(rt; (start, end), (1, 7));
-    let trimmed = lists.trim_elements(rt.alloc(), start, end)?;
+    let trimmed = lists
+        .trim_elements(rt.alloc(), start, end)
+        .expect(&rt, "made");
     assert!(rt; has_ranges(&trimmed, &[(3, 2), (6, 0), (0, 1)]) && trimmed.elements().len() == 6);
-    Ok(())
 }
 
 #[test]
-fn no_lists_have_no_bounds(rt: HostRuntime) -> Result<(), Fail> {
-    let none = view::<i32>(rt.alloc(), &[1], &[], &[], Validity::NonNullable)?;
+fn no_lists_have_no_bounds(rt: HostRuntime) {
+    let none = view::<i32>(rt.alloc(), &[1], &[], &[], Validity::NonNullable).expect(&rt, "made");
     assert_eq!(rt;
         none.referenced_element_bounds(),
         Err(VortexError::EmptyInput)
     );
-    Ok(())
 }
 
 #[test]
-fn referenced_elements_are_marked(rt: HostRuntime) -> Result<(), Fail> {
+fn referenced_elements_are_marked(rt: HostRuntime) {
     let alloc = rt.alloc();
-    let lists = view::<u16>(alloc, &[1, 2, 3, 4], &[0, 1], &[2, 1], Validity::AllInvalid)?;
-    let mask = lists.compute_referenced_elements_mask(alloc)?;
+    let lists = view::<u16>(alloc, &[1, 2, 3, 4], &[0, 1], &[2, 1], Validity::AllInvalid).expect(
+        &rt, "made",
+    );
+    let mask = lists
+        .compute_referenced_elements_mask(alloc)
+        .expect(&rt, "made");
     assert_eq!(rt; mask.len(), lists.elements().len());
     assert!(rt; mask.len() == 4 && mask.true_count() == 2);
-    Ok(())
 }
 
 // The lists `[1]` and `[2]` over 9, 1, 2, 9, with offsets and sizes of eight bits: flagged.
@@ -229,30 +247,33 @@ fn flagged_narrow(alloc: Global) -> Result<ListViewArray, VortexError> {
 }
 
 #[test]
-fn flagged_views_keep_their_types(rt: HostRuntime) -> Result<(), Fail> {
-    let lists = flagged_narrow(rt.alloc())?;
-    let kept = lists.rebuild(rt.alloc(), ListViewRebuildMode::MakeZeroCopyToList)?;
+fn flagged_views_keep_their_types(rt: HostRuntime) {
+    let lists = flagged_narrow(rt.alloc()).expect(&rt, "made");
+    let kept = lists
+        .rebuild(rt.alloc(), ListViewRebuildMode::MakeZeroCopyToList)
+        .expect(&rt, "made");
     assert!(rt; kept.is_zero_copy_to_list() && has_ranges(&kept, &[(1, 1), (2, 1)]));
     assert!(rt; has_numbers(kept.elements(), &[9, 1, 2, 9]));
     assert!(rt; has_type(kept.offsets(), PType::U8) && has_type(kept.sizes(), PType::U8));
-    Ok(())
 }
 
 #[test]
-fn exact_views_keep_their_types(rt: HostRuntime) -> Result<(), Fail> {
-    let lists = flagged_narrow(rt.alloc())?;
-    assert!(rt; is_exact_with(rt.alloc(), &lists, &[1, 2])?);
-    let exact = lists.rebuild(rt.alloc(), ListViewRebuildMode::MakeExact)?;
+fn exact_views_keep_their_types(rt: HostRuntime) {
+    let lists = flagged_narrow(rt.alloc()).expect(&rt, "made");
+    assert!(rt; is_exact_with(rt.alloc(), &lists, &[1, 2]).expect(&rt, "made"));
+    let exact = lists
+        .rebuild(rt.alloc(), ListViewRebuildMode::MakeExact)
+        .expect(&rt, "made");
     assert!(rt; has_type(exact.offsets(), PType::U8) && has_type(exact.sizes(), PType::U8));
-    Ok(())
 }
 
 #[test]
-fn flagged_views_keep_their_elements(rt: HostRuntime) -> Result<(), Fail> {
-    let middle = flagged_middle(rt.alloc())?;
-    let kept = middle.rebuild(rt.alloc(), ListViewRebuildMode::MakeZeroCopyToList)?;
+fn flagged_views_keep_their_elements(rt: HostRuntime) {
+    let middle = flagged_middle(rt.alloc()).expect(&rt, "made");
+    let kept = middle
+        .rebuild(rt.alloc(), ListViewRebuildMode::MakeZeroCopyToList)
+        .expect(&rt, "made");
     assert!(rt; has_ranges(&kept, &[(1, 1), (2, 1)]) && kept.elements().len() == 4);
-    Ok(())
 }
 
 // Whether making it exact gives a flagged view of these elements.
@@ -267,33 +288,44 @@ fn is_exact_with(
 }
 
 #[test]
-fn exact_views_have_no_other_element(rt: HostRuntime) -> Result<(), Fail> {
-    assert!(rt; is_exact_with(rt.alloc(), &flagged_middle(rt.alloc())?, &[1, 2])?);
+fn exact_views_have_no_other_element(rt: HostRuntime) {
+    assert!(rt;
+        is_exact_with(
+            rt.alloc(),
+            &flagged_middle(rt.alloc()).expect(&rt, "made"),
+            &[1, 2]
+        )
+        .expect(&rt, "made")
+    );
     let lists = view::<u8>(
         rt.alloc(),
         &[5, 6, 7],
         &[2, 0],
         &[1, 1],
         Validity::NonNullable,
-    )?;
-    assert!(rt; is_exact_with(rt.alloc(), &lists, &[7, 5])?);
-    Ok(())
+    )
+    .expect(&rt, "made");
+    assert!(rt; is_exact_with(rt.alloc(), &lists, &[7, 5]).expect(&rt, "made"));
 }
 
 #[test]
-fn overlaps_of_no_lists_are_compressed(rt: HostRuntime) -> Result<(), Fail> {
-    let none = view::<u8>(rt.alloc(), &[1, 2, 3], &[], &[], Validity::NonNullable)?;
-    let kept = none.rebuild(rt.alloc(), ListViewRebuildMode::OverlapCompression)?;
+fn overlaps_of_no_lists_are_compressed(rt: HostRuntime) {
+    let none = view::<u8>(rt.alloc(), &[1, 2, 3], &[], &[], Validity::NonNullable).expect(
+        &rt, "made",
+    );
+    let kept = none
+        .rebuild(rt.alloc(), ListViewRebuildMode::OverlapCompression)
+        .expect(&rt, "made");
     assert!(rt; kept.is_zero_copy_to_list() && kept.elements().len() == 3);
-    Ok(())
 }
 
 #[test]
-fn overlaps_are_not_compressed(rt: HostRuntime) -> Result<(), Fail> {
-    let one = view::<u8>(rt.alloc(), &[1, 2, 3], &[0], &[1], Validity::NonNullable)?;
+fn overlaps_are_not_compressed(rt: HostRuntime) {
+    let one = view::<u8>(rt.alloc(), &[1, 2, 3], &[0], &[1], Validity::NonNullable).expect(
+        &rt, "made",
+    );
     let refused = one.rebuild(rt.alloc(), ListViewRebuildMode::OverlapCompression);
     assert!(rt; matches!(refused, Err(VortexError::NotImplemented)));
-    Ok(())
 }
 
 // Whether both ways of rebuilding give these ranges and elements.
@@ -312,12 +344,17 @@ fn rebuilds_both_ways_to(
 }
 
 #[test]
-fn runs_give_the_same_layout(rt: HostRuntime) -> Result<(), Fail> {
+fn runs_give_the_same_layout(rt: HostRuntime) {
     let alloc = rt.alloc();
-    let validity = valid_where(alloc, &[true, false, true])?;
-    let lists = view::<u32>(alloc, &[1, 2, 3, 4], &[0, 1, 2], &[1, 2, 2], validity)?;
-    assert!(rt; rebuilds_both_ways_to(alloc, &lists, &[(0, 1), (1, 0), (1, 2)], &[1, 3, 4])?);
-    Ok(())
+    let validity = valid_where(alloc, &[true, false, true]).expect(&rt, "made");
+    let lists = view::<u32>(alloc, &[1, 2, 3, 4], &[0, 1, 2], &[1, 2, 2], validity).expect(
+        &rt, "made",
+    );
+    assert!(rt;
+        rebuilds_both_ways_to(alloc, &lists, &[(0, 1), (1, 0), (1, 2)], &[1, 3, 4]).expect(
+            &rt, "made"
+        )
+    );
 }
 
 // One list of 2^60 zeroes.
@@ -330,11 +367,13 @@ fn long_list(alloc: Global) -> Result<ListViewArray, VortexError> {
 }
 
 #[test]
-fn more_elements_than_positions_fit_are_rebuilt(rt: HostRuntime) -> Result<(), Fail> {
-    let rebuilt = long_list(rt.alloc())?.rebuild_by_runs(rt.alloc())?;
+fn more_elements_than_positions_fit_are_rebuilt(rt: HostRuntime) {
+    let rebuilt = long_list(rt.alloc())
+        .expect(&rt, "made")
+        .rebuild_by_runs(rt.alloc())
+        .expect(&rt, "made");
     assert!(rt; has_ranges(&rebuilt, &[(0, 1_152_921_504_606_846_976)]));
     assert!(rt; rebuilt.elements().len() == 1_152_921_504_606_846_976);
-    Ok(())
 }
 
 // Whether rebuilding by a mode gives one list of 2^60 elements, flagged, with wide offsets.
@@ -347,8 +386,13 @@ fn rebuilds_a_long_list(alloc: Global, mode: ListViewRebuildMode) -> Result<bool
 }
 
 #[test]
-fn rebuilding_copies_long_lists_by_runs(rt: HostRuntime) -> Result<(), Fail> {
-    assert!(rt; rebuilds_a_long_list(rt.alloc(), ListViewRebuildMode::MakeZeroCopyToList)?);
-    assert!(rt; rebuilds_a_long_list(rt.alloc(), ListViewRebuildMode::MakeExact)?);
-    Ok(())
+fn rebuilding_copies_long_lists_by_runs(rt: HostRuntime) {
+    assert!(rt;
+        rebuilds_a_long_list(rt.alloc(), ListViewRebuildMode::MakeZeroCopyToList).expect(
+            &rt, "made"
+        )
+    );
+    assert!(rt;
+        rebuilds_a_long_list(rt.alloc(), ListViewRebuildMode::MakeExact).expect(&rt, "made")
+    );
 }

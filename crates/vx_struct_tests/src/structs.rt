@@ -10,7 +10,6 @@ mod joined;
 mod pushed;
 
 use std::alloc::Global;
-use std::test::Fail;
 use vx_base::{DType, FieldNames, Nullability, PType, VortexError};
 use vx_lists::{StructArray, StructArrayExt, StructDataParts, StructSlots};
 use vx_test_help::{bools, has_numbers_or_nulls, ints, valid_where};
@@ -62,44 +61,46 @@ fn is_true_false(alloc: Global, column: &ArrayRef) -> Result<bool, VortexError> 
 }
 
 #[test]
-fn records_of_two_columns(rt: HostRuntime) -> Result<(), Fail> {
-    let records = two_records(rt.alloc(), Validity::NonNullable)?;
+fn records_of_two_columns(rt: HostRuntime) {
+    let records = two_records(rt.alloc(), Validity::NonNullable).expect(&rt, "made");
     assert!(rt; records.len() == 2 && records.fields().len() == 2);
     assert!(rt; has_numbers_or_nulls(records.unmasked_field(0), &[Some(1), Some(2)]));
-    assert!(rt; is_true_false(rt.alloc(), records.unmasked_field(1))?);
-    assert!(rt; records.as_array().is_valid(rt.alloc(), 1)?);
+    assert!(rt; is_true_false(rt.alloc(), records.unmasked_field(1)).expect(&rt, "made"));
+    assert!(rt;
+        records
+            .as_array()
+            .is_valid(rt.alloc(), 1)
+            .expect(&rt, "made")
+    );
     assert_eq!(rt; records.nullability(), Nullability::NonNullable);
-    Ok(())
 }
 
 #[test]
-fn records_of_a_column_that_fits(rt: HostRuntime) -> Result<(), Fail> {
-    let column = ints::<i16>(rt.alloc(), &[-1, 9])?;
+fn records_of_a_column_that_fits(rt: HostRuntime) {
+    let column = ints::<i16>(rt.alloc(), &[-1, 9]).expect(&rt, "made");
     assert!(rt; column.len() == 2);
-    let records = asked(rt.alloc(), column)?;
+    let records = asked(rt.alloc(), column).expect(&rt, "made");
     assert!(rt; records.len() == 2 && records.fields().len() == 1);
     assert!(rt; has_numbers_or_nulls(records.unmasked_field(0), &[Some(-1), Some(9)]));
     assert_eq!(rt; records.nullability(), Nullability::Nullable);
-    Ok(())
 }
 
 #[test]
-fn columns_come_in_order(rt: HostRuntime) -> Result<(), Fail> {
-    let records = two_records(rt.alloc(), Validity::NonNullable)?;
+fn columns_come_in_order(rt: HostRuntime) {
+    let records = two_records(rt.alloc(), Validity::NonNullable).expect(&rt, "made");
     let mut columns = records.iter_unmasked_fields();
     assert_eq!(rt; columns.len(), 2);
     let Some(first) = columns.next() else {
-        return Err(VortexError::UnknownField.into());
+        panic!(rt; "no column");
     };
     assert!(rt; has_numbers_or_nulls(first, &[Some(1), Some(2)]));
     assert_eq!(rt; columns.len(), 1);
     assert!(rt; columns.next().is_some() && columns.next().is_none());
-    Ok(())
 }
 
 #[test]
-fn names_of_records(rt: HostRuntime) -> Result<(), Fail> {
-    let records = two_records(rt.alloc(), Validity::NonNullable)?;
+fn names_of_records(rt: HostRuntime) {
+    let records = two_records(rt.alloc(), Validity::NonNullable).expect(&rt, "made");
     let names = records.names();
     assert!(rt; names.len() == 2 && names.get(1).as_str() == "b");
     assert_eq!(rt; names.find("a"), Some(0));
@@ -109,89 +110,109 @@ fn names_of_records(rt: HostRuntime) -> Result<(), Fail> {
     assert!(rt; own.len() == 2);
     assert!(rt; own[0] == DType::Primitive(PType::U8, Nullability::NonNullable));
     assert!(rt; own[1] == DType::Bool(Nullability::NonNullable));
-    Ok(())
 }
 
 #[test]
-fn columns_by_place(rt: HostRuntime) -> Result<(), Fail> {
-    let records = two_records(rt.alloc(), Validity::AllInvalid)?;
+fn columns_by_place(rt: HostRuntime) {
+    let records = two_records(rt.alloc(), Validity::AllInvalid).expect(&rt, "made");
     let Some(first) = records.unmasked_field_opt(0) else {
-        return Err(VortexError::UnknownField.into());
+        panic!(rt; "no column");
     };
     assert!(rt; has_numbers_or_nulls(first, &[Some(1), Some(2)]));
     assert!(rt; records.unmasked_field_opt(2).is_none());
-    Ok(())
 }
 
 #[test]
-fn columns_by_name(rt: HostRuntime) -> Result<(), Fail> {
-    let records = two_records(rt.alloc(), Validity::NonNullable)?;
-    let named = records.unmasked_field_by_name("a")?;
+fn columns_by_name(rt: HostRuntime) {
+    let records = two_records(rt.alloc(), Validity::NonNullable).expect(&rt, "made");
+    let named = records.unmasked_field_by_name("a").expect(&rt, "made");
     assert!(rt; has_numbers_or_nulls(named, &[Some(1), Some(2)]));
     let refused = records.unmasked_field_by_name("z");
     assert!(rt; matches!(refused, Err(VortexError::UnknownField)));
     assert!(rt; records.unmasked_field_by_name_opt("b").is_some());
     assert!(rt; records.unmasked_field_by_name_opt("z").is_none());
-    Ok(())
 }
 
 #[test]
-fn records_that_may_be_null(rt: HostRuntime) -> Result<(), Fail> {
-    let validity = valid_where(rt.alloc(), &[true, false])?;
-    let records = two_records(rt.alloc(), validity)?.try_clone(rt.alloc())?;
+fn records_that_may_be_null(rt: HostRuntime) {
+    let validity = valid_where(rt.alloc(), &[true, false]).expect(&rt, "made");
+    let records = two_records(rt.alloc(), validity)
+        .expect(&rt, "made")
+        .try_clone(rt.alloc())
+        .expect(&rt, "made");
     assert_eq!(rt; records.nullability(), Nullability::Nullable);
-    assert!(rt; !records.as_array().is_valid(rt.alloc(), 1)?);
-    let own = records.struct_validity(rt.alloc())?;
-    assert!(rt; own.is_valid(rt.alloc(), 0)? && !own.is_valid(rt.alloc(), 1)?);
-    Ok(())
+    assert!(rt;
+        !records
+            .as_array()
+            .is_valid(rt.alloc(), 1)
+            .expect(&rt, "made")
+    );
+    let own = records.struct_validity(rt.alloc()).expect(&rt, "made");
+    assert!(rt;
+        own.is_valid(rt.alloc(), 0).expect(&rt, "made")
+            && !own.is_valid(rt.alloc(), 1).expect(&rt, "made")
+    );
 }
 
 #[test]
-fn records_of_no_columns(rt: HostRuntime) -> Result<(), Fail> {
-    let records = StructArray::new_fieldless_with_len(rt.alloc(), 3)?;
+fn records_of_no_columns(rt: HostRuntime) {
+    let records = StructArray::new_fieldless_with_len(rt.alloc(), 3).expect(&rt, "made");
     assert!(rt; records.len() == 3 && records.fields().is_empty());
-    assert!(rt; records.as_array().is_valid(rt.alloc(), 2)?);
+    assert!(rt;
+        records
+            .as_array()
+            .is_valid(rt.alloc(), 2)
+            .expect(&rt, "made")
+    );
     assert!(rt; matches!(records.dtype(), DType::Struct(_, Nullability::NonNullable)));
-    Ok(())
 }
 
 #[test]
-fn slots_of_records(rt: HostRuntime) -> Result<(), Fail> {
-    let slots = two_records(rt.alloc(), Validity::AllValid)?.slots(rt.alloc())?;
+fn slots_of_records(rt: HostRuntime) {
+    let slots = two_records(rt.alloc(), Validity::AllValid)
+        .expect(&rt, "made")
+        .slots(rt.alloc())
+        .expect(&rt, "made");
     assert!(rt; slots.fields.len() == 2 && slots.validity.is_none());
     assert!(rt; has_numbers_or_nulls(&slots.fields[0], &[Some(1), Some(2)]));
-    Ok(())
 }
 
 #[test]
-fn the_slot_of_null_records(rt: HostRuntime) -> Result<(), Fail> {
-    let records = two_records(rt.alloc(), Validity::AllInvalid)?;
-    let StructSlots { validity, .. } = records.slots(rt.alloc())?;
+fn the_slot_of_null_records(rt: HostRuntime) {
+    let records = two_records(rt.alloc(), Validity::AllInvalid).expect(&rt, "made");
+    let StructSlots { validity, .. } = records.slots(rt.alloc()).expect(&rt, "made");
     let Some(slot) = validity else {
-        return Err(VortexError::MismatchedTypes.into());
+        panic!(rt; "another layout");
     };
-    assert!(rt; slot.len() == 2 && !slot.execute_scalar(rt.alloc(), 1)?.as_bool());
-    Ok(())
+    assert!(rt;
+        slot.len() == 2
+            && !slot
+                .execute_scalar(rt.alloc(), 1)
+                .expect(&rt, "made")
+                .as_bool()
+    );
 }
 
 #[test]
-fn parts_of_records(rt: HostRuntime) -> Result<(), Fail> {
-    let records = two_records(rt.alloc(), Validity::AllValid)?;
+fn parts_of_records(rt: HostRuntime) {
+    let records = two_records(rt.alloc(), Validity::AllValid).expect(&rt, "made");
     let StructDataParts {
         struct_fields,
         fields,
         validity,
-    } = records.into_data_parts(rt.alloc())?;
+    } = records.into_data_parts(rt.alloc()).expect(&rt, "made");
     assert_eq!(rt; struct_fields.find("b"), Some(1));
     assert!(rt; fields.len() == 2 && has_numbers_or_nulls(&fields[0], &[Some(1), Some(2)]));
     assert!(rt; matches!(validity, Validity::AllValid));
-    Ok(())
 }
 
 #[test]
-fn records_come_back(rt: HostRuntime) -> Result<(), Fail> {
-    let array = two_records(rt.alloc(), Validity::NonNullable)?.into_array();
+fn records_come_back(rt: HostRuntime) {
+    let array = two_records(rt.alloc(), Validity::NonNullable)
+        .expect(&rt, "made")
+        .into_array();
     assert!(rt; StructArray::try_from_array(array).is_ok());
-    assert!(rt; StructArray::try_from_array(ints::<u8>(rt.alloc(), &[1])?).is_err());
-    Ok(())
+    assert!(rt;
+        StructArray::try_from_array(ints::<u8>(rt.alloc(), &[1]).expect(&rt, "made")).is_err()
+    );
 }

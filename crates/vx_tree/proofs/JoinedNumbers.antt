@@ -19,7 +19,7 @@ use Rattle.vx_tree.specs.Tree.{Tree, bools, primitive, constant, dictionary, fix
 use Rattle.vx_tree.specs.Meaning.{tree_len, kind_of, row_at, is_valid_at, picked, trees_from}
 use Rattle.vx_tree.specs.Formed.{IsCode, IsDictionary, WellFormed}
 use Rattle.vx_tree.specs.Named.{AreIndices}
-use Rattle.vx_tree.specs.Canonical.{HasRowsOf, plain_overflow, constant_fault, canonical_fault, columns_fault}
+use Rattle.vx_tree.specs.Canonical.{HasRowsOf, IsCanonicalAt, plain_overflow, constant_fault, canonical_fault, columns_fault}
 use Rattle.vx_tree.specs.Joined.{joined_len, joined_row, bytes_in, AreNumbers, IsJoined, IsValidJoined}
 use Rattle.vx_tree.specs.JoinedNumbers.{AreOfType, HoldNumbers, ArePicked, AreRepeated, AreAppended}
 use Rattle.vx_tree.proofs.JoinedRows.{joined-here, joined-later}
@@ -214,6 +214,21 @@ named_held p c v w bs ps cs h are e at_codes here =
 pub named_within : (p : PType) (v w : Tree) (bs : List ℕ) → HasRowsOf v w → AreNumbers p w → bs ≡ bytes_in w → length bs / byte_width p ≡ tree_len v
 named_within p v w bs h are e = ap (λ (xs : List ℕ). length xs / byte_width p) e ∙ ap (λ (k : ℕ). k / byte_width p) are.bytes ∙ whole_numbers p (tree_len w) ∙ h.len
 
+-- the same where a row is there for each code
+few_row : (f : ℕ → Row) (o : Option ℕ) (k : ℕ) (r x : Row) → IfSome o (λ j. k ≡ j) → r ≡ f k → r ≡ (if is_present r then x else null) → picked f o ≡ (if is_present (picked f o) then x else null)
+few_row f None k r x told e h = refl
+few_row f (Some j) k r x told e h = shown_same (f j) r x x (ap f (sym told) ∙ sym e) refl h
+
+pub few_held : (p : PType) (c v w : Tree) (ps : List ℕ) → IsCanonicalAt v ps w → AreNumbers p w → AreIndices c (tree_len v) ps → HoldNumbers p (tree_len c) (row_at (dictionary c v false)) (bytes_in w)
+few_held p c v w ps made are at_codes =
+    record {
+      len = are.bytes ∙ ap (λ n. n * byte_width p) (made.len ∙ at_codes.len);
+      each = λ i l.
+          let inside : i < length ps = rw at_codes.len l in
+          few_row (row_at v) (position_in (row_at c i)) (slice_index ps i) (row_at w i) (whole (number_nth (numbers p (bytes_in w)) i)) (at_codes.each i l).told (made.rows i inside)
+          (are.content i (rw made.len inside));
+    }
+
 -- of no values no code names one
 code_of_none : (r : Row) → IsCode 0 r → position_in r ≡ None
 code_of_none null h = refl
@@ -250,7 +265,7 @@ flagged_held t c v f p cs a h = rw a (record { len = h.len; each = λ i l. h.eac
 
 -- ---- faults
 
-no_overflow : (k : Kind) (n : ℕ) → is_integers k ≡ true → plain_overflow k n ≡ None
+pub no_overflow : (k : Kind) (n : ℕ) → is_integers k ≡ true → plain_overflow k n ≡ None
 no_overflow (integers p m) n e = refl
 no_overflow (booleans m) n e = refl
 no_overflow (texts m) n e = refl

@@ -11,4 +11,5 @@ pub mod PackedRows
 pub mod SliceSteps
 pub mod JoinedTables
 pub mod TwoFaults
+pub mod AppendedArrays
 pub mod ReadTexts

@@ -2,6 +2,7 @@
 //! them, proved over the public contracts alone.
 #![tactic(auto)]
 
+pub mod appended;
 pub mod comparison;
 pub mod converter;
 pub mod encoder;

@@ -1,201 +1,178 @@
 // Arrays of numbers and of truth values: how they are made, and read as a typed buffer or a mask.
 
 use crate::data::{
-    bool_array, number_bytes, optional_bools, optional_numbers, random_bits, random_bools,
-    random_numbers, random_positions,
+    Scale, number_bytes, random_bits, random_bools, random_numbers, random_positions,
+    some_left_out, some_null, truths,
 };
 use crate::fault::Fault;
 use crate::made::Made;
-use crate::operation::{Bench, Operation};
+use crate::operation::Operation;
 use std::alloc::Global;
-use vx_base::{BitBuffer, ByteBuffer, PType};
+use vx_base::{BitBuffer, ByteBuffer, PType, VortexError};
 use vx_leaves::{BoolArray, BoolArrayExt, PrimitiveArray, PrimitiveArrayExt};
 use vx_tree::{ArrayRef, TypedArray, Validity};
 
-// Numbers, one after another.
+// What arrays of numbers are made of.
 #[derive(Drop)]
-struct NumbersFromIter {
-    numbers: Vec<u32>,
+pub(crate) enum NumberArrayOperation {
+    // Numbers, one after another.
+    FromIter(Vec<u32>),
+    // Numbers, one after another, of which some are left out.
+    FromOptionIter(Vec<Option<u32>>),
+    // The bytes of the numbers of the valid rows alone, and which of so many rows those are.
+    FromValues(ByteBuffer, ArrayRef, usize),
+    // The numbers of an array as a typed buffer.
+    ToBuffer(PrimitiveArray),
 }
 
-impl Operation for NumbersFromIter {
+impl Operation for NumberArrayOperation {
     fn run(&mut self, alloc: Global) -> Result<Made, Fault> {
-        let made = PrimitiveArray::from_iter(alloc, self.numbers.iter().copied())?;
-        Ok(Made::Array(made.into_array()))
-    }
-}
-
-// Numbers, one after another, of which some are left out.
-#[derive(Drop)]
-struct NumbersFromOptionIter {
-    items: Vec<Option<u32>>,
-}
-
-impl Operation for NumbersFromOptionIter {
-    fn run(&mut self, alloc: Global) -> Result<Made, Fault> {
-        let made = PrimitiveArray::from_option_iter(alloc, self.items.iter().copied())?;
-        Ok(Made::Array(made.into_array()))
-    }
-}
-
-// The bytes of the numbers of the valid rows alone.
-#[derive(Drop)]
-struct NumbersFromValues {
-    rows: usize,
-    bytes: ByteBuffer,
-    valid: ArrayRef,
-}
-
-impl Operation for NumbersFromValues {
-    fn run(&mut self, alloc: Global) -> Result<Made, Fault> {
-        let bytes = self.bytes.try_clone(alloc)?;
-        let validity = Validity::Array(self.valid.try_clone(alloc)?);
-        let ptype = PType::U32;
-        let rows = self.rows;
-        let made = PrimitiveArray::from_values_byte_buffer(alloc, bytes, ptype, validity, rows)?;
-        Ok(Made::Array(made.into_array()))
-    }
-}
-
-// The numbers of an array as a typed buffer.
-#[derive(Drop)]
-struct NumbersToBuffer {
-    array: PrimitiveArray,
-}
-
-impl Operation for NumbersToBuffer {
-    fn run(&mut self, alloc: Global) -> Result<Made, Fault> {
-        if self.array.ptype() != PType::U32 {
-            return Err(Fault::Usage);
+        match &*self {
+            NumberArrayOperation::FromIter(numbers) => {
+                let made = PrimitiveArray::from_iter(alloc, numbers.iter().copied())?;
+                Ok(Made::Array(made.into_array()))
+            }
+            NumberArrayOperation::FromOptionIter(items) => {
+                let made = PrimitiveArray::from_option_iter(alloc, items.iter().copied())?;
+                Ok(Made::Array(made.into_array()))
+            }
+            NumberArrayOperation::FromValues(bytes, valid, rows) => {
+                let made = from_values(alloc, bytes, valid, *rows)?;
+                Ok(Made::Array(made.into_array()))
+            }
+            NumberArrayOperation::ToBuffer(array) => to_buffer(alloc, array),
         }
-        Ok(Made::Numbers(self.array.to_buffer(alloc)?))
     }
 }
 
-// Truth values, one after another.
-#[derive(Drop)]
-struct BoolsFromIter {
-    bools: Vec<bool>,
-}
-
-impl Operation for BoolsFromIter {
-    fn run(&mut self, alloc: Global) -> Result<Made, Fault> {
-        let made = BoolArray::from_iter(alloc, self.bools.iter().copied())?;
-        Ok(Made::Array(made.into_array()))
-    }
-}
-
-// Truth values, one after another, of which some are left out.
-#[derive(Drop)]
-struct BoolsFromOptionIter {
-    items: Vec<Option<bool>>,
-}
-
-impl Operation for BoolsFromOptionIter {
-    fn run(&mut self, alloc: Global) -> Result<Made, Fault> {
-        let made = BoolArray::from_option_iter(alloc, self.items.iter().copied())?;
-        Ok(Made::Array(made.into_array()))
-    }
-}
-
-// The rows that are true.
-#[derive(Drop)]
-struct BoolsFromIndices {
+fn from_values(
+    alloc: Global,
+    bytes: &ByteBuffer,
+    valid: &ArrayRef,
     rows: usize,
-    indices: Vec<usize>,
+) -> Result<PrimitiveArray, VortexError> {
+    let bytes = bytes.try_clone(alloc)?;
+    let validity = Validity::Array(valid.try_clone(alloc)?);
+    PrimitiveArray::from_values_byte_buffer(alloc, bytes, PType::U32, validity, rows)
 }
 
-impl Operation for BoolsFromIndices {
-    fn run(&mut self, alloc: Global) -> Result<Made, Fault> {
-        let indices = self.indices.iter().copied();
-        let made = BoolArray::from_indices(alloc, self.rows, indices, Validity::NonNullable)?;
-        Ok(Made::Array(made.into_array()))
+fn to_buffer(alloc: Global, array: &PrimitiveArray) -> Result<Made, Fault> {
+    if array.ptype() != PType::U32 {
+        return Err(Fault::Usage);
     }
+    Ok(Made::Numbers(array.to_buffer(alloc)?))
 }
 
-// The mask of truth values none of which is null.
+// What arrays of truth values are made of, and such arrays.
 #[derive(Drop)]
-struct BoolsExecuteMask {
-    array: BoolArray,
+pub(crate) enum BoolArrayOperation {
+    // Truth values, one after another.
+    FromIter(Vec<bool>),
+    // Truth values, one after another, of which some are left out.
+    FromOptionIter(Vec<Option<bool>>),
+    // So many rows, and those that are true.
+    FromIndices(usize, Vec<usize>),
+    // The mask of truth values none of which is null.
+    ExecuteMask(BoolArray),
+    // The mask of the rows that are valid and true.
+    ToMask(BoolArray),
 }
 
-impl Operation for BoolsExecuteMask {
+impl Operation for BoolArrayOperation {
     fn run(&mut self, alloc: Global) -> Result<Made, Fault> {
-        Ok(Made::Mask(self.array.execute_mask(alloc)?))
-    }
-}
-
-// The mask of the rows that are valid and true.
-#[derive(Drop)]
-struct BoolsToMask {
-    array: BoolArray,
-}
-
-impl Operation for BoolsToMask {
-    fn run(&mut self, alloc: Global) -> Result<Made, Fault> {
-        Ok(Made::Mask(self.array.to_mask_fill_null_false(alloc)?))
+        match &*self {
+            BoolArrayOperation::FromIter(bools) => {
+                let made = BoolArray::from_iter(alloc, bools.iter().copied())?;
+                Ok(Made::Array(made.into_array()))
+            }
+            BoolArrayOperation::FromOptionIter(items) => {
+                let made = BoolArray::from_option_iter(alloc, items.iter().copied())?;
+                Ok(Made::Array(made.into_array()))
+            }
+            BoolArrayOperation::FromIndices(rows, indices) => {
+                let indices = indices.iter().copied();
+                let none = Validity::NonNullable;
+                let made = BoolArray::from_indices(alloc, *rows, indices, none)?;
+                Ok(Made::Array(made.into_array()))
+            }
+            BoolArrayOperation::ExecuteMask(array) => Ok(Made::Mask(array.execute_mask(alloc)?)),
+            BoolArrayOperation::ToMask(array) => {
+                Ok(Made::Mask(array.to_mask_fill_null_false(alloc)?))
+            }
+        }
     }
 }
 
 // Truth values that are null where a bit is false.
-fn nullable_bools(alloc: Global, rows: usize, valid: BitBuffer) -> Result<BoolArray, Fault> {
+fn nullable_bools(alloc: Global, rows: usize, valid: Validity) -> Result<BoolArray, Fault> {
     let bits = random_bits(alloc, rows, 2, 7)?;
-    let validity = Validity::Array(bool_array(alloc, valid)?);
-    Ok(BoolArray::try_new(alloc, bits, validity)?)
+    Ok(BoolArray::try_new(alloc, bits, valid)?)
 }
 
-// Measures an operation of arrays of numbers.
-pub(crate) fn measure_numbers(rt: &HostRuntime, bench: &Bench, name: &str) -> Result<(), Fault> {
-    let alloc = rt.alloc();
-    let rows = bench.scale.rows();
+// A validity of which each row is valid, as an array.
+fn all_valid(alloc: Global, rows: usize) -> Result<Validity, Fault> {
+    let bits = BitBuffer::new_set(alloc, rows)?;
+    let valid = BoolArray::try_new(alloc, bits, Validity::NonNullable)?;
+    Ok(Validity::Array(valid.into_array()))
+}
+
+// An operation of arrays of numbers.
+pub(crate) fn ready_numbers(
+    alloc: Global,
+    scale: Scale,
+    name: &str,
+) -> Result<NumberArrayOperation, Fault> {
+    let rows = scale.rows();
     match name {
         "from_iter" => {
             let numbers = random_numbers(alloc, rows, u32::MAX, 6)?;
-            bench.measure(rt, NumbersFromIter { numbers })
+            Ok(NumberArrayOperation::FromIter(numbers))
         }
         "from_option_iter" => {
-            let items = optional_numbers(alloc, rows)?;
-            bench.measure(rt, NumbersFromOptionIter { items })
+            let numbers = random_numbers(alloc, rows, u32::MAX, 6)?;
+            let items = some_left_out(alloc, &numbers)?;
+            Ok(NumberArrayOperation::FromOptionIter(items))
         }
         "from_values" => {
             let bytes = number_bytes(alloc, rows)?;
-            let valid = bool_array(alloc, random_bits(alloc, rows, 10, 3)?)?;
-            bench.measure(rt, NumbersFromValues { rows, bytes, valid })
+            let valid = truths(alloc, rows, 10, 3)?;
+            Ok(NumberArrayOperation::FromValues(bytes, valid, rows))
         }
         "to_buffer" => {
             let bytes = number_bytes(alloc, rows)?;
             let none = Validity::NonNullable;
             let array = PrimitiveArray::from_byte_buffer(alloc, bytes, PType::U32, none)?;
-            bench.measure(rt, NumbersToBuffer { array })
+            Ok(NumberArrayOperation::ToBuffer(array))
         }
         _ => Err(Fault::Usage),
     }
 }
 
-// Measures an operation of arrays of truth values.
-pub(crate) fn measure_bools(rt: &HostRuntime, bench: &Bench, name: &str) -> Result<(), Fault> {
-    let alloc = rt.alloc();
-    let rows = bench.scale.rows();
+// An operation of arrays of truth values.
+pub(crate) fn ready_bools(
+    alloc: Global,
+    scale: Scale,
+    name: &str,
+) -> Result<BoolArrayOperation, Fault> {
+    let rows = scale.rows();
     match name {
-        "from_iter" => {
-            let bools = random_bools(alloc, rows, 2, 7)?;
-            bench.measure(rt, BoolsFromIter { bools })
-        }
+        "from_iter" => Ok(BoolArrayOperation::FromIter(random_bools(alloc, rows, 2, 7)?)),
         "from_option_iter" => {
-            let items = optional_bools(alloc, rows)?;
-            bench.measure(rt, BoolsFromOptionIter { items })
+            let bools = random_bools(alloc, rows, 2, 7)?;
+            let items = some_left_out(alloc, &bools)?;
+            Ok(BoolArrayOperation::FromOptionIter(items))
         }
         "from_indices" => {
             let indices = random_positions(alloc, rows, rows as u32)?;
-            bench.measure(rt, BoolsFromIndices { rows, indices })
+            Ok(BoolArrayOperation::FromIndices(rows, indices))
         }
         "execute_mask" => {
-            let array = nullable_bools(alloc, rows, BitBuffer::new_set(alloc, rows)?)?;
-            bench.measure(rt, BoolsExecuteMask { array })
+            let array = nullable_bools(alloc, rows, all_valid(alloc, rows)?)?;
+            Ok(BoolArrayOperation::ExecuteMask(array))
         }
         "to_mask" => {
-            let array = nullable_bools(alloc, rows, random_bits(alloc, rows, 10, 3)?)?;
-            bench.measure(rt, BoolsToMask { array })
+            let array = nullable_bools(alloc, rows, some_null(alloc, rows, 3)?)?;
+            Ok(BoolArrayOperation::ToMask(array))
         }
         _ => Err(Fault::Usage),
     }

@@ -1,6 +1,6 @@
 // Operations on bits.
 
-use crate::data::{bool_array, random_bits, random_bools};
+use crate::data::{random_bits, random_bools, truths};
 use crate::fault::Fault;
 use crate::made::Made;
 use crate::operation::{Bench, Operation};
@@ -8,75 +8,59 @@ use std::alloc::Global;
 use vx_base::{BitBuffer, BitBufferMut};
 use vx_tree::{ArrayRef, Validity};
 
-// The packing of truth values.
+// Bits, and what is done with them.
 #[derive(Drop)]
-struct FromBools {
-    bools: Vec<bool>,
+pub(crate) enum BitOperation {
+    // The packing of truth values.
+    FromBools(Vec<bool>),
+    // The count of those that are true.
+    TrueCount(BitBuffer),
+    // Those that are true in both of two.
+    And(BitBuffer, BitBuffer),
+    // Whether two are equal.
+    Equal(BitBuffer, BitBuffer),
+    // The filling of all but the first three and the last five, of bits that are ready for each run.
+    Fill(Vec<BitBufferMut>),
+    // The mask of a validity that is an array of so many rows.
+    ExecuteMask(ArrayRef, usize),
 }
 
-impl Operation for FromBools {
+impl Operation for BitOperation {
     fn run(&mut self, alloc: Global) -> Result<Made, Fault> {
-        Ok(Made::Bits(BitBuffer::from_bools(alloc, &self.bools)?))
-    }
-}
-
-// The count of those that are true.
-#[derive(Drop)]
-struct TrueCount {
-    bits: BitBuffer,
-}
-
-impl Operation for TrueCount {
-    fn run(&mut self, _alloc: Global) -> Result<Made, Fault> {
-        Ok(Made::Number(self.bits.true_count() as u64))
-    }
-}
-
-// Those that are true in both of two.
-#[derive(Drop)]
-struct And {
-    left: BitBuffer,
-    right: BitBuffer,
-}
-
-impl Operation for And {
-    fn run(&mut self, alloc: Global) -> Result<Made, Fault> {
-        if self.left.len() != self.right.len() {
-            return Err(Fault::Usage);
+        match self {
+            BitOperation::FromBools(bools) => Ok(Made::Bits(BitBuffer::from_bools(alloc, bools)?)),
+            BitOperation::TrueCount(bits) => Ok(Made::Number(bits.true_count() as u64)),
+            BitOperation::And(left, right) => and(alloc, left, right),
+            BitOperation::Equal(left, right) => Ok(Made::Number((*left == *right) as u64)),
+            BitOperation::Fill(ready) => fill(ready),
+            BitOperation::ExecuteMask(array, rows) => execute_mask(alloc, array, *rows),
         }
-        Ok(Made::Bits(self.left.and(alloc, &self.right)?))
     }
 }
 
-// Whether two are equal.
-#[derive(Drop)]
-struct Equal {
-    left: BitBuffer,
-    right: BitBuffer,
-}
-
-impl Operation for Equal {
-    fn run(&mut self, _alloc: Global) -> Result<Made, Fault> {
-        Ok(Made::Number((self.left == self.right) as u64))
+fn and(alloc: Global, left: &BitBuffer, right: &BitBuffer) -> Result<Made, Fault> {
+    if left.len() != right.len() {
+        return Err(Fault::Usage);
     }
+    Ok(Made::Bits(left.and(alloc, right)?))
 }
 
-// The filling of all but the first three and the last five, of bits that are ready for each run.
-#[derive(Drop)]
-struct Fill {
-    ready: Vec<BitBufferMut>,
-}
-
-impl Operation for Fill {
-    fn run(&mut self, _alloc: Global) -> Result<Made, Fault> {
-        let Some(mut bits) = self.ready.pop() else {
-            return Err(Fault::Usage);
-        };
-        if bits.len() >= 8 {
-            bits.fill_range(3, bits.len() - 5, true);
-        }
-        Ok(Made::Filled(bits))
+fn fill(ready: &mut Vec<BitBufferMut>) -> Result<Made, Fault> {
+    let Some(mut bits) = ready.pop() else {
+        return Err(Fault::Usage);
+    };
+    if bits.len() >= 8 {
+        bits.fill_range(3, bits.len() - 5, true);
     }
+    Ok(Made::Filled(bits))
+}
+
+fn execute_mask(alloc: Global, array: &ArrayRef, rows: usize) -> Result<Made, Fault> {
+    if array.len() != rows {
+        return Err(Fault::Usage);
+    }
+    let validity = Validity::Array(array.try_clone(alloc)?);
+    Ok(Made::Mask(validity.execute_mask(alloc, rows)?))
 }
 
 // Bits that are false, for so many runs.
@@ -88,55 +72,22 @@ fn unset_bits(alloc: Global, rows: usize, runs: usize) -> Result<Vec<BitBufferMu
     Ok(ready)
 }
 
-// The mask of a validity that is an array.
-#[derive(Drop)]
-struct ExecuteMask {
-    rows: usize,
-    array: ArrayRef,
-}
-
-impl Operation for ExecuteMask {
-    fn run(&mut self, alloc: Global) -> Result<Made, Fault> {
-        let array = self.array.try_clone(alloc)?;
-        if array.len() != self.rows {
-            return Err(Fault::Usage);
-        }
-        let mask = Validity::Array(array).execute_mask(alloc, self.rows)?;
-        Ok(Made::Mask(mask))
-    }
-}
-
-// Measures an operation on bits.
-pub(crate) fn measure(rt: &HostRuntime, bench: &Bench, name: &str) -> Result<(), Fault> {
-    let alloc = rt.alloc();
+// An operation on bits.
+pub(crate) fn ready(alloc: Global, bench: &Bench, name: &str) -> Result<BitOperation, Fault> {
     let rows = bench.scale.rows();
     match name {
-        "bits_from_bools" => {
-            let bools = random_bools(alloc, rows, 2, 7)?;
-            bench.measure(rt, FromBools { bools })
-        }
-        "true_count" => {
-            let bits = random_bits(alloc, rows, 2, 7)?;
-            bench.measure(rt, TrueCount { bits })
-        }
+        "bits_from_bools" => Ok(BitOperation::FromBools(random_bools(alloc, rows, 2, 7)?)),
+        "true_count" => Ok(BitOperation::TrueCount(random_bits(alloc, rows, 2, 7)?)),
         "and_bits" => {
             let left = random_bits(alloc, rows, 2, 7)?;
-            let right = random_bits(alloc, rows, 3, 8)?;
-            bench.measure(rt, And { left, right })
+            Ok(BitOperation::And(left, random_bits(alloc, rows, 3, 8)?))
         }
         "equal_bits" => {
             let left = random_bits(alloc, rows, 2, 7)?;
-            let right = random_bits(alloc, rows, 2, 7)?;
-            bench.measure(rt, Equal { left, right })
+            Ok(BitOperation::Equal(left, random_bits(alloc, rows, 2, 7)?))
         }
-        "fill_bits" => {
-            let ready = unset_bits(alloc, rows, bench.runs())?;
-            bench.measure(rt, Fill { ready })
-        }
-        "execute_mask" => {
-            let array = bool_array(alloc, random_bits(alloc, rows, 10, 3)?)?;
-            bench.measure(rt, ExecuteMask { rows, array })
-        }
+        "fill_bits" => Ok(BitOperation::Fill(unset_bits(alloc, rows, bench.runs())?)),
+        "execute_mask" => Ok(BitOperation::ExecuteMask(truths(alloc, rows, 10, 3)?, rows)),
         _ => Err(Fault::Usage),
     }
 }

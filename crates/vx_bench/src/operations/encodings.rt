@@ -1,47 +1,42 @@
 // Operations of encoders: numbers of the least width, and which values of a dictionary are named.
 
-use crate::data::{dictionary, small_numbers};
+use crate::data::{Scale, dictionary, small_numbers};
 use crate::fault::Fault;
 use crate::made::Made;
-use crate::operation::{Bench, Operation};
+use crate::operation::Operation;
 use std::alloc::Global;
 use vx_leaves::{DictArray, DictArrayExt, PrimitiveArray, PrimitiveArrayExt};
 use vx_tree::TypedArray;
 
-// Numbers in the least width.
+// What is encoded.
 #[derive(Drop)]
-struct Narrow {
-    numbers: PrimitiveArray,
+pub(crate) enum EncodingOperation {
+    // Numbers in the least width.
+    Narrow(PrimitiveArray),
+    // A bit for each value of a dictionary: whether some code names it.
+    Scan(DictArray),
 }
 
-impl Operation for Narrow {
+impl Operation for EncodingOperation {
     fn run(&mut self, alloc: Global) -> Result<Made, Fault> {
-        Ok(Made::Array(self.numbers.narrow(alloc)?.into_array()))
+        match &*self {
+            EncodingOperation::Narrow(numbers) => {
+                Ok(Made::Array(numbers.narrow(alloc)?.into_array()))
+            }
+            EncodingOperation::Scan(dictionary) => {
+                let mask = dictionary.compute_referenced_values_mask(alloc, true)?;
+                Ok(Made::Bits(mask))
+            }
+        }
     }
 }
 
-// A bit for each value of a dictionary: whether some code names it.
-#[derive(Drop)]
-struct Scan {
-    dictionary: DictArray,
-}
-
-impl Operation for Scan {
-    fn run(&mut self, alloc: Global) -> Result<Made, Fault> {
-        let mask = self.dictionary.compute_referenced_values_mask(alloc, true)?;
-        Ok(Made::Bits(mask))
-    }
-}
-
-// Measures narrowing.
-pub(crate) fn measure_narrow(rt: &HostRuntime, bench: &Bench) -> Result<(), Fault> {
-    let numbers = small_numbers(rt.alloc(), bench.scale.rows())?;
-    bench.measure(rt, Narrow { numbers })
-}
-
-// Measures the scan of codes, which name all of a thousand values, or all but one.
-pub(crate) fn measure_scan(rt: &HostRuntime, bench: &Bench, which: &str) -> Result<(), Fault> {
-    let named = if which == "values_but_one" { 999 } else { 1000 };
-    let dictionary = dictionary(rt.alloc(), bench.scale.rows(), named)?;
-    bench.measure(rt, Scan { dictionary })
+// Narrowing, or the scan of codes, which name all of a thousand values, or all but one.
+pub(crate) fn ready(alloc: Global, scale: Scale, name: &str) -> Result<EncodingOperation, Fault> {
+    let named = match name {
+        "narrow" => return Ok(EncodingOperation::Narrow(small_numbers(alloc, scale.rows())?)),
+        "referenced_values_but_one" => 999,
+        _ => 1000,
+    };
+    Ok(EncodingOperation::Scan(dictionary(alloc, scale.rows(), named)?))
 }

@@ -1,12 +1,11 @@
-// Operations on list views.
+// Operations on lists.
 
-use crate::data::{
-    ListShape, Scale, list_view, lists_over, number_array, random_numbers, text_array,
-};
+use crate::data::{ListShape, Scale, list_view, lists_over, numbers_below, text_array};
 use crate::fault::Fault;
 use crate::made::Made;
-use crate::operation::{Bench, Operation};
+use crate::operation::Operation;
 use std::alloc::Global;
+use vx_base::VortexError;
 use vx_lists::{FixedSizeListArray, ListViewArray, ListViewRebuildMode};
 use vx_tree::{ArrayRef, TypedArray, Validity};
 
@@ -23,89 +22,65 @@ const AT_RANDOM: ListShape = ListShape {
     some_null: false,
 };
 
-// Rebuilding into the canonical layout of lists.
+// Lists, and what is done with them.
 #[derive(Drop)]
-struct Rebuild {
-    lists: ListViewArray,
+pub(crate) enum ListOperation {
+    // Rebuilding into the canonical layout of lists.
+    Rebuild(ListViewArray),
+    // So many slices of 400 rows, each let go at once.
+    Slice(ArrayRef, usize),
+    // The checks of the parts of a list view.
+    TryNew(ListViewArray),
+    // Whether each list ends where the next one starts.
+    IsConsecutive(ListViewArray),
+    // The checks of the elements of lists of a fixed size, so many of them.
+    FixedTryNew(ArrayRef, usize),
 }
 
-impl Operation for Rebuild {
+impl Operation for ListOperation {
     fn run(&mut self, alloc: Global) -> Result<Made, Fault> {
-        let mode = ListViewRebuildMode::MakeZeroCopyToList;
-        Ok(Made::Lists(self.lists.rebuild(alloc, mode)?))
-    }
-}
-
-// Slices of 400 rows, many of them, each let go at once.
-#[derive(Drop)]
-struct Slice {
-    array: ArrayRef,
-    count: usize,
-}
-
-impl Operation for Slice {
-    fn run(&mut self, alloc: Global) -> Result<Made, Fault> {
-        let mut rows = 0u64;
-        for i in 0..self.count {
-            let start = i % 500;
-            let slice = self.array.slice(alloc, start..start + 400)?;
-            rows = rows.wrapping_add(slice.len() as u64);
+        match &*self {
+            ListOperation::Rebuild(lists) => {
+                let mode = ListViewRebuildMode::MakeZeroCopyToList;
+                Ok(Made::Lists(lists.rebuild(alloc, mode)?))
+            }
+            ListOperation::Slice(array, count) => slice(alloc, array, *count),
+            ListOperation::TryNew(lists) => Ok(Made::Lists(try_new(alloc, lists)?)),
+            ListOperation::IsConsecutive(lists) => {
+                Ok(Made::Number(lists.is_consecutive() as u64))
+            }
+            ListOperation::FixedTryNew(elements, rows) => {
+                let made = fixed_try_new(alloc, elements, *rows)?;
+                Ok(Made::Array(made.into_array()))
+            }
         }
-        Ok(Made::Number(rows))
     }
 }
 
-// The checks of the parts of a list view.
-#[derive(Drop)]
-struct TryNew {
-    lists: ListViewArray,
-}
-
-impl Operation for TryNew {
-    fn run(&mut self, alloc: Global) -> Result<Made, Fault> {
-        let elements = self.lists.elements().try_clone(alloc)?;
-        let offsets = self.lists.offsets().try_clone(alloc)?;
-        let sizes = self.lists.sizes().try_clone(alloc)?;
-        let validity = Validity::NonNullable;
-        let made = ListViewArray::try_new(alloc, elements, offsets, sizes, validity)?;
-        Ok(Made::Lists(made))
+fn slice(alloc: Global, array: &ArrayRef, count: usize) -> Result<Made, Fault> {
+    let mut rows = 0u64;
+    for i in 0..count {
+        let start = i % 500;
+        let slice = array.slice(alloc, start..start + 400)?;
+        rows = rows.wrapping_add(slice.len() as u64);
     }
+    Ok(Made::Number(rows))
 }
 
-// Whether each list ends where the next one starts.
-#[derive(Drop)]
-struct IsConsecutive {
-    lists: ListViewArray,
+fn try_new(alloc: Global, lists: &ListViewArray) -> Result<ListViewArray, VortexError> {
+    let elements = lists.elements().try_clone(alloc)?;
+    let offsets = lists.offsets().try_clone(alloc)?;
+    let sizes = lists.sizes().try_clone(alloc)?;
+    ListViewArray::try_new(alloc, elements, offsets, sizes, Validity::NonNullable)
 }
 
-impl Operation for IsConsecutive {
-    fn run(&mut self, _alloc: Global) -> Result<Made, Fault> {
-        Ok(Made::Number(self.lists.is_consecutive() as u64))
-    }
-}
-
-// The checks of the parts of fixed-size lists.
-#[derive(Drop)]
-struct FixedTryNew {
-    elements: ArrayRef,
+fn fixed_try_new(
+    alloc: Global,
+    elements: &ArrayRef,
     rows: usize,
-}
-
-impl Operation for FixedTryNew {
-    fn run(&mut self, alloc: Global) -> Result<Made, Fault> {
-        let elements = self.elements.try_clone(alloc)?;
-        let validity = Validity::NonNullable;
-        let made = FixedSizeListArray::try_new(alloc, elements, 4, validity, self.rows)?;
-        Ok(Made::Array(made.into_array()))
-    }
-}
-
-// Measures the checks of fixed-size lists, four numbers each.
-pub(crate) fn measure_fixed(rt: &HostRuntime, bench: &Bench) -> Result<(), Fault> {
-    let alloc = rt.alloc();
-    let rows = bench.scale.rows();
-    let elements = number_array(alloc, random_numbers(alloc, 4 * rows, u32::MAX, 1)?)?;
-    bench.measure_often(rt, FixedTryNew { elements, rows })
+) -> Result<FixedSizeListArray, VortexError> {
+    let elements = elements.try_clone(alloc)?;
+    FixedSizeListArray::try_new(alloc, elements, 4, Validity::NonNullable, rows)
 }
 
 // The lists that an operation of rebuilding has.
@@ -140,29 +115,20 @@ fn lists_of(alloc: Global, scale: Scale, name: &str) -> Result<ListViewArray, Fa
     }
 }
 
-// Measures a rebuilding.
-pub(crate) fn measure_rebuild(rt: &HostRuntime, bench: &Bench, name: &str) -> Result<(), Fault> {
-    let lists = lists_of(rt.alloc(), bench.scale, name)?;
-    bench.measure(rt, Rebuild { lists })
-}
-
-// Measures another operation on lists.
-pub(crate) fn measure(rt: &HostRuntime, bench: &Bench, name: &str) -> Result<(), Fault> {
-    let alloc = rt.alloc();
+// An operation on lists.
+pub(crate) fn ready(alloc: Global, scale: Scale, name: &str) -> Result<ListOperation, Fault> {
+    let rows = scale.rows();
     match name {
         "slice_list_view" => {
-            let array = list_view(alloc, bench.scale, AT_RANDOM)?.into_array();
-            let count = bench.scale.rows() / 10;
-            bench.measure(rt, Slice { array, count })
+            let array = list_view(alloc, scale, AT_RANDOM)?.into_array();
+            Ok(ListOperation::Slice(array, rows / 10))
         }
-        "list_view_try_new" => {
-            let lists = list_view(alloc, bench.scale, AT_RANDOM)?;
-            bench.measure(rt, TryNew { lists })
+        "list_view_try_new" => Ok(ListOperation::TryNew(list_view(alloc, scale, AT_RANDOM)?)),
+        "is_consecutive" => Ok(ListOperation::IsConsecutive(list_view(alloc, scale, IN_ORDER)?)),
+        "fixed_lists_try_new" => {
+            let elements = numbers_below(alloc, 4 * rows, u32::MAX, 1)?;
+            Ok(ListOperation::FixedTryNew(elements, rows))
         }
-        "is_consecutive" => {
-            let lists = list_view(alloc, bench.scale, IN_ORDER)?;
-            bench.measure(rt, IsConsecutive { lists })
-        }
-        _ => Err(Fault::Usage),
+        _ => Ok(ListOperation::Rebuild(lists_of(alloc, scale, name)?)),
     }
 }

@@ -1,71 +1,67 @@
 // Operations on numbers.
 
-use crate::data::{number_array, random_numbers};
+use crate::data::{Scale, number_array, random_numbers};
 use crate::fault::Fault;
 use crate::made::Made;
-use crate::operation::{Bench, Operation};
+use crate::operation::Operation;
 use std::alloc::Global;
 use vx_base::{Buffer, ByteBuffer, PType, read_counts, write_counts};
 use vx_leaves::PrimitiveArray;
 use vx_tree::{ArrayRef, TypedArray, Validity};
 
-// An array of numbers that lie in a buffer.
+// Numbers, and what is done with them.
 #[derive(Drop)]
-struct TryNew {
-    numbers: Buffer<u32>,
+pub(crate) enum NumberOperation {
+    // An array of numbers that lie in a buffer.
+    TryNew(Buffer<u32>),
+    // Each number of an array, row by row.
+    IntAt(ArrayRef),
+    // The bytes of numbers.
+    IntoByteBuffer(Buffer<u32>),
+    // The numbers of bytes.
+    FromByteBuffer(ByteBuffer),
+    // Positions that lie as bytes of 32-bit numbers.
+    ReadCounts(ByteBuffer),
+    // The bytes of positions as 64-bit numbers.
+    WriteCounts(Vec<usize>),
 }
 
-impl Operation for TryNew {
+impl Operation for NumberOperation {
     fn run(&mut self, alloc: Global) -> Result<Made, Fault> {
-        let numbers = self.numbers.try_clone(alloc)?;
-        let made = PrimitiveArray::try_new(alloc, numbers, Validity::NonNullable)?;
-        Ok(Made::Array(made.into_array()))
-    }
-}
-
-// Each number of an array, row by row.
-#[derive(Drop)]
-struct IntAt {
-    array: ArrayRef,
-}
-
-impl Operation for IntAt {
-    fn run(&mut self, _alloc: Global) -> Result<Made, Fault> {
-        let mut sum = 0u64;
-        if !self.array.dtype().is_int() {
-            return Err(Fault::Usage);
-        }
-        for i in 0..self.array.len() {
-            if let Some(number) = self.array.int_at(i) {
-                sum = sum.wrapping_add(u64::try_from(number).unwrap_or(0));
+        match &*self {
+            NumberOperation::TryNew(numbers) => try_new(alloc, numbers),
+            NumberOperation::IntAt(array) => sum_of(array),
+            NumberOperation::IntoByteBuffer(numbers) => {
+                Ok(Made::Bytes(numbers.into_byte_buffer(alloc)?))
             }
+            NumberOperation::FromByteBuffer(bytes) => {
+                Ok(Made::Numbers(Buffer::from_byte_buffer(alloc, bytes)?))
+            }
+            NumberOperation::ReadCounts(bytes) => {
+                Ok(Made::Positions(read(alloc, bytes.as_slice())?))
+            }
+            NumberOperation::WriteCounts(counts) => Ok(Made::Bytes(write(alloc, counts)?)),
         }
-        Ok(Made::Number(sum))
     }
 }
 
-// The bytes of numbers.
-#[derive(Drop)]
-struct IntoByteBuffer {
-    numbers: Buffer<u32>,
+fn try_new(alloc: Global, numbers: &Buffer<u32>) -> Result<Made, Fault> {
+    let numbers = numbers.try_clone(alloc)?;
+    let made = PrimitiveArray::try_new(alloc, numbers, Validity::NonNullable)?;
+    Ok(Made::Array(made.into_array()))
 }
 
-impl Operation for IntoByteBuffer {
-    fn run(&mut self, alloc: Global) -> Result<Made, Fault> {
-        Ok(Made::Bytes(self.numbers.into_byte_buffer(alloc)?))
+fn sum_of(array: &ArrayRef) -> Result<Made, Fault> {
+    let mut sum = 0u64;
+    if !array.dtype().is_int() {
+        return Err(Fault::Usage);
     }
-}
-
-// The numbers of bytes.
-#[derive(Drop)]
-struct FromByteBuffer {
-    bytes: ByteBuffer,
-}
-
-impl Operation for FromByteBuffer {
-    fn run(&mut self, alloc: Global) -> Result<Made, Fault> {
-        Ok(Made::Numbers(Buffer::from_byte_buffer(alloc, &self.bytes)?))
+    for i in 0..array.len() {
+        if let Some(number) = array.int_at(i) {
+            sum = sum.wrapping_add(u64::try_from(number).unwrap_or(0));
+        }
     }
+    Ok(Made::Number(sum))
 }
 
 fn read(alloc: Global, bytes: &[u8]) -> Result<Vec<usize>, Fault> {
@@ -76,60 +72,23 @@ fn write(alloc: Global, counts: &[usize]) -> Result<ByteBuffer, Fault> {
     Ok(write_counts(alloc, PType::U64, counts)?)
 }
 
-// Positions that lie as bytes of 32-bit numbers.
-#[derive(Drop)]
-struct ReadCounts {
-    bytes: ByteBuffer,
-}
-
-impl Operation for ReadCounts {
-    fn run(&mut self, alloc: Global) -> Result<Made, Fault> {
-        Ok(Made::Positions(read(alloc, self.bytes.as_slice())?))
+// An operation on numbers.
+pub(crate) fn ready(alloc: Global, scale: Scale, name: &str) -> Result<NumberOperation, Fault> {
+    let numbers = random_numbers(alloc, scale.rows(), u32::MAX, 6)?;
+    if name == "int_at" {
+        return Ok(NumberOperation::IntAt(number_array(alloc, numbers)?));
     }
-}
-
-// The bytes of positions as 64-bit numbers.
-#[derive(Drop)]
-struct WriteCounts {
-    counts: Vec<usize>,
-}
-
-impl Operation for WriteCounts {
-    fn run(&mut self, alloc: Global) -> Result<Made, Fault> {
-        Ok(Made::Bytes(write(alloc, &self.counts)?))
-    }
-}
-
-// Measures an operation on numbers.
-pub(crate) fn measure(rt: &HostRuntime, bench: &Bench, name: &str) -> Result<(), Fault> {
-    let alloc = rt.alloc();
-    let numbers = random_numbers(alloc, bench.scale.rows(), u32::MAX, 6)?;
+    let numbers = Buffer::from_vec(alloc, numbers)?;
     match name {
-        "primitive_try_new" => {
-            let numbers = Buffer::from_vec(alloc, numbers)?;
-            bench.measure(rt, TryNew { numbers })
-        }
-        "int_at" => {
-            let array = number_array(alloc, numbers)?;
-            bench.measure(rt, IntAt { array })
-        }
-        "into_byte_buffer" => {
-            let numbers = Buffer::from_vec(alloc, numbers)?;
-            bench.measure(rt, IntoByteBuffer { numbers })
-        }
-        "from_byte_buffer" => {
-            let bytes = Buffer::from_vec(alloc, numbers)?.into_byte_buffer(alloc)?;
-            bench.measure(rt, FromByteBuffer { bytes })
-        }
-        "read_counts" => {
-            let bytes = Buffer::from_vec(alloc, numbers)?.into_byte_buffer(alloc)?;
-            bench.measure(rt, ReadCounts { bytes })
-        }
-        "write_counts" => {
-            let bytes = Buffer::from_vec(alloc, numbers)?.into_byte_buffer(alloc)?;
-            let counts = read(alloc, bytes.as_slice())?;
-            bench.measure(rt, WriteCounts { counts })
-        }
+        "primitive_try_new" => return Ok(NumberOperation::TryNew(numbers)),
+        "into_byte_buffer" => return Ok(NumberOperation::IntoByteBuffer(numbers)),
+        _ => {}
+    }
+    let bytes = numbers.into_byte_buffer(alloc)?;
+    match name {
+        "from_byte_buffer" => Ok(NumberOperation::FromByteBuffer(bytes)),
+        "read_counts" => Ok(NumberOperation::ReadCounts(bytes)),
+        "write_counts" => Ok(NumberOperation::WriteCounts(read(alloc, bytes.as_slice())?)),
         _ => Err(Fault::Usage),
     }
 }

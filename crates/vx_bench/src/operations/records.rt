@@ -1,37 +1,78 @@
 // Operations on records.
 
 use crate::data::{
-    bool_array, column_name, five_columns, number_array, random_bits, random_numbers,
-    records_under, some_null,
+    Scale, column_name, copies, five_columns, multiples, numbers, random_numbers, records_under,
+    some_null, truths,
 };
 use crate::fault::Fault;
 use crate::made::Made;
-use crate::operation::{Bench, Operation};
+use crate::operation::Operation;
 use std::alloc::Global;
-use vx_base::{FieldName, FieldNames};
+use vx_base::{FieldName, FieldNames, VortexError};
 use vx_lists::{StructArray, StructArrayExt};
 use vx_tree::{ArrayRef, TypedArray, Validity};
 
 // The names of five columns.
 const NAMES: [&str; 5] = ["number", "truth", "count", "flag", "weight"];
 
-// The checks of the parts of records.
+// Records, and what is done with them.
 #[derive(Drop)]
-struct TryNew {
-    names: FieldNames,
-    columns: Vec<ArrayRef>,
-    rows: usize,
+pub(crate) enum RecordOperation {
+    // The checks of the parts of records, so many of them.
+    TryNew(FieldNames, Vec<ArrayRef>, usize),
+    // Records with one column more.
+    WithColumn(StructArray, ArrayRef),
+    // Records without a column.
+    RemoveColumn(StructArray),
+    // Records whose nulls are pushed into their columns.
+    Push(StructArray),
+    // Records with some of the columns.
+    Project(StructArray, Vec<FieldName>),
+    // Records, one array after another.
+    Concat(Vec<StructArray>),
+    // The column of each of these names.
+    ByName(StructArray, Vec<FieldName>),
 }
 
-impl Operation for TryNew {
+impl Operation for RecordOperation {
     fn run(&mut self, alloc: Global) -> Result<Made, Fault> {
-        let columns = shared(alloc, &self.columns)?;
-        let names = self.names.try_clone(alloc)?;
-        let columns = columns.into_iter();
-        let none = Validity::NonNullable;
-        let made = StructArray::try_new(alloc, names, columns, self.rows, none)?;
-        Ok(Made::Array(made.into_array()))
+        match &*self {
+            RecordOperation::TryNew(names, columns, rows) => {
+                let made = try_new(alloc, names, columns, *rows)?;
+                Ok(Made::Array(made.into_array()))
+            }
+            RecordOperation::WithColumn(records, column) => {
+                let made = records.with_column(alloc, "last", column.try_clone(alloc)?)?;
+                Ok(Made::Array(made.into_array()))
+            }
+            RecordOperation::RemoveColumn(records) => removed(alloc, records),
+            RecordOperation::Push(records) => {
+                let made = records.push_validity_into_children(alloc, true)?;
+                Ok(Made::Array(made.into_array()))
+            }
+            RecordOperation::Project(records, names) => {
+                Ok(Made::Array(records.project(alloc, names)?.into_array()))
+            }
+            RecordOperation::Concat(records) => {
+                let made = StructArray::try_concat(alloc, records.iter())?;
+                Ok(Made::Array(made.into_array()))
+            }
+            RecordOperation::ByName(records, names) => {
+                Ok(Made::Number(rows_by_name(records, names)))
+            }
+        }
     }
+}
+
+fn try_new(
+    alloc: Global,
+    names: &FieldNames,
+    columns: &[ArrayRef],
+    rows: usize,
+) -> Result<StructArray, Fault> {
+    let columns = shared(alloc, columns)?.into_iter();
+    let names = names.try_clone(alloc)?;
+    Ok(StructArray::try_new(alloc, names, columns, rows, Validity::NonNullable)?)
 }
 
 // The same arrays, shared.
@@ -43,109 +84,22 @@ fn shared(alloc: Global, arrays: &[ArrayRef]) -> Result<Vec<ArrayRef>, Fault> {
     Ok(shared)
 }
 
-// What is made of records alone.
-#[derive(Clone, Copy)]
-enum Change {
-    Add,
-    Remove,
-    Push,
-}
-
-// Records, and the column that is added.
-#[derive(Drop)]
-struct Changed {
-    records: StructArray,
-    column: ArrayRef,
-    change: Change,
-}
-
-impl Changed {
-    // The records with one column more.
-    fn added(&self, alloc: Global) -> Result<StructArray, Fault> {
-        let column = self.column.try_clone(alloc)?;
-        Ok(self.records.with_column(alloc, "last", column)?)
+fn removed(alloc: Global, records: &StructArray) -> Result<Made, Fault> {
+    match records.remove_column(alloc, "count")? {
+        Some((rest, _column)) => Ok(Made::Array(rest.into_array())),
+        None => Err(Fault::Usage),
     }
+}
 
-    // The records without a column.
-    fn removed(&self, alloc: Global) -> Result<StructArray, Fault> {
-        match self.records.remove_column(alloc, "count")? {
-            Some((rest, _column)) => Ok(rest),
-            None => Err(Fault::Usage),
+// The rows of the columns of these names, one column after another.
+fn rows_by_name(records: &StructArray, names: &[FieldName]) -> u64 {
+    let mut rows = 0u64;
+    for name in names {
+        if let Some(column) = records.unmasked_field_by_name_opt(name.as_str()) {
+            rows = rows.wrapping_add(column.len() as u64);
         }
     }
-}
-
-impl Operation for Changed {
-    fn run(&mut self, alloc: Global) -> Result<Made, Fault> {
-        let made = match self.change {
-            Change::Add => self.added(alloc)?,
-            Change::Remove => self.removed(alloc)?,
-            Change::Push => self.records.push_validity_into_children(alloc, true)?,
-        };
-        Ok(Made::Array(made.into_array()))
-    }
-}
-
-// Records with some of the columns.
-#[derive(Drop)]
-struct Project {
-    records: StructArray,
-    names: Vec<FieldName>,
-}
-
-impl Operation for Project {
-    fn run(&mut self, alloc: Global) -> Result<Made, Fault> {
-        let made = self.records.project(alloc, &self.names)?;
-        Ok(Made::Array(made.into_array()))
-    }
-}
-
-// Joining records, one array after another.
-#[derive(Drop)]
-struct Concat {
-    records: Vec<StructArray>,
-}
-
-impl Operation for Concat {
-    fn run(&mut self, alloc: Global) -> Result<Made, Fault> {
-        let made = StructArray::try_concat(alloc, self.records.iter())?;
-        Ok(Made::Array(made.into_array()))
-    }
-}
-
-// The column of each of these names.
-#[derive(Drop)]
-struct ByName {
-    records: StructArray,
-    wanted: Vec<FieldName>,
-}
-
-impl Operation for ByName {
-    fn run(&mut self, _alloc: Global) -> Result<Made, Fault> {
-        let mut rows = 0u64;
-        for name in &self.wanted {
-            if let Some(column) = self.records.unmasked_field_by_name_opt(name.as_str()) {
-                rows = rows.wrapping_add(column.len() as u64);
-            }
-        }
-        Ok(Made::Number(rows))
-    }
-}
-
-// Measures the checks of the parts of records.
-fn measure_try_new(rt: &HostRuntime, bench: &Bench) -> Result<(), Fault> {
-    let alloc = rt.alloc();
-    let rows = bench.scale.rows();
-    let names = FieldNames::try_new(alloc, &NAMES)?;
-    let columns = five_columns(alloc, rows)?;
-    bench.measure_often(
-        rt,
-        TryNew {
-            names,
-            columns,
-            rows,
-        },
-    )
+    rows
 }
 
 // Records of five columns, none of them null.
@@ -154,105 +108,92 @@ fn records_of_five(alloc: Global, rows: usize) -> Result<StructArray, Fault> {
     records_under(alloc, &NAMES, columns, rows, Validity::NonNullable)
 }
 
-// Measures a change of the columns of records.
-fn measure_change(rt: &HostRuntime, bench: &Bench, change: Change) -> Result<(), Fault> {
-    let alloc = rt.alloc();
-    let rows = bench.scale.rows();
-    let records = records_of_five(alloc, rows)?;
-    let column = bool_array(alloc, random_bits(alloc, rows, 2, 7)?)?;
-    bench.measure_often(
-        rt,
-        Changed {
-            records,
-            column,
-            change,
-        },
-    )
-}
-
-// Measures the pushing of the nulls of records into columns that have some themselves.
-fn measure_push(rt: &HostRuntime, bench: &Bench) -> Result<(), Fault> {
-    let alloc = rt.alloc();
-    let rows = bench.scale.rows();
-    let valid = bool_array(alloc, random_bits(alloc, rows, 10, 12)?)?;
+// Records of five columns, in which records and fields are null.
+fn records_to_push(alloc: Global, rows: usize) -> Result<StructArray, Fault> {
+    let valid = truths(alloc, rows, 10, 12)?;
     let mut columns = Vec::with_capacity(alloc, 5)?;
     for column in five_columns(alloc, rows)? {
         columns.push(column.mask(alloc, &valid)?)?;
     }
-    let validity = some_null(alloc, rows, 3)?;
-    let records = records_under(alloc, &NAMES, columns, rows, validity)?;
-    let change = Change::Push;
-    bench.measure(
-        rt,
-        Changed {
-            records,
-            column: valid,
-            change,
-        },
-    )
+    records_under(alloc, &NAMES, columns, rows, some_null(alloc, rows, 3)?)
 }
 
-// Measures the choice of three columns of five.
-fn measure_project(rt: &HostRuntime, bench: &Bench) -> Result<(), Fault> {
-    let alloc = rt.alloc();
-    let records = records_of_five(alloc, bench.scale.rows())?;
+// Three names of five.
+fn names_to_project(alloc: Global) -> Result<Vec<FieldName>, Fault> {
     let mut names = Vec::with_capacity(alloc, 3)?;
     for name in ["weight", "truth", "number"] {
         names.push(FieldName::try_new(alloc, name)?)?;
     }
-    bench.measure_often(rt, Project { records, names })
+    Ok(names)
 }
 
-// Measures the joining of four arrays of a quarter of the rows.
-fn measure_concat(rt: &HostRuntime, bench: &Bench) -> Result<(), Fault> {
-    let alloc = rt.alloc();
-    let rows = bench.scale.quarter().rows();
+// Four arrays of the same records.
+fn records_to_join(alloc: Global, rows: usize) -> Result<Vec<StructArray>, Fault> {
     let array = records_of_five(alloc, rows)?;
     let mut records = Vec::with_capacity(alloc, 4)?;
     for _ in 0..4 {
         records.push(array.try_clone(alloc)?)?;
     }
-    bench.measure(rt, Concat { records })
+    Ok(records)
+}
+
+// The names of columns that end in these numbers.
+fn column_names(alloc: Global, numbers: &[u32]) -> Result<Vec<FieldName>, Fault> {
+    let mut names = Vec::with_capacity(alloc, numbers.len())?;
+    for number in numbers {
+        names.push(column_name(alloc, *number)?)?;
+    }
+    Ok(names)
 }
 
 // Records of one row and a hundred columns.
 fn wide_records(alloc: Global) -> Result<StructArray, Fault> {
-    let number = number_array(alloc, random_numbers(alloc, 1, u32::MAX, 6)?)?;
-    let mut names = Vec::with_capacity(alloc, 100)?;
-    let mut columns = Vec::with_capacity(alloc, 100)?;
-    for i in 0..100u32 {
-        names.push(column_name(alloc, i)?)?;
-        columns.push(number.try_clone(alloc)?)?;
-    }
+    let names = column_names(alloc, &multiples(alloc, 100, 1)?)?;
     let mut texts = Vec::with_capacity(alloc, 100)?;
     for name in &names {
         texts.push(name.as_str())?;
     }
+    let columns = copies(alloc, &numbers(alloc, 1)?, 100)?;
     records_under(alloc, &texts, columns, 1, Validity::NonNullable)
 }
 
-// Measures the finding of columns by names, one for ten rows.
-fn measure_by_name(rt: &HostRuntime, bench: &Bench) -> Result<(), Fault> {
-    let alloc = rt.alloc();
-    let records = wide_records(alloc)?;
-    let count = bench.scale.rows() / 10;
-    let mut wanted = Vec::with_capacity(alloc, count)?;
-    for number in random_numbers(alloc, count, 100, 9)? {
-        wanted.push(column_name(alloc, number)?)?;
-    }
-    bench.measure(rt, ByName { records, wanted })
+// The finding of columns by names, one for ten rows.
+fn by_name(alloc: Global, rows: usize) -> Result<RecordOperation, Fault> {
+    let wanted = column_names(alloc, &random_numbers(alloc, rows / 10, 100, 9)?)?;
+    Ok(RecordOperation::ByName(wide_records(alloc)?, wanted))
 }
 
-// Measures an operation on records.
-pub(crate) fn measure(rt: &HostRuntime, bench: &Bench, name: &str) -> Result<(), Fault> {
+// An operation on records, of five columns but for the one that finds columns by name.
+pub(crate) fn ready(alloc: Global, scale: Scale, name: &str) -> Result<RecordOperation, Fault> {
+    let rows = scale.rows();
     match name {
-        "try_new" => measure_try_new(rt, bench),
-        "project" => measure_project(rt, bench),
-        "with_column" => measure_change(rt, bench, Change::Add),
-        "remove_column" => measure_change(rt, bench, Change::Remove),
-        "push_validity" => measure_push(rt, bench),
-        "concat" => measure_concat(rt, bench),
-        "by_name" => measure_by_name(rt, bench),
+        "try_new" => {
+            let names = FieldNames::try_new(alloc, &NAMES)?;
+            Ok(RecordOperation::TryNew(names, five_columns(alloc, rows)?, rows))
+        }
+        "with_column" => {
+            let column = truths(alloc, rows, 2, 7)?;
+            Ok(RecordOperation::WithColumn(records_of_five(alloc, rows)?, column))
+        }
+        "remove_column" => Ok(RecordOperation::RemoveColumn(records_of_five(alloc, rows)?)),
+        "push_validity" => Ok(RecordOperation::Push(records_to_push(alloc, rows)?)),
+        "project" => {
+            let names = names_to_project(alloc)?;
+            Ok(RecordOperation::Project(records_of_five(alloc, rows)?, names))
+        }
+        "concat" => {
+            let rows = scale.quarter().rows();
+            Ok(RecordOperation::Concat(records_to_join(alloc, rows)?))
+        }
+        "by_name" => by_name(alloc, rows),
         _ => Err(Fault::Usage),
     }
+}
+
+// Whether an operation takes no time by the row.
+pub(crate) fn is_quick(name: &str) -> bool {
+    matches!(
+        name,
+        "try_new" | "project" | "with_column" | "remove_column"
+    )
 }

@@ -4,16 +4,16 @@ ghost use Rattle.std.specs.Prelude.{IfOk};
 ghost use Rattle.std.specs.List.{All};
 ghost use Rattle.vx_tree.specs.Runs.{IsRunWithin};
 
-use crate::data::{limit_of, number_array, random_numbers};
+use crate::data::{Scale, limit_of, numbers, random_numbers};
 use crate::fault::Fault;
 use crate::made::Made;
-use crate::operation::{Bench, Operation};
+use crate::operation::Operation;
 use std::alloc::Global;
 use vx_tree::ArrayRef;
 
 // Runs of the rows of an array, which are seen to lie within it.
 #[derive(Drop)]
-struct TakeRuns {
+pub(crate) struct TakeRuns {
     array: ArrayRef,
     runs: Vec<(usize, usize)>,
 }
@@ -50,16 +50,15 @@ fn runs_of(alloc: Global, rows: usize, size: usize) -> Result<Vec<(usize, usize)
     Ok(runs)
 }
 
-// Measures the taking of numbers in runs of eight rows, or in a hundred runs.
-pub(crate) fn measure(rt: &HostRuntime, bench: &Bench, name: &str) -> Result<(), Fault> {
-    let alloc = rt.alloc();
-    let rows = bench.scale.rows();
+// Numbers that are taken in runs of eight rows, or in a hundred runs.
+pub(crate) fn ready(alloc: Global, scale: Scale, name: &str) -> Result<TakeRuns, Fault> {
+    let rows = scale.rows();
     let size = match name {
         "short_runs" => 8,
-        "long_runs" => rows / 100,
-        _ => return Err(Fault::Usage),
+        _ => rows / 100,
     };
-    let runs = runs_of(alloc, rows, size)?;
-    let array = number_array(alloc, random_numbers(alloc, rows, u32::MAX, 6)?)?;
-    bench.measure(rt, TakeRuns { array, runs })
+    Ok(TakeRuns {
+        array: numbers(alloc, rows)?,
+        runs: runs_of(alloc, rows, size)?,
+    })
 }

@@ -1,9 +1,9 @@
 // A list of eight steps, and the same calls made directly.
 
-use crate::data::{bool_array, limit_of, number_array, random_bits, random_numbers};
+use crate::data::{Scale, limit_of, numbers_below, truths};
 use crate::fault::Fault;
 use crate::made::Made;
-use crate::operation::{Bench, Operation};
+use crate::operation::Operation;
 use std::alloc::Global;
 use vx_base::Mask;
 use vx_leaves::{PrimitiveArray, PrimitiveArrayExt};
@@ -12,7 +12,7 @@ use vx_tree::{ArrayRef, TypedArray, Validity};
 
 // Numbers, indices of half of the rows, and truth values.
 #[derive(Drop)]
-struct Inputs {
+pub(crate) struct Inputs {
     numbers: ArrayRef,
     indices: ArrayRef,
     truths: ArrayRef,
@@ -22,9 +22,9 @@ impl Inputs {
     // All three, shared.
     fn shared(&self, alloc: Global) -> Result<Vec<ArrayRef>, Fault> {
         let mut arrays = Vec::with_capacity(alloc, 3)?;
-        arrays.push(self.numbers.try_clone(alloc)?)?;
-        arrays.push(self.indices.try_clone(alloc)?)?;
-        arrays.push(self.truths.try_clone(alloc)?)?;
+        for array in [&self.numbers, &self.indices, &self.truths] {
+            arrays.push(array.try_clone(alloc)?)?;
+        }
         Ok(arrays)
     }
 
@@ -52,32 +52,36 @@ impl Inputs {
     }
 }
 
-// The calls of the steps, made directly.
+// The steps, or their calls.
 #[derive(Drop)]
-struct Direct {
-    inputs: Inputs,
+pub(crate) enum StepsOperation {
+    // The calls of the steps, made directly.
+    Direct(Inputs),
+    // The steps.
+    Steps(Inputs, Vec<Step>),
 }
 
-impl Operation for Direct {
+impl Operation for StepsOperation {
     fn run(&mut self, alloc: Global) -> Result<Made, Fault> {
-        let rows = self.inputs.numbers.len();
-        let _narrowed = self.inputs.narrowed(alloc)?;
-        let plain = self.inputs.joined(alloc)?.to_canonical(alloc)?;
-        Ok(Made::Array(plain.slice(alloc, rows / 4..rows)?))
+        match &*self {
+            StepsOperation::Direct(inputs) => inputs.called(alloc),
+            StepsOperation::Steps(inputs, steps) => inputs.stepped(alloc, steps),
+        }
     }
 }
 
-// The steps.
-#[derive(Drop)]
-struct Steps {
-    inputs: Inputs,
-    steps: Vec<Step>,
-}
+impl Inputs {
+    // What the calls make.
+    fn called(&self, alloc: Global) -> Result<Made, Fault> {
+        let rows = self.numbers.len();
+        let _narrowed = self.narrowed(alloc)?;
+        let plain = self.joined(alloc)?.to_canonical(alloc)?;
+        Ok(Made::Array(plain.slice(alloc, rows / 4..rows)?))
+    }
 
-impl Operation for Steps {
-    fn run(&mut self, alloc: Global) -> Result<Made, Fault> {
-        let arrays = self.inputs.shared(alloc)?;
-        match run(alloc, arrays, &self.steps) {
+    // What the steps make.
+    fn stepped(&self, alloc: Global, steps: &[Step]) -> Result<Made, Fault> {
+        match run(alloc, self.shared(alloc)?, steps) {
             Ok(mut results) => match results.pop() {
                 Some(array) => Ok(Made::Array(array)),
                 None => Err(Fault::Usage),
@@ -87,63 +91,49 @@ impl Operation for Steps {
     }
 }
 
-// The steps that narrow what a filter keeps.
-fn push_narrowing(steps: &mut Vec<Step>) -> Result<(), Fault> {
-    steps.push(Step::Filter { array: 0, mask: 2 })?;
-    steps.push(Step::Narrow { array: 3 })?;
-    Ok(())
-}
-
-// The steps that join rows with half of them in another order.
-fn push_joining(alloc: Global, steps: &mut Vec<Step>, rows: usize) -> Result<(), Fault> {
-    steps.push(Step::Mask { array: 0, mask: 2 })?;
-    steps.push(Step::Slice {
-        array: 5,
-        start: 0,
-        end: rows / 2,
-    })?;
-    steps.push(Step::Take {
-        array: 6,
-        indices: 1,
-    })?;
-    let arrays = vec![in alloc; 5, 7]?;
-    steps.push(Step::Concat { arrays })?;
-    Ok(())
-}
-
-// All eight.
+// Two steps that narrow what a filter keeps, and six that join rows with half of them in another
+// order.
 fn steps_on(alloc: Global, rows: usize) -> Result<Vec<Step>, Fault> {
-    let mut steps = Vec::with_capacity(alloc, 8)?;
-    push_narrowing(&mut steps)?;
-    push_joining(alloc, &mut steps, rows)?;
-    steps.push(Step::Canonical { array: 8 })?;
-    steps.push(Step::Slice {
-        array: 9,
-        start: rows / 4,
-        end: rows,
-    })?;
-    Ok(steps)
+    let arrays = vec![in alloc; 5, 7]?;
+    let steps = [
+        Step::Filter { array: 0, mask: 2 },
+        Step::Narrow { array: 3 },
+        Step::Mask { array: 0, mask: 2 },
+        Step::Slice {
+            array: 5,
+            start: 0,
+            end: rows / 2,
+        },
+        Step::Take {
+            array: 6,
+            indices: 1,
+        },
+        Step::Concat { arrays },
+        Step::Canonical { array: 8 },
+        Step::Slice {
+            array: 9,
+            start: rows / 4,
+            end: rows,
+        },
+    ];
+    Ok(Vec::from_array(alloc, steps)?)
 }
 
 // Numbers below 60000, indices of half of them and truth values, of which one in four is false.
-fn ready_inputs(alloc: Global, rows: usize) -> Result<Inputs, Fault> {
+fn inputs_of(alloc: Global, rows: usize) -> Result<Inputs, Fault> {
     let half = rows / 2;
-    let numbers = number_array(alloc, random_numbers(alloc, rows, 60000, 10)?)?;
-    let indices = number_array(alloc, random_numbers(alloc, half, limit_of(half), 5)?)?;
-    let truths = bool_array(alloc, random_bits(alloc, rows, 4, 8)?)?;
     Ok(Inputs {
-        numbers,
-        indices,
-        truths,
+        numbers: numbers_below(alloc, rows, 60000, 10)?,
+        indices: numbers_below(alloc, half, limit_of(half), 5)?,
+        truths: truths(alloc, rows, 4, 8)?,
     })
 }
 
-// Measures eight steps, or the same calls.
-pub(crate) fn measure(rt: &HostRuntime, bench: &Bench, name: &str) -> Result<(), Fault> {
-    let inputs = ready_inputs(rt.alloc(), bench.scale.rows())?;
-    if name == "direct" {
-        return bench.measure(rt, Direct { inputs });
+// Eight steps, or the same calls.
+pub(crate) fn ready(alloc: Global, scale: Scale, name: &str) -> Result<StepsOperation, Fault> {
+    let inputs = inputs_of(alloc, scale.rows())?;
+    if name == "steps_direct" {
+        return Ok(StepsOperation::Direct(inputs));
     }
-    let steps = steps_on(rt.alloc(), bench.scale.rows())?;
-    bench.measure(rt, Steps { inputs, steps })
+    Ok(StepsOperation::Steps(inputs, steps_on(alloc, scale.rows())?))
 }

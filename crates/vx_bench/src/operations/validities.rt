@@ -1,89 +1,79 @@
-// Operations on validities.
+// Operations on validities, in which one row in ten is null.
 
-use crate::data::{number_array, random_numbers, some_null};
+use crate::data::{Scale, limit_of, numbers_below, some_null};
 use crate::fault::Fault;
 use crate::made::Made;
-use crate::operation::{Bench, Operation};
+use crate::operation::Operation;
 use std::alloc::Global;
+use vx_base::VortexError;
 use vx_tree::{ArrayRef, Validity};
 
-// The rows that are valid in both of two.
+// Validities, and what is done with them.
 #[derive(Drop)]
-struct And {
-    left: Validity,
-    right: Validity,
+pub(crate) enum ValidityOperation {
+    // The rows that are valid in both of two.
+    And(Validity, Validity),
+    // The rows that are null.
+    Not(Validity),
+    // Rows that are overwritten at some places.
+    Patch(Patch),
 }
 
-impl Operation for And {
-    fn run(&mut self, alloc: Global) -> Result<Made, Fault> {
-        let left = self.left.try_clone(alloc)?;
-        let right = self.right.try_clone(alloc)?;
-        Ok(Made::Validity(left.and(alloc, right)?))
-    }
-}
-
-// The rows that are null.
+// So many rows, the places at which they are overwritten, and by what.
 #[derive(Drop)]
-struct Not {
-    validity: Validity,
-}
-
-impl Operation for Not {
-    fn run(&mut self, alloc: Global) -> Result<Made, Fault> {
-        Ok(Made::Validity(self.validity.not(alloc)?))
-    }
-}
-
-// Rows that are overwritten at some places.
-#[derive(Drop)]
-struct Patch {
+pub(crate) struct Patch {
     rows: usize,
     validity: Validity,
     indices: ArrayRef,
     patches: Validity,
 }
 
-impl Operation for Patch {
-    fn run(&mut self, alloc: Global) -> Result<Made, Fault> {
-        let validity = self.validity.try_clone(alloc)?;
-        let patched = validity.patch(alloc, self.rows, 0, &self.indices, &self.patches)?;
-        Ok(Made::Validity(patched))
+impl ValidityOperation {
+    // The validity that an operation makes.
+    fn made(&self, alloc: Global) -> Result<Validity, VortexError> {
+        match self {
+            ValidityOperation::And(left, right) => {
+                left.try_clone(alloc)?.and(alloc, right.try_clone(alloc)?)
+            }
+            ValidityOperation::Not(validity) => validity.not(alloc),
+            ValidityOperation::Patch(patch) => patch.made(alloc),
+        }
     }
 }
 
-// Measures the overwriting of one row in ten, at random places.
-fn measure_patch(rt: &HostRuntime, bench: &Bench, validity: Validity) -> Result<(), Fault> {
-    let alloc = rt.alloc();
-    let rows = bench.scale.rows();
-    let indices = number_array(alloc, random_numbers(alloc, rows / 10, rows as u32, 5)?)?;
-    let patches = some_null(alloc, rows / 10, 12)?;
-    bench.measure(
-        rt,
-        Patch {
-            rows,
-            validity,
-            indices,
-            patches,
-        },
-    )
+impl Patch {
+    fn made(&self, alloc: Global) -> Result<Validity, VortexError> {
+        let validity = self.validity.try_clone(alloc)?;
+        validity.patch(alloc, self.rows, 0, &self.indices, &self.patches)
+    }
 }
 
-// Measures an operation on validities, in which one row in ten is null.
-pub(crate) fn measure(rt: &HostRuntime, bench: &Bench, name: &str) -> Result<(), Fault> {
-    let validity = some_null(rt.alloc(), bench.scale.rows(), 3)?;
+impl Operation for ValidityOperation {
+    fn run(&mut self, alloc: Global) -> Result<Made, Fault> {
+        Ok(Made::Validity(self.made(alloc)?))
+    }
+}
+
+// One row in ten, at random places.
+fn patch_of(alloc: Global, rows: usize) -> Result<Patch, Fault> {
+    Ok(Patch {
+        rows,
+        validity: some_null(alloc, rows, 3)?,
+        indices: numbers_below(alloc, rows / 10, limit_of(rows), 5)?,
+        patches: some_null(alloc, rows / 10, 12)?,
+    })
+}
+
+// An operation on validities.
+pub(crate) fn ready(alloc: Global, scale: Scale, name: &str) -> Result<ValidityOperation, Fault> {
+    let rows = scale.rows();
     match name {
-        "and" => {
-            let right = some_null(rt.alloc(), bench.scale.rows(), 12)?;
-            bench.measure(
-                rt,
-                And {
-                    left: validity,
-                    right,
-                },
-            )
+        "validity_and" => {
+            let left = some_null(alloc, rows, 3)?;
+            Ok(ValidityOperation::And(left, some_null(alloc, rows, 12)?))
         }
-        "not" => bench.measure(rt, Not { validity }),
-        "patch" => measure_patch(rt, bench, validity),
+        "validity_not" => Ok(ValidityOperation::Not(some_null(alloc, rows, 3)?)),
+        "validity_patch" => Ok(ValidityOperation::Patch(patch_of(alloc, rows)?)),
         _ => Err(Fault::Usage),
     }
 }

@@ -1,54 +1,58 @@
 // Operations on views.
 
-use crate::data::{Heap, Texts, offsets_of, short_texts, text_heap};
+use crate::data::{Heap, Scale, Texts, offsets_of, short_texts, text_heap};
 use crate::fault::Fault;
 use crate::made::Made;
-use crate::operation::{Bench, Operation};
+use crate::operation::Operation;
 use std::alloc::Global;
 use vx_base::{Buffer, ByteBuffer, Mask};
 use vx_views::{BinaryView, MAX_BUFFER_LEN, build_views, build_views_from_offsets, check_views};
 
-// The views of values whose lengths are given.
+// Values of bytes, and what is done with them.
 #[derive(Drop)]
-struct Build {
-    heap: Heap,
+pub(crate) enum ViewOperation {
+    // The views of values whose lengths are given.
+    Build(Heap),
+    // The views of values whose ends are given.
+    BuildFromOffsets(ByteBuffer, Vec<u32>),
+    // The check of views, as text or not.
+    Check(Checked),
 }
 
-impl Operation for Build {
-    fn run(&mut self, alloc: Global) -> Result<Made, Fault> {
-        let bytes = self.heap.bytes.try_clone(alloc)?;
-        let lengths = &self.heap.lengths;
-        let (buffers, views) = build_views(alloc, 0, MAX_BUFFER_LEN, bytes, lengths)?;
-        Ok(Made::Views(buffers, views))
-    }
-}
-
-// The views of values whose ends are given.
+// Views, their buffers, and whether they are text.
 #[derive(Drop)]
-struct BuildFromOffsets {
-    bytes: ByteBuffer,
-    offsets: Vec<u32>,
-}
-
-impl Operation for BuildFromOffsets {
-    fn run(&mut self, alloc: Global) -> Result<Made, Fault> {
-        let bytes = self.bytes.try_clone(alloc)?;
-        let offsets = &self.offsets;
-        let (buffers, views) = build_views_from_offsets(alloc, 0, MAX_BUFFER_LEN, bytes, offsets)?;
-        Ok(Made::Views(buffers, views))
-    }
-}
-
-// The check of views, as text or not.
-#[derive(Drop)]
-struct Check {
+pub(crate) struct Checked {
     buffers: Vec<ByteBuffer>,
     views: Buffer<BinaryView>,
     is_text: bool,
 }
 
-impl Operation for Check {
+impl Operation for ViewOperation {
     fn run(&mut self, alloc: Global) -> Result<Made, Fault> {
+        match &*self {
+            ViewOperation::Build(heap) => build(alloc, heap),
+            ViewOperation::BuildFromOffsets(bytes, offsets) => {
+                build_from_offsets(alloc, bytes, offsets)
+            }
+            ViewOperation::Check(checked) => checked.check(alloc),
+        }
+    }
+}
+
+fn build(alloc: Global, heap: &Heap) -> Result<Made, Fault> {
+    let bytes = heap.bytes.try_clone(alloc)?;
+    let (buffers, views) = build_views(alloc, 0, MAX_BUFFER_LEN, bytes, &heap.lengths)?;
+    Ok(Made::Views(buffers, views))
+}
+
+fn build_from_offsets(alloc: Global, bytes: &ByteBuffer, offsets: &[u32]) -> Result<Made, Fault> {
+    let bytes = bytes.try_clone(alloc)?;
+    let (buffers, views) = build_views_from_offsets(alloc, 0, MAX_BUFFER_LEN, bytes, offsets)?;
+    Ok(Made::Views(buffers, views))
+}
+
+impl Checked {
+    fn check(&self, alloc: Global) -> Result<Made, Fault> {
         let views = self.views.as_slice();
         let mask = Mask::new_true(views.len());
         check_views(alloc, views, &mask, &self.buffers, self.is_text, usize::MAX)?;
@@ -64,44 +68,40 @@ fn long_texts(mixed: bool) -> Texts {
     }
 }
 
-// Measures a check of views.
-fn measure_check(
-    rt: &HostRuntime,
-    bench: &Bench,
+// Views that are checked.
+fn views_to_check(
+    alloc: Global,
+    rows: usize,
     texts: Texts,
     is_text: bool,
-) -> Result<(), Fault> {
-    let alloc = rt.alloc();
-    let heap = text_heap(alloc, bench.scale.rows(), texts)?;
+) -> Result<ViewOperation, Fault> {
+    let heap = text_heap(alloc, rows, texts)?;
     let (buffers, views) = build_views(alloc, 0, MAX_BUFFER_LEN, heap.bytes, &heap.lengths)?;
-    bench.measure(
-        rt,
-        Check {
-            buffers,
-            views,
-            is_text,
-        },
-    )
+    Ok(ViewOperation::Check(Checked {
+        buffers,
+        views,
+        is_text,
+    }))
 }
 
-// Measures an operation on views.
-pub(crate) fn measure(rt: &HostRuntime, bench: &Bench, name: &str) -> Result<(), Fault> {
-    let alloc = rt.alloc();
+// An operation on views.
+pub(crate) fn ready(alloc: Global, scale: Scale, name: &str) -> Result<ViewOperation, Fault> {
+    let rows = scale.rows();
     match name {
         "build_views" => {
-            let heap = text_heap(alloc, bench.scale.rows(), short_texts(false))?;
-            bench.measure(rt, Build { heap })
+            let heap = text_heap(alloc, rows, short_texts(false))?;
+            Ok(ViewOperation::Build(heap))
         }
         "build_views_from_offsets" => {
-            let Heap { bytes, lengths } = text_heap(alloc, bench.scale.rows(), short_texts(false))?;
+            let Heap { bytes, lengths } = text_heap(alloc, rows, short_texts(false))?;
             let offsets = offsets_of(alloc, &lengths)?;
-            bench.measure(rt, BuildFromOffsets { bytes, offsets })
+            Ok(ViewOperation::BuildFromOffsets(bytes, offsets))
         }
-        "check_views_ascii" => measure_check(rt, bench, short_texts(false), true),
-        "check_views_mixed" => measure_check(rt, bench, short_texts(true), true),
-        "check_views_bytes" => measure_check(rt, bench, short_texts(true), false),
-        "check_long_ascii" => measure_check(rt, bench, long_texts(false), true),
-        "check_long_mixed" => measure_check(rt, bench, long_texts(true), true),
+        "check_views_ascii" => views_to_check(alloc, rows, short_texts(false), true),
+        "check_views_mixed" => views_to_check(alloc, rows, short_texts(true), true),
+        "check_views_bytes" => views_to_check(alloc, rows, short_texts(true), false),
+        "check_long_ascii" => views_to_check(alloc, rows, long_texts(false), true),
+        "check_long_mixed" => views_to_check(alloc, rows, long_texts(true), true),
         _ => Err(Fault::Usage),
     }
 }

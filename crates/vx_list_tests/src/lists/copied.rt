@@ -3,7 +3,6 @@
 
 use super::has_ranges;
 use std::alloc::Global;
-use std::test::Fail;
 use vx_base::{FieldNames, VortexError};
 use vx_lists::{ListViewArray, ListViewRebuildMode, StructArray, StructArrayExt};
 use vx_test_help::ints;
@@ -98,32 +97,40 @@ fn are_texts(alloc: Global, array: &ArrayRef) -> Result<bool, VortexError> {
 }
 
 #[test]
-fn numbers_are_copied(rt: HostRuntime) -> Result<(), Fail> {
-    for made in laid_out(rt.alloc(), numbers(rt.alloc())?)? {
+fn numbers_are_copied(rt: HostRuntime) {
+    for made in laid_out(rt.alloc(), numbers(rt.alloc()).expect(&rt, "made")).expect(&rt, "made") {
         assert!(rt; made.is_zero_copy_to_list() && has_ranges(&made, &[(0, 150), (150, 130)]));
         assert!(rt; are_numbers(made.elements()));
     }
-    Ok(())
 }
 
 #[test]
-fn texts_are_copied(rt: HostRuntime) -> Result<(), Fail> {
-    for made in laid_out(rt.alloc(), texts(rt.alloc())?)? {
+fn texts_are_copied(rt: HostRuntime) {
+    for made in laid_out(rt.alloc(), texts(rt.alloc()).expect(&rt, "made")).expect(&rt, "made") {
         assert!(rt; made.is_zero_copy_to_list() && has_ranges(&made, &[(0, 150), (150, 130)]));
-        assert!(rt; are_texts(rt.alloc(), made.elements())?);
+        assert!(rt; are_texts(rt.alloc(), made.elements()).expect(&rt, "made"));
     }
-    Ok(())
 }
 
 #[test]
-fn records_are_copied(rt: HostRuntime) -> Result<(), Fail> {
-    for made in laid_out(rt.alloc(), records(rt.alloc())?)? {
+fn records_are_copied(rt: HostRuntime) {
+    for made in laid_out(rt.alloc(), records(rt.alloc()).expect(&rt, "made")).expect(&rt, "made") {
         assert!(rt; made.is_zero_copy_to_list() && has_ranges(&made, &[(0, 150), (150, 130)]));
-        let Ok(rows) = StructArray::try_from_array(made.elements().try_clone(rt.alloc())?) else {
-            return Err(VortexError::MismatchedTypes.into());
+        let Ok(rows) = StructArray::try_from_array(
+            made.elements().try_clone(rt.alloc()).expect(&rt, "made"),
+        ) else {
+            panic!(rt; "another layout");
         };
-        assert!(rt; rows.len() == 280 && are_numbers(rows.unmasked_field_by_name("number")?));
-        assert!(rt; are_texts(rt.alloc(), rows.unmasked_field_by_name("text")?)?);
+        assert!(rt;
+            rows.len() == 280
+                && are_numbers(rows.unmasked_field_by_name("number").expect(&rt, "made"))
+        );
+        assert!(rt;
+            are_texts(
+                rt.alloc(),
+                rows.unmasked_field_by_name("text").expect(&rt, "made")
+            )
+            .expect(&rt, "made")
+        );
     }
-    Ok(())
 }

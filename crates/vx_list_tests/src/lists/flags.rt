@@ -2,7 +2,6 @@
 
 use super::view;
 use std::alloc::Global;
-use std::test::Fail;
 use vx_base::{Mask, VortexError};
 use vx_leaves::{DictArray, DictArrayExt, DictOwnedExt};
 use vx_lists::ListViewArrayExt;
@@ -34,32 +33,47 @@ fn is_flagged(array: &ArrayRef) -> bool {
 }
 
 #[test]
-fn slice_and_mask_keep_the_flag_of_lists(rt: HostRuntime) -> Result<(), Fail> {
+fn slice_and_mask_keep_the_flag_of_lists(rt: HostRuntime) {
     let alloc = rt.alloc();
-    let lists = flagged_lists(alloc)?;
-    assert!(rt; is_flagged(&lists) && is_flagged(&lists.slice(alloc, 0..1)?));
-    assert!(rt; is_flagged(&lists.mask(alloc, &bools(alloc, &[true, false])?)?));
-    assert!(rt; is_flagged(&lists.to_canonical(alloc)?));
-    Ok(())
+    let lists = flagged_lists(alloc).expect(&rt, "made");
+    assert!(rt; is_flagged(&lists) && is_flagged(&lists.slice(alloc, 0..1).expect(&rt, "made")));
+    assert!(rt;
+        is_flagged(
+            &lists
+                .mask(alloc, &bools(alloc, &[true, false]).expect(&rt, "made"))
+                .expect(&rt, "made")
+        )
+    );
+    assert!(rt; is_flagged(&lists.to_canonical(alloc).expect(&rt, "made")));
 }
 
 #[test]
-fn take_and_filter_clear_the_flag_of_lists(rt: HostRuntime) -> Result<(), Fail> {
+fn take_and_filter_clear_the_flag_of_lists(rt: HostRuntime) {
     let alloc = rt.alloc();
-    let lists = flagged_lists(alloc)?;
-    assert!(rt; !is_flagged(&lists.take(alloc, &ints::<u8>(alloc, &[0, 1])?)?));
-    assert!(rt; !is_flagged(&lists.filter(alloc, &Mask::new_true(2))?));
-    Ok(())
+    let lists = flagged_lists(alloc).expect(&rt, "made");
+    assert!(rt;
+        !is_flagged(
+            &lists
+                .take(alloc, &ints::<u8>(alloc, &[0, 1]).expect(&rt, "made"))
+                .expect(&rt, "made")
+        )
+    );
+    assert!(rt; !is_flagged(&lists.filter(alloc, &Mask::new_true(2)).expect(&rt, "made")));
 }
 
 #[test]
-fn each_operation_clears_the_flag_of_a_dictionary(rt: HostRuntime) -> Result<(), Fail> {
+fn each_operation_clears_the_flag_of_a_dictionary(rt: HostRuntime) {
     let alloc = rt.alloc();
-    let rows = flagged_dictionary(alloc)?;
-    let both = bools(alloc, &[true, true])?;
-    assert!(rt; is_flagged(&rows) && !is_flagged(&rows.slice(alloc, 0..2)?));
-    assert!(rt; !is_flagged(&rows.mask(alloc, &both)?));
-    assert!(rt; !is_flagged(&rows.filter(alloc, &Mask::new_true(2))?));
-    assert!(rt; !is_flagged(&rows.take(alloc, &ints::<u8>(alloc, &[0, 1])?)?));
-    Ok(())
+    let rows = flagged_dictionary(alloc).expect(&rt, "made");
+    let both = bools(alloc, &[true, true]).expect(&rt, "made");
+    assert!(rt; is_flagged(&rows) && !is_flagged(&rows.slice(alloc, 0..2).expect(&rt, "made")));
+    assert!(rt; !is_flagged(&rows.mask(alloc, &both).expect(&rt, "made")));
+    assert!(rt; !is_flagged(&rows.filter(alloc, &Mask::new_true(2)).expect(&rt, "made")));
+    assert!(rt;
+        !is_flagged(
+            &rows
+                .take(alloc, &ints::<u8>(alloc, &[0, 1]).expect(&rt, "made"))
+                .expect(&rt, "made")
+        )
+    );
 }

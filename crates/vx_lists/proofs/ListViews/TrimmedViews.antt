@@ -1,5 +1,5 @@
 -- A list view over a part of its elements.
-use Rattle.std.proofs.Common.{◌≡◌, ℕ, zero, suc, ◌+◌, ◌-◌, ◌<◌, ◌≤◌, Bool, false, cond, List, length, map, get_or, refl, sym, ◌∙◌, ap, subst, add-zero, arith}
+use Rattle.std.proofs.Common.{◌≡◌, ℕ, zero, suc, ◌+◌, ◌-◌, ◌<◌, ◌≤◌, Bool, true, false, cond, List, [], ◌∷◌, length, map, get_or, refl, sym, ◌∙◌, ap, subst, add-zero, arith}
 use Rattle.std.specs.Prelude.{pos, slice_range}
 use Rattle.std.specs.List.{All, range_with_len}
 use Rattle.std.proofs.lemmas.List.{length-map, get_or-map}
@@ -9,7 +9,8 @@ use Rattle.vx_base.specs.declared.ptypes.PType.{PType}
 use Rattle.vx_base.specs.Integers.{Holds}
 use Rattle.vx_base.specs.Kinds.{integers, integer_type, lists, Fits}
 use Rattle.vx_base.specs.Rows.{Row, null, items, whole, count_in}
-use Rattle.vx_tree.specs.Tree.{Tree, list_view, Valid}
+use Rattle.vx_tree.specs.Tree.{Tree, bools, primitive, constant, dictionary, fixed_list, list_view, structure, view_array, Valid}
+use Rattle.vx_tree.specs.Layouts.{is_constant}
 use Rattle.vx_tree.specs.Meaning.{tree_len, kind_of, row_at, rows, rows_range, is_valid_at, nullable}
 use Rattle.vx_tree.specs.Formed.{IsCounts, IsListView, ValidFits, WellFormed}
 use Rattle.vx_tree.specs.Operations.{IsSlice}
@@ -121,3 +122,27 @@ pub counts_low : (a : Tree) (by : ℕ) → ((i : ℕ) → i < tree_len a → by 
 counts_low a by low = All-from_get_or (λ n. by ≤ n) (counts_in a) 0 (λ i inside.
     let here : i < tree_len a = omega (arith, length-counts_in a) in
     subst (λ n. by ≤ n) (sym (get_or-counts_in a i here)) (low i here))
+
+-- ---- of a constant
+
+less : (r : Row) (by : ℕ) (xs : List ℕ) → map count_in (map (λ _. whole (pos (count_in r - by))) xs) ≡ map (λ n. n - by) (map count_in (map (λ _. r) xs))
+less r by [] = refl
+less r by (x ∷ xs) = ap (λ rest. (count_in r - by) ∷ rest) (less r by xs)
+
+-- a constant count that is made less
+pub lowered_counts_of_constant : (t : Tree) (p : PType) (by n : ℕ) → is_constant t ≡ true → n ≡ tree_len t
+    → IsCountArray p (map (λ c. c - by) (counts_in t)) (constant (integers p false) (whole (pos (count_in (row_at t 0) - by))) n)
+lowered_counts_of_constant (constant k r m) p by n is same = record {
+  kind = refl;
+  are_counts = record { kind = refl; counts = λ i inside. refl };
+  counts_are = ap (λ len. map count_in (map (λ _. whole (pos (count_in r - by))) (range_with_len 0 len))) same ∙ less r by (range_with_len 0 m);
+}
+lowered_counts_of_constant (bools _ _) p by n is same = cc
+lowered_counts_of_constant (primitive _ _ _) p by n is same = cc
+lowered_counts_of_constant (dictionary _ _ _) p by n is same = cc
+lowered_counts_of_constant (fixed_list _ _ _ _) p by n is same = cc
+lowered_counts_of_constant (list_view _ _ _ _ _) p by n is same = cc
+lowered_counts_of_constant (structure _ _ _ _) p by n is same = cc
+lowered_counts_of_constant (view_array _ _ _ _) p by n is same = cc
+
+pub ruleset constant_counts = (lowered_counts_of_constant)

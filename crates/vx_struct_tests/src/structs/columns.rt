@@ -2,7 +2,6 @@
 
 use super::{is_true_false, two_records};
 use std::alloc::Global;
-use std::test::Fail;
 use vx_base::{FieldName, VortexError};
 use vx_lists::{StructArray, StructArrayExt};
 use vx_test_help::{bools, has_numbers_or_nulls, ints, valid_where};
@@ -24,29 +23,33 @@ fn has_both(alloc: Global, records: &StructArray) -> Result<bool, VortexError> {
 }
 
 #[test]
-fn columns_with_names(rt: HostRuntime) -> Result<(), Fail> {
-    let fields = named_columns(rt.alloc())?;
-    let records = StructArray::from_fields(rt.alloc(), &fields)?;
-    assert!(rt; has_both(rt.alloc(), &records)?);
-    Ok(())
+fn columns_with_names(rt: HostRuntime) {
+    let fields = named_columns(rt.alloc()).expect(&rt, "made");
+    let records = StructArray::from_fields(rt.alloc(), &fields).expect(&rt, "made");
+    assert!(rt; has_both(rt.alloc(), &records).expect(&rt, "made"));
 }
 
 #[test]
-fn columns_of_an_iterator(rt: HostRuntime) -> Result<(), Fail> {
-    let fields = named_columns(rt.alloc())?;
-    let records = StructArray::try_from_iter(rt.alloc(), fields.into_iter())?;
-    assert!(rt; has_both(rt.alloc(), &records)?);
-    Ok(())
+fn columns_of_an_iterator(rt: HostRuntime) {
+    let fields = named_columns(rt.alloc()).expect(&rt, "made");
+    let records = StructArray::try_from_iter(rt.alloc(), fields.into_iter()).expect(&rt, "made");
+    assert!(rt; has_both(rt.alloc(), &records).expect(&rt, "made"));
 }
 
 #[test]
-fn columns_of_an_iterator_with_nulls(rt: HostRuntime) -> Result<(), Fail> {
-    let fields = named_columns(rt.alloc())?.into_iter();
-    let validity = valid_where(rt.alloc(), &[false, true])?;
-    let records = StructArray::try_from_iter_with_validity(rt.alloc(), fields, validity)?;
-    assert!(rt; has_both(rt.alloc(), &records)?);
-    assert!(rt; !records.as_array().is_valid(rt.alloc(), 0)?);
-    Ok(())
+fn columns_of_an_iterator_with_nulls(rt: HostRuntime) {
+    let fields = named_columns(rt.alloc()).expect(&rt, "made").into_iter();
+    let validity = valid_where(rt.alloc(), &[false, true]).expect(&rt, "made");
+    let records = StructArray::try_from_iter_with_validity(rt.alloc(), fields, validity).expect(
+        &rt, "made",
+    );
+    assert!(rt; has_both(rt.alloc(), &records).expect(&rt, "made"));
+    assert!(rt;
+        !records
+            .as_array()
+            .is_valid(rt.alloc(), 0)
+            .expect(&rt, "made")
+    );
 }
 
 // Names, in order.
@@ -59,48 +62,62 @@ fn names(alloc: Global, texts: &[&str]) -> Result<Vec<FieldName>, VortexError> {
 }
 
 #[test]
-fn columns_are_chosen(rt: HostRuntime) -> Result<(), Fail> {
-    let records = two_records(rt.alloc(), valid_where(rt.alloc(), &[true, false])?)?;
-    let chosen = records.project(rt.alloc(), &names(rt.alloc(), &["b", "a", "b"])?)?;
+fn columns_are_chosen(rt: HostRuntime) {
+    let records = two_records(
+        rt.alloc(),
+        valid_where(rt.alloc(), &[true, false]).expect(&rt, "made"),
+    )
+    .expect(&rt, "made");
+    let chosen = records
+        .project(
+            rt.alloc(),
+            &names(rt.alloc(), &["b", "a", "b"]).expect(&rt, "made"),
+        )
+        .expect(&rt, "made");
     assert!(rt; chosen.len() == 2 && chosen.fields().len() == 3);
     assert!(rt; has_numbers_or_nulls(chosen.unmasked_field(1), &[Some(1), Some(2)]));
-    assert!(rt; is_true_false(rt.alloc(), chosen.unmasked_field(2))?);
-    assert!(rt; !chosen.as_array().is_valid(rt.alloc(), 1)?);
-    Ok(())
+    assert!(rt; is_true_false(rt.alloc(), chosen.unmasked_field(2)).expect(&rt, "made"));
+    assert!(rt;
+        !chosen
+            .as_array()
+            .is_valid(rt.alloc(), 1)
+            .expect(&rt, "made")
+    );
 }
 
 #[test]
-fn no_column_is_chosen(rt: HostRuntime) -> Result<(), Fail> {
-    let records = two_records(rt.alloc(), Validity::NonNullable)?;
-    let chosen = records.project(rt.alloc(), &names(rt.alloc(), &[])?)?;
+fn no_column_is_chosen(rt: HostRuntime) {
+    let records = two_records(rt.alloc(), Validity::NonNullable).expect(&rt, "made");
+    let chosen = records
+        .project(rt.alloc(), &names(rt.alloc(), &[]).expect(&rt, "made"))
+        .expect(&rt, "made");
     assert!(rt; chosen.len() == 2 && chosen.fields().is_empty());
-    Ok(())
 }
 
 #[test]
-fn an_unknown_column_is_not_chosen(rt: HostRuntime) -> Result<(), Fail> {
-    let records = two_records(rt.alloc(), Validity::NonNullable)?;
-    let refused = records.project(rt.alloc(), &names(rt.alloc(), &["z"])?);
+fn an_unknown_column_is_not_chosen(rt: HostRuntime) {
+    let records = two_records(rt.alloc(), Validity::NonNullable).expect(&rt, "made");
+    let refused = records.project(rt.alloc(), &names(rt.alloc(), &["z"]).expect(&rt, "made"));
     assert!(rt; matches!(refused, Err(VortexError::UnknownField)));
-    Ok(())
 }
 
 #[test]
-fn a_column_is_added(rt: HostRuntime) -> Result<(), Fail> {
-    let records = two_records(rt.alloc(), Validity::NonNullable)?;
-    let column = ints::<i32>(rt.alloc(), &[5, -6])?;
-    let more = records.with_column(rt.alloc(), "a", column)?;
+fn a_column_is_added(rt: HostRuntime) {
+    let records = two_records(rt.alloc(), Validity::NonNullable).expect(&rt, "made");
+    let column = ints::<i32>(rt.alloc(), &[5, -6]).expect(&rt, "made");
+    let more = records
+        .with_column(rt.alloc(), "a", column)
+        .expect(&rt, "made");
     assert!(rt; more.len() == 2 && more.fields().len() == 3);
     assert!(rt; has_numbers_or_nulls(more.unmasked_field(2), &[Some(5), Some(-6)]));
-    let first = more.unmasked_field_by_name("a")?;
+    let first = more.unmasked_field_by_name("a").expect(&rt, "made");
     assert!(rt; has_numbers_or_nulls(first, &[Some(1), Some(2)]));
-    Ok(())
 }
 
 #[test]
-fn a_longer_column_is_not_added(rt: HostRuntime) -> Result<(), Fail> {
-    let records = two_records(rt.alloc(), Validity::NonNullable)?;
-    let column = ints::<u8>(rt.alloc(), &[1, 2, 3])?;
+fn a_longer_column_is_not_added(rt: HostRuntime) {
+    let records = two_records(rt.alloc(), Validity::NonNullable).expect(&rt, "made");
+    let column = ints::<u8>(rt.alloc(), &[1, 2, 3]).expect(&rt, "made");
     let refused = records.with_column(rt.alloc(), "c", column);
     assert!(rt;
         matches!(
@@ -111,36 +128,45 @@ fn a_longer_column_is_not_added(rt: HostRuntime) -> Result<(), Fail> {
             })
         )
     );
-    Ok(())
 }
 
 #[test]
-fn a_column_is_removed(rt: HostRuntime) -> Result<(), Fail> {
-    let records = two_records(rt.alloc(), Validity::NonNullable)?;
-    let Some((rest, column)) = records.remove_column(rt.alloc(), "a")? else {
-        return Err(VortexError::UnknownField.into());
+fn a_column_is_removed(rt: HostRuntime) {
+    let records = two_records(rt.alloc(), Validity::NonNullable).expect(&rt, "made");
+    let Some((rest, column)) = records.remove_column(rt.alloc(), "a").expect(&rt, "made") else {
+        panic!(rt; "no column");
     };
     assert!(rt; rest.len() == 2 && rest.fields().len() == 1);
-    assert!(rt; is_true_false(rt.alloc(), rest.unmasked_field(0))?);
+    assert!(rt; is_true_false(rt.alloc(), rest.unmasked_field(0)).expect(&rt, "made"));
     assert!(rt; has_numbers_or_nulls(&column, &[Some(1), Some(2)]));
-    Ok(())
 }
 
 #[test]
-fn the_other_column_is_removed(rt: HostRuntime) -> Result<(), Fail> {
-    let records = two_records(rt.alloc(), Validity::NonNullable)?;
-    let Some((rest, column)) = records.remove_column_owned(rt.alloc(), "b")? else {
-        return Err(VortexError::UnknownField.into());
+fn the_other_column_is_removed(rt: HostRuntime) {
+    let records = two_records(rt.alloc(), Validity::NonNullable).expect(&rt, "made");
+    let Some((rest, column)) = records
+        .remove_column_owned(rt.alloc(), "b")
+        .expect(&rt, "made")
+    else {
+        panic!(rt; "no column");
     };
-    assert!(rt; rest.fields().len() == 1 && is_true_false(rt.alloc(), &column)?);
+    assert!(rt; rest.fields().len() == 1 && is_true_false(rt.alloc(), &column).expect(&rt, "made"));
     assert!(rt; has_numbers_or_nulls(rest.unmasked_field(0), &[Some(1), Some(2)]));
-    Ok(())
 }
 
 #[test]
-fn no_column_is_removed(rt: HostRuntime) -> Result<(), Fail> {
-    let records = two_records(rt.alloc(), Validity::NonNullable)?;
-    assert!(rt; records.remove_column(rt.alloc(), "z")?.is_none());
-    assert!(rt; records.remove_column_owned(rt.alloc(), "z")?.is_none());
-    Ok(())
+fn no_column_is_removed(rt: HostRuntime) {
+    let records = two_records(rt.alloc(), Validity::NonNullable).expect(&rt, "made");
+    assert!(rt;
+        records
+            .remove_column(rt.alloc(), "z")
+            .expect(&rt, "made")
+            .is_none()
+    );
+    assert!(rt;
+        records
+            .remove_column_owned(rt.alloc(), "z")
+            .expect(&rt, "made")
+            .is_none()
+    );
 }

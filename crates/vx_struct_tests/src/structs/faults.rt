@@ -2,7 +2,6 @@
 
 use super::{both, one, two_records};
 use std::alloc::Global;
-use std::test::Fail;
 use vx_base::{FieldNames, VortexError};
 use vx_lists::{StructArray, StructArrayExt};
 use vx_test_help::{bools, ints, valid_where};
@@ -24,9 +23,9 @@ fn fault_of(
 }
 
 #[test]
-fn names_are_counted_first(rt: HostRuntime) -> Result<(), Fail> {
-    let numbers = Validity::Array(ints::<u8>(rt.alloc(), &[1])?);
-    let fault = fault_of(rt.alloc(), &["a", "b"], &[1], numbers)?;
+fn names_are_counted_first(rt: HostRuntime) {
+    let numbers = Validity::Array(ints::<u8>(rt.alloc(), &[1]).expect(&rt, "made"));
+    let fault = fault_of(rt.alloc(), &["a", "b"], &[1], numbers).expect(&rt, "made");
     assert!(rt;
         matches!(
             fault,
@@ -36,16 +35,15 @@ fn names_are_counted_first(rt: HostRuntime) -> Result<(), Fail> {
             })
         )
     );
-    Ok(())
 }
 
 #[test]
-fn validities_are_tested_next(rt: HostRuntime) -> Result<(), Fail> {
-    let numbers = Validity::Array(ints::<u8>(rt.alloc(), &[1])?);
-    let fault = fault_of(rt.alloc(), &["a"], &[1], numbers)?;
+fn validities_are_tested_next(rt: HostRuntime) {
+    let numbers = Validity::Array(ints::<u8>(rt.alloc(), &[1]).expect(&rt, "made"));
+    let fault = fault_of(rt.alloc(), &["a"], &[1], numbers).expect(&rt, "made");
     assert!(rt; matches!(fault, Some(VortexError::MismatchedTypes)));
-    let long = valid_where(rt.alloc(), &[true, true, true])?;
-    let fault = fault_of(rt.alloc(), &["a"], &[1], long)?;
+    let long = valid_where(rt.alloc(), &[true, true, true]).expect(&rt, "made");
+    let fault = fault_of(rt.alloc(), &["a"], &[1], long).expect(&rt, "made");
     assert!(rt;
         matches!(
             fault,
@@ -55,12 +53,11 @@ fn validities_are_tested_next(rt: HostRuntime) -> Result<(), Fail> {
             })
         )
     );
-    Ok(())
 }
 
 #[test]
-fn columns_are_measured_last(rt: HostRuntime) -> Result<(), Fail> {
-    let fault = fault_of(rt.alloc(), &["a"], &[1], Validity::AllValid)?;
+fn columns_are_measured_last(rt: HostRuntime) {
+    let fault = fault_of(rt.alloc(), &["a"], &[1], Validity::AllValid).expect(&rt, "made");
     assert!(rt;
         matches!(
             fault,
@@ -70,8 +67,11 @@ fn columns_are_measured_last(rt: HostRuntime) -> Result<(), Fail> {
             })
         )
     );
-    assert!(rt; fault_of(rt.alloc(), &["a"], &[1, 2], Validity::AllValid)?.is_none());
-    Ok(())
+    assert!(rt;
+        fault_of(rt.alloc(), &["a"], &[1, 2], Validity::AllValid)
+            .expect(&rt, "made")
+            .is_none()
+    );
 }
 
 // How two records of the data types of `{a:1,b:true}` and of these columns are refused.
@@ -94,17 +94,22 @@ fn pair(alloc: Global, numbers: &[u8], truths: &[bool]) -> Result<Vec<ArrayRef>,
 }
 
 #[test]
-fn columns_of_data_types(rt: HostRuntime) -> Result<(), Fail> {
-    let columns = pair(rt.alloc(), &[1, 2], &[true, false])?;
-    assert!(rt; typed_fault_of(rt.alloc(), columns, Validity::AllValid)?.is_none());
-    Ok(())
+fn columns_of_data_types(rt: HostRuntime) {
+    let columns = pair(rt.alloc(), &[1, 2], &[true, false]).expect(&rt, "made");
+    assert!(rt;
+        typed_fault_of(rt.alloc(), columns, Validity::AllValid)
+            .expect(&rt, "made")
+            .is_none()
+    );
 }
 
 #[test]
-fn columns_of_data_types_are_counted(rt: HostRuntime) -> Result<(), Fail> {
-    let numbers = Validity::Array(ints::<u8>(rt.alloc(), &[1])?);
-    let columns = one(rt.alloc(), ints::<i8>(rt.alloc(), &[1])?)?;
-    let fault = typed_fault_of(rt.alloc(), columns, numbers)?;
+fn columns_of_data_types_are_counted(rt: HostRuntime) {
+    let numbers = Validity::Array(ints::<u8>(rt.alloc(), &[1]).expect(&rt, "made"));
+    let columns = one(rt.alloc(), ints::<i8>(rt.alloc(), &[1]).expect(&rt, "made")).expect(
+        &rt, "made",
+    );
+    let fault = typed_fault_of(rt.alloc(), columns, numbers).expect(&rt, "made");
     assert!(rt;
         matches!(
             fault,
@@ -114,32 +119,39 @@ fn columns_of_data_types_are_counted(rt: HostRuntime) -> Result<(), Fail> {
             })
         )
     );
-    Ok(())
 }
 
 #[test]
-fn validities_come_before_data_types(rt: HostRuntime) -> Result<(), Fail> {
-    let columns = pair(rt.alloc(), &[1], &[true, false])?;
-    let long = valid_where(rt.alloc(), &[true, true, true])?;
-    let fault = typed_fault_of(rt.alloc(), columns, long)?;
+fn validities_come_before_data_types(rt: HostRuntime) {
+    let columns = pair(rt.alloc(), &[1], &[true, false]).expect(&rt, "made");
+    let long = valid_where(rt.alloc(), &[true, true, true]).expect(&rt, "made");
+    let fault = typed_fault_of(rt.alloc(), columns, long).expect(&rt, "made");
     assert!(rt; matches!(fault, Some(VortexError::LengthMismatch { found: 3, .. })));
-    Ok(())
 }
 
 #[test]
-fn columns_of_another_data_type(rt: HostRuntime) -> Result<(), Fail> {
-    let first = ints::<i16>(rt.alloc(), &[1])?;
-    let columns = both(rt.alloc(), first, bools(rt.alloc(), &[true])?)?;
-    let fault = typed_fault_of(rt.alloc(), columns, Validity::AllValid)?;
+fn columns_of_another_data_type(rt: HostRuntime) {
+    let first = ints::<i16>(rt.alloc(), &[1]).expect(&rt, "made");
+    let columns = both(
+        rt.alloc(),
+        first,
+        bools(rt.alloc(), &[true]).expect(&rt, "made"),
+    )
+    .expect(&rt, "made");
+    let fault = typed_fault_of(rt.alloc(), columns, Validity::AllValid).expect(&rt, "made");
     assert!(rt; matches!(fault, Some(VortexError::MismatchedTypes)));
-    Ok(())
 }
 
 #[test]
-fn shorter_columns_of_data_types(rt: HostRuntime) -> Result<(), Fail> {
-    let first = ints::<u8>(rt.alloc(), &[1])?;
-    let columns = both(rt.alloc(), first, ints::<u8>(rt.alloc(), &[1, 2])?)?;
-    let fault = typed_fault_of(rt.alloc(), columns, Validity::AllValid)?;
+fn shorter_columns_of_data_types(rt: HostRuntime) {
+    let first = ints::<u8>(rt.alloc(), &[1]).expect(&rt, "made");
+    let columns = both(
+        rt.alloc(),
+        first,
+        ints::<u8>(rt.alloc(), &[1, 2]).expect(&rt, "made"),
+    )
+    .expect(&rt, "made");
+    let fault = typed_fault_of(rt.alloc(), columns, Validity::AllValid).expect(&rt, "made");
     assert!(rt;
         matches!(
             fault,
@@ -149,7 +161,6 @@ fn shorter_columns_of_data_types(rt: HostRuntime) -> Result<(), Fail> {
             })
         )
     );
-    Ok(())
 }
 
 // No column, and so no name.
@@ -158,16 +169,15 @@ fn no_columns(alloc: Global) -> Vec<(&'static str, ArrayRef)> {
 }
 
 #[test]
-fn no_column_tells_no_length(rt: HostRuntime) -> Result<(), Fail> {
+fn no_column_tells_no_length(rt: HostRuntime) {
     let refused = StructArray::try_from_iter(rt.alloc(), no_columns(rt.alloc()).into_iter());
     assert!(rt; matches!(refused, Err(VortexError::EmptyInput)));
     let refused = StructArray::from_fields(rt.alloc(), &no_columns(rt.alloc()));
     assert!(rt; matches!(refused, Err(VortexError::EmptyInput)));
-    let numbers = Validity::Array(ints::<u8>(rt.alloc(), &[1])?);
+    let numbers = Validity::Array(ints::<u8>(rt.alloc(), &[1]).expect(&rt, "made"));
     let none = no_columns(rt.alloc()).into_iter();
     let refused = StructArray::try_from_iter_with_validity(rt.alloc(), none, numbers);
     assert!(rt; matches!(refused, Err(VortexError::EmptyInput)));
-    Ok(())
 }
 
 // The columns a and b of so many numbers.
@@ -183,8 +193,8 @@ fn uneven(
 }
 
 #[test]
-fn columns_are_as_long_as_the_first(rt: HostRuntime) -> Result<(), Fail> {
-    let fields = uneven(rt.alloc(), &[1], &[1, 2])?;
+fn columns_are_as_long_as_the_first(rt: HostRuntime) {
+    let fields = uneven(rt.alloc(), &[1], &[1, 2]).expect(&rt, "made");
     let refused = StructArray::from_fields(rt.alloc(), &fields);
     assert!(rt;
         matches!(
@@ -195,7 +205,9 @@ fn columns_are_as_long_as_the_first(rt: HostRuntime) -> Result<(), Fail> {
             })
         )
     );
-    let fields = uneven(rt.alloc(), &[1, 2], &[])?.into_iter();
+    let fields = uneven(rt.alloc(), &[1, 2], &[])
+        .expect(&rt, "made")
+        .into_iter();
     let refused = StructArray::try_from_iter(rt.alloc(), fields);
     assert!(rt;
         matches!(
@@ -203,5 +215,4 @@ fn columns_are_as_long_as_the_first(rt: HostRuntime) -> Result<(), Fail> {
             Err(VortexError::LengthMismatch { expected: 2, .. })
         )
     );
-    Ok(())
 }

@@ -2,7 +2,6 @@
 
 use super::{both, two_records};
 use std::alloc::Global;
-use std::test::Fail;
 use vx_base::{FieldNames, VortexError};
 use vx_lists::{StructArray, StructArrayExt};
 use vx_test_help::{has_numbers_or_nulls, ints};
@@ -16,43 +15,42 @@ fn chunk(alloc: Global, first: i32, second: i32) -> Result<StructArray, VortexEr
 }
 
 #[test]
-fn columns_of_one_name_go_by_place(rt: HostRuntime) -> Result<(), Fail> {
-    let (first, second) = (chunk(rt.alloc(), 1, 3)?, chunk(rt.alloc(), 2, 4)?);
+fn columns_of_one_name_go_by_place(rt: HostRuntime) {
+    let (first, second) = (
+        chunk(rt.alloc(), 1, 3).expect(&rt, "made"),
+        chunk(rt.alloc(), 2, 4).expect(&rt, "made"),
+    );
     let chunks = [&first, &second];
-    let all = StructArray::try_concat(rt.alloc(), chunks.iter().copied())?;
+    let all = StructArray::try_concat(rt.alloc(), chunks.iter().copied()).expect(&rt, "made");
     assert!(rt; all.len() == 2 && all.fields().len() == 2);
     assert!(rt; has_numbers_or_nulls(all.unmasked_field(0), &[Some(1), Some(2)]));
     assert!(rt; has_numbers_or_nulls(all.unmasked_field(1), &[Some(3), Some(4)]));
-    let named = all.unmasked_field_by_name("data")?;
+    let named = all.unmasked_field_by_name("data").expect(&rt, "made");
     assert!(rt; has_numbers_or_nulls(named, &[Some(1), Some(2)]));
-    Ok(())
 }
 
 #[test]
-fn validities_are_joined(rt: HostRuntime) -> Result<(), Fail> {
-    let first = two_records(rt.alloc(), Validity::AllInvalid)?;
-    let second = two_records(rt.alloc(), Validity::AllValid)?;
+fn validities_are_joined(rt: HostRuntime) {
+    let first = two_records(rt.alloc(), Validity::AllInvalid).expect(&rt, "made");
+    let second = two_records(rt.alloc(), Validity::AllValid).expect(&rt, "made");
     let chunks = [&first, &second];
-    let all = StructArray::try_concat(rt.alloc(), chunks.iter().copied())?;
-    assert!(rt; all.len() == 4 && !all.as_array().is_valid(rt.alloc(), 1)?);
-    assert!(rt; all.as_array().is_valid(rt.alloc(), 2)?);
-    Ok(())
+    let all = StructArray::try_concat(rt.alloc(), chunks.iter().copied()).expect(&rt, "made");
+    assert!(rt; all.len() == 4 && !all.as_array().is_valid(rt.alloc(), 1).expect(&rt, "made"));
+    assert!(rt; all.as_array().is_valid(rt.alloc(), 2).expect(&rt, "made"));
 }
 
 #[test]
-fn no_records_are_joined(rt: HostRuntime) -> Result<(), Fail> {
+fn no_records_are_joined(rt: HostRuntime) {
     let chunks: [&StructArray; 0] = [];
     let refused = StructArray::try_concat(rt.alloc(), chunks.iter().copied());
     assert!(rt; matches!(refused, Err(VortexError::EmptyInput)));
-    Ok(())
 }
 
 #[test]
-fn other_data_types_are_not_joined(rt: HostRuntime) -> Result<(), Fail> {
-    let first = chunk(rt.alloc(), 1, 3)?;
-    let second = two_records(rt.alloc(), Validity::NonNullable)?;
+fn other_data_types_are_not_joined(rt: HostRuntime) {
+    let first = chunk(rt.alloc(), 1, 3).expect(&rt, "made");
+    let second = two_records(rt.alloc(), Validity::NonNullable).expect(&rt, "made");
     let chunks = [&first, &second];
     let refused = StructArray::try_concat(rt.alloc(), chunks.iter().copied());
     assert!(rt; matches!(refused, Err(VortexError::DifferingDtypes)));
-    Ok(())
 }

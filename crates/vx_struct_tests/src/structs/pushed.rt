@@ -1,7 +1,6 @@
 // Nulls of records, pushed into their columns.
 
 use std::alloc::Global;
-use std::test::Fail;
 use vx_base::{Nullability, VortexError};
 use vx_lists::{StructArray, StructArrayExt};
 use vx_test_help::{has_numbers_or_nulls, ints, valid_where};
@@ -28,47 +27,70 @@ fn has_column(records: &StructArray, wanted: &[Option<i128>]) -> bool {
 }
 
 #[test]
-fn a_null_record_becomes_a_record_of_nulls(rt: HostRuntime) -> Result<(), Fail> {
-    let validity = valid_where(rt.alloc(), &[true, false])?;
-    let pushed = records(rt.alloc(), validity)?.push_validity_into_children(rt.alloc(), true)?;
+fn a_null_record_becomes_a_record_of_nulls(rt: HostRuntime) {
+    let validity = valid_where(rt.alloc(), &[true, false]).expect(&rt, "made");
+    let pushed = records(rt.alloc(), validity)
+        .expect(&rt, "made")
+        .push_validity_into_children(rt.alloc(), true)
+        .expect(&rt, "made");
     assert!(rt; pushed.len() == 2 && has_column(&pushed, &[Some(1), None]));
     assert_eq!(rt; pushed.nullability(), Nullability::NonNullable);
-    assert!(rt; pushed.as_array().is_valid(rt.alloc(), 1)?);
+    assert!(rt;
+        pushed
+            .as_array()
+            .is_valid(rt.alloc(), 1)
+            .expect(&rt, "made")
+    );
     let dtypes = pushed.struct_fields().fields();
     assert!(rt; dtypes.len() == 1 && dtypes[0].is_nullable());
-    Ok(())
 }
 
 #[test]
-fn null_records_stay(rt: HostRuntime) -> Result<(), Fail> {
-    let validity = valid_where(rt.alloc(), &[true, false])?;
-    let pushed = records(rt.alloc(), validity)?.push_validity_into_children(rt.alloc(), false)?;
+fn null_records_stay(rt: HostRuntime) {
+    let validity = valid_where(rt.alloc(), &[true, false]).expect(&rt, "made");
+    let pushed = records(rt.alloc(), validity)
+        .expect(&rt, "made")
+        .push_validity_into_children(rt.alloc(), false)
+        .expect(&rt, "made");
     assert!(rt; pushed.len() == 2 && has_column(&pushed, &[Some(1), None]));
     assert_eq!(rt; pushed.nullability(), Nullability::Nullable);
     let array = pushed.as_array();
-    assert!(rt; array.is_valid(rt.alloc(), 0)? && !array.is_valid(rt.alloc(), 1)?);
-    Ok(())
+    assert!(rt;
+        array.is_valid(rt.alloc(), 0).expect(&rt, "made")
+            && !array.is_valid(rt.alloc(), 1).expect(&rt, "made")
+    );
 }
 
 #[test]
-fn records_that_are_all_null(rt: HostRuntime) -> Result<(), Fail> {
-    let nulls = records(rt.alloc(), Validity::AllInvalid)?;
-    let pushed = nulls.push_validity_into_children(rt.alloc(), true)?;
+fn records_that_are_all_null(rt: HostRuntime) {
+    let nulls = records(rt.alloc(), Validity::AllInvalid).expect(&rt, "made");
+    let pushed = nulls
+        .push_validity_into_children(rt.alloc(), true)
+        .expect(&rt, "made");
     assert!(rt; has_column(&pushed, &[None, None]));
     assert_eq!(rt; pushed.nullability(), Nullability::NonNullable);
-    let kept = nulls.push_validity_into_children(rt.alloc(), false)?;
-    assert!(rt; matches!(kept.struct_validity(rt.alloc())?, Validity::AllInvalid));
-    Ok(())
+    let kept = nulls
+        .push_validity_into_children(rt.alloc(), false)
+        .expect(&rt, "made");
+    assert!(rt;
+        matches!(
+            kept.struct_validity(rt.alloc()).expect(&rt, "made"),
+            Validity::AllInvalid
+        )
+    );
 }
 
 #[test]
-fn columns_stay_where_no_record_is_null(rt: HostRuntime) -> Result<(), Fail> {
-    let own = records(rt.alloc(), Validity::AllValid)?;
-    let pushed = own.push_validity_into_children(rt.alloc(), true)?;
+fn columns_stay_where_no_record_is_null(rt: HostRuntime) {
+    let own = records(rt.alloc(), Validity::AllValid).expect(&rt, "made");
+    let pushed = own
+        .push_validity_into_children(rt.alloc(), true)
+        .expect(&rt, "made");
     assert!(rt; has_column(&pushed, &[Some(1), Some(2)]));
     let dtypes = pushed.struct_fields().fields();
     assert!(rt; dtypes.len() == 1 && !dtypes[0].is_nullable());
-    let kept = own.push_validity_into_children(rt.alloc(), false)?;
+    let kept = own
+        .push_validity_into_children(rt.alloc(), false)
+        .expect(&rt, "made");
     assert_eq!(rt; kept.nullability(), Nullability::Nullable);
-    Ok(())
 }

@@ -80,6 +80,9 @@ impl ArrayRef {
         if self.is_empty() {
             return append_number(ptype, 0, codes.len(), before);
         }
+        if self.len() > codes.len() {
+            return self.append_few_named(alloc, ptype, codes, before);
+        }
         let values = self.canonical(alloc)?;
         values.known();
         let Layout::Primitive { bytes, .. } = values.layout() else {
@@ -87,6 +90,31 @@ impl ArrayRef {
         };
         let positions = codes.code_positions(alloc, self.len())?;
         Ok(append_picked(ptype, bytes.as_slice(), &positions.selection(), before)?)
+    }
+
+    // The same, of which no value is made that no code names. Asks that there are values.
+    fn append_few_named(
+        &self,
+        alloc: Global,
+        ptype: PType,
+        codes: &ArrayRef,
+        before: Vec<u8>,
+    ) -> Result<Vec<u8>, VortexError>
+        requires kind { AreOfType ptype self.now }
+        requires codes { IsDictionary codes.now self.now false }
+        requires some { 0 < tree_len self.now }
+        ensures { Gives result (λ all. AreAppended (HoldNumbers ptype (tree_len codes.now) (row_at (dictionary codes.now self.now false)))
+            before.items all.items) }
+    {
+        let positions = codes.code_positions(alloc, self.len())?;
+        let picked = self.canonical_at(alloc, &positions.selection())?;
+        picked.known();
+        let Layout::Primitive { bytes, .. } = picked.layout() else {
+            unreachable!();
+        };
+        let mut all = before;
+        all.extend_from_slice(bytes.as_slice())?;
+        Ok(all)
     }
 }
 

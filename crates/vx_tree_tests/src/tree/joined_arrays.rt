@@ -229,14 +229,15 @@ fn huge_constants(rt: HostRuntime) {
 
 // Together they have 2^64 zeroes.
 #[test]
-fn huge_lists_of_one_size(rt: HostRuntime) -> Result<(), VortexError> {
+fn huge_lists_of_one_size(rt: HostRuntime) {
     let alloc = rt.alloc();
-    let list = huge_list(alloc)?;
+    let list = huge_list(alloc).expect(&rt, "made");
     let mut arrays = Vec::new(alloc);
     for _ in 0..8192 {
-        arrays.push(list.try_clone(alloc)?)?;
+        arrays
+            .push(list.try_clone(alloc).expect(&rt, "made"))
+            .expect(&rt, "made");
     }
     let joined = ArrayRef::concat(alloc, &arrays);
     assert!(rt; matches!(joined, Err(VortexError::Overflow)));
-    Ok(())
 }

@@ -67,64 +67,6 @@ fn expect_patched(
 }
 
 #[test]
-fn all_valid_rows_are_patched(rt: HostRuntime) {
-    let alloc = rt.alloc();
-    let all = Validity::AllValid;
-    expect_patched(
-        &rt,
-        alloc,
-        all,
-        &Validity::AllValid,
-        &[true, true, true, true, true],
-    )
-    .expect(&rt, "made");
-    let all = Validity::AllValid;
-    expect_patched(
-        &rt,
-        alloc,
-        all,
-        &Validity::AllInvalid,
-        &[true, true, false, true, false],
-    )
-    .expect(&rt, "made");
-    let patches = valid(alloc, &[true, false]).expect(&rt, "made");
-    expect_patched(
-        &rt,
-        alloc,
-        Validity::AllValid,
-        &patches,
-        &[true, true, true, true, false],
-    )
-    .expect(&rt, "made");
-}
-
-#[test]
-fn null_rows_are_patched(rt: HostRuntime) {
-    let alloc = rt.alloc();
-    let none = Validity::AllInvalid;
-    expect_patched(
-        &rt,
-        alloc,
-        none,
-        &Validity::AllValid,
-        &[false, false, true, false, true],
-    )
-    .expect(&rt, "made");
-    let none = Validity::AllInvalid;
-    expect_patched(&rt, alloc, none, &Validity::AllInvalid, &[false; 5]).expect(&rt, "made");
-    let patches = valid(alloc, &[true, false]).expect(&rt, "made");
-    let none = Validity::AllInvalid;
-    expect_patched(
-        &rt,
-        alloc,
-        none,
-        &patches,
-        &[false, false, true, false, false],
-    )
-    .expect(&rt, "made");
-}
-
-#[test]
 fn places_of_patches_are_counted_from_an_offset(rt: HostRuntime) {
     let alloc = rt.alloc();
     let rows = Validity::AllInvalid;
@@ -138,39 +80,6 @@ fn places_of_patches_are_counted_from_an_offset(rt: HostRuntime) {
         )
         .expect(&rt, "made");
     expect_valid(&rt, alloc, &patched, &[true, false, true]).expect(&rt, "made");
-}
-
-#[test]
-fn rows_of_an_array_are_patched(rt: HostRuntime) {
-    let alloc = rt.alloc();
-    let rows = [false, true, false, true, false];
-    let want = [false, true, true, true, true];
-    expect_patched(
-        &rt,
-        alloc,
-        valid(alloc, &rows).expect(&rt, "made"),
-        &Validity::AllValid,
-        &want,
-    )
-    .expect(&rt, "made");
-    expect_patched(
-        &rt,
-        alloc,
-        valid(alloc, &rows).expect(&rt, "made"),
-        &Validity::AllInvalid,
-        &rows,
-    )
-    .expect(&rt, "made");
-    let patches = valid(alloc, &[true, false]).expect(&rt, "made");
-    let want = [false, true, true, true, false];
-    expect_patched(
-        &rt,
-        alloc,
-        valid(alloc, &rows).expect(&rt, "made"),
-        &patches,
-        &want,
-    )
-    .expect(&rt, "made");
 }
 
 // Five rows that are all valid, by a constant.
@@ -224,39 +133,7 @@ fn last_of_equal_positions_wins(rt: HostRuntime) {
     expect_valid(&rt, rt.alloc(), &patched, &[true, true, true]).expect(&rt, "made");
 }
 
-#[test]
-fn patch_past_the_end(rt: HostRuntime) {
-    let scalar = Scalar::int(4, PType::U8, Nullability::NonNullable);
-    let places = ArrayRef::constant(rt.alloc(), scalar, 1).expect(&rt, "made");
-    let found = match Validity::AllValid.patch(rt.alloc(), 2, 0, &places, &Validity::AllInvalid) {
-        Err(VortexError::PatchOutOfRange { row: 0 }) => true,
-        _ => false,
-    };
-    assert!(rt; found);
-}
-
-#[test]
-fn patch_of_another_nullability(rt: HostRuntime) {
-    let places = two_and_four(rt.alloc()).expect(&rt, "made");
-    let found = match Validity::NonNullable.patch(
-        rt.alloc(),
-        5,
-        0,
-        &places,
-        &Validity::AllInvalid,
-    ) {
-        Err(VortexError::NullabilityMismatch) => true,
-        _ => false,
-    };
-    assert!(rt; found);
-}
-
 // ---- rows
-
-// The numbers 0, null.
-fn zero_and_null(alloc: Global) -> Result<ArrayRef, VortexError> {
-    zero_and_one(alloc)?.mask(alloc, &booleans(alloc, &[true, false])?)
-}
 
 // Two numbers that are null.
 fn two_nulls(alloc: Global) -> Result<ArrayRef, VortexError> {
@@ -277,14 +154,6 @@ fn expect_taken(
 }
 
 #[test]
-fn rows_at_indices_with_null(rt: HostRuntime) {
-    let alloc = rt.alloc();
-    let places = zero_and_null(alloc).expect(&rt, "made");
-    expect_taken(&rt, alloc, Validity::AllValid, &places, &[true, false]).expect(&rt, "made");
-    expect_taken(&rt, alloc, Validity::NonNullable, &places, &[true, false]).expect(&rt, "made");
-}
-
-#[test]
 fn rows_at_indices_that_are_all_null(rt: HostRuntime) {
     let alloc = rt.alloc();
     let places = two_nulls(alloc).expect(&rt, "made");
@@ -292,16 +161,6 @@ fn rows_at_indices_that_are_all_null(rt: HostRuntime) {
     expect_taken(&rt, alloc, Validity::NonNullable, &places, &[false, false]).expect(&rt, "made");
     let rows = valid(alloc, &[true, true]).expect(&rt, "made");
     expect_taken(&rt, alloc, rows, &places, &[false, false]).expect(&rt, "made");
-}
-
-#[test]
-fn rows_at_indices(rt: HostRuntime) {
-    let places = zero_and_one(rt.alloc()).expect(&rt, "made");
-    expect_taken(&rt, rt.alloc(), Validity::AllValid, &places, &[true, true]).expect(&rt, "made");
-    let taken = Validity::NonNullable
-        .take(rt.alloc(), &places)
-        .expect(&rt, "made");
-    assert!(rt; taken.nullability() == Nullability::NonNullable);
 }
 
 #[test]
@@ -447,69 +306,6 @@ fn arrays_of_other_lengths(rt: HostRuntime) {
 }
 
 // ---- the same rows
-
-#[test]
-fn states_with_the_same_rows(rt: HostRuntime) {
-    let alloc = rt.alloc();
-    assert!(rt;
-        Validity::NonNullable
-            .mask_eq(alloc, &Validity::AllValid, 3)
-            .expect(&rt, "made")
-    );
-    assert!(rt;
-        Validity::AllValid
-            .mask_eq(alloc, &Validity::NonNullable, 3)
-            .expect(&rt, "made")
-    );
-    assert!(rt;
-        !Validity::AllValid
-            .mask_eq(alloc, &Validity::AllInvalid, 3)
-            .expect(&rt, "made")
-    );
-    assert!(rt;
-        !Validity::NonNullable
-            .mask_eq(alloc, &Validity::AllInvalid, 3)
-            .expect(&rt, "made")
-    );
-}
-
-#[test]
-fn arrays_of_even_rows(rt: HostRuntime) {
-    let all = valid(rt.alloc(), &[true, true, true]).expect(&rt, "made");
-    assert!(rt;
-        all.mask_eq(rt.alloc(), &Validity::AllValid, 3)
-            .expect(&rt, "made")
-    );
-    assert!(rt;
-        Validity::NonNullable
-            .mask_eq(rt.alloc(), &all, 3)
-            .expect(&rt, "made")
-    );
-}
-
-#[test]
-fn arrays_of_nulls(rt: HostRuntime) {
-    let none = valid(rt.alloc(), &[false, false, false]).expect(&rt, "made");
-    assert!(rt;
-        none.mask_eq(rt.alloc(), &Validity::AllInvalid, 3)
-            .expect(&rt, "made")
-    );
-}
-
-#[test]
-fn arrays_of_mixed_rows(rt: HostRuntime) {
-    let some = valid(rt.alloc(), &[true, false, true]).expect(&rt, "made");
-    assert!(rt;
-        !some
-            .mask_eq(rt.alloc(), &Validity::AllValid, 3)
-            .expect(&rt, "made")
-    );
-    assert!(rt;
-        !some
-            .mask_eq(rt.alloc(), &Validity::AllInvalid, 3)
-            .expect(&rt, "made")
-    );
-}
 
 #[test]
 fn arrays_that_are_true_as_often(rt: HostRuntime) {

@@ -1,7 +1,6 @@
 // The tests of `arrays/varbinview/build_views.rs`.
 
 use std::alloc::Global;
-use std::test::Fail;
 use vx_base::{Buffer, ByteBuffer, VortexError};
 use vx_views::{BinaryView, MAX_BUFFER_LEN, build_views, build_views_from_offsets};
 
@@ -78,7 +77,7 @@ fn come_back(alloc: Global, values: &[&[u8]]) -> Result<bool, VortexError> {
 }
 
 #[test]
-fn fast_path_roundtrip(rt: HostRuntime) -> Result<(), Fail> {
+fn fast_path_roundtrip(rt: HostRuntime) {
     let alloc = rt.alloc();
     let mixed: [&[u8]; 4] = [
         b"a",
@@ -86,19 +85,18 @@ fn fast_path_roundtrip(rt: HostRuntime) -> Result<(), Fail> {
         b"short",
         b"another long value here!!",
     ];
-    assert!(rt; come_back(alloc, &mixed)?);
+    assert!(rt; come_back(alloc, &mixed).expect(&rt, "made"));
     let boundary: [&[u8]; 4] = [&[b'x'; 12], &[b'y'; 13], &[b'z'; 12], &[b'w'; 13]];
-    assert!(rt; come_back(alloc, &boundary)?);
+    assert!(rt; come_back(alloc, &boundary).expect(&rt, "made"));
     let inlined: [&[u8]; 5] = [b"", b"a", b"bb", b"ccc", b"dddddddddddd"];
-    assert!(rt; come_back(alloc, &inlined)?);
-    Ok(())
+    assert!(rt; come_back(alloc, &inlined).expect(&rt, "made"));
 }
 
 #[test]
-fn fast_path_roundtrip_of_long_values(rt: HostRuntime) -> Result<(), Fail> {
+fn fast_path_roundtrip_of_long_values(rt: HostRuntime) {
     let alloc = rt.alloc();
     let references: [&[u8]; 3] = [&[b'a'; 100], &[b'b'; 50], &[b'c'; 4096]];
-    assert!(rt; come_back(alloc, &references)?);
+    assert!(rt; come_back(alloc, &references).expect(&rt, "made"));
     let between: [&[u8]; 5] = [
         b"",
         b"a long value that is referenced",
@@ -106,10 +104,9 @@ fn fast_path_roundtrip_of_long_values(rt: HostRuntime) -> Result<(), Fail> {
         b"",
         b"trailing long reference value",
     ];
-    assert!(rt; come_back(alloc, &between)?);
-    let long = vec![in alloc; 7u8; 65_536]?;
-    assert!(rt; come_back(alloc, &[long.as_slice()])?);
-    Ok(())
+    assert!(rt; come_back(alloc, &between).expect(&rt, "made"));
+    let long = vec![in alloc; 7u8; 65_536].expect(&rt, "made");
+    assert!(rt; come_back(alloc, &[long.as_slice()]).expect(&rt, "made"));
 }
 
 // A value of a thousand bytes that starts with its number.
@@ -141,23 +138,28 @@ fn is_numbered(alloc: Global, made: &Built, number: u32) -> Result<bool, VortexE
 }
 
 #[test]
-fn fast_path_large_offsets(rt: HostRuntime) -> Result<(), Fail> {
-    let lens = vec![in rt.alloc(); 1000u32; 9000]?;
-    let made = build_views(rt.alloc(), 0, 9_000_001, numbered_heap(rt.alloc())?, &lens)?;
+fn fast_path_large_offsets(rt: HostRuntime) {
+    let lens = vec![in rt.alloc(); 1000u32; 9000].expect(&rt, "made");
+    let made = build_views(
+        rt.alloc(),
+        0,
+        9_000_001,
+        numbered_heap(rt.alloc()).expect(&rt, "made"),
+        &lens,
+    )
+    .expect(&rt, "made");
     assert!(rt; made.0.len() == 1 && made.1.len() == 9000);
     for number in 0u32..9000 {
-        assert!(rt; is_numbered(rt.alloc(), &made, number)?);
+        assert!(rt; is_numbered(rt.alloc(), &made, number).expect(&rt, "made"));
     }
-    Ok(())
 }
 
 #[test]
-fn fast_path_taken_at_exact_boundary(rt: HostRuntime) -> Result<(), Fail> {
+fn fast_path_taken_at_exact_boundary(rt: HostRuntime) {
     let values: [&[u8]; 2] = [b"this value is definitely long", b"and so is this one here"];
-    let made = built(rt.alloc(), &values, 0, 52)?;
+    let made = built(rt.alloc(), &values, 0, 52).expect(&rt, "made");
     assert_eq!(rt; made.0.len(), 1);
     assert!(rt; stand_for(&made, 0, &values));
-    Ok(())
 }
 
 // Four values, the longest of thirty bytes.
@@ -169,61 +171,65 @@ const FOUR: [&[u8]; 4] = [
 ];
 
 #[test]
-fn fast_and_slow_paths_agree(rt: HostRuntime) -> Result<(), Fail> {
-    let fast = built(rt.alloc(), &FOUR, 0, 90)?;
+fn fast_and_slow_paths_agree(rt: HostRuntime) {
+    let fast = built(rt.alloc(), &FOUR, 0, 90).expect(&rt, "made");
     assert!(rt; fast.0.len() == 1 && stand_for(&fast, 0, &FOUR));
-    let slow = built(rt.alloc(), &FOUR, 0, 30)?;
+    let slow = built(rt.alloc(), &FOUR, 0, 30).expect(&rt, "made");
     assert!(rt; slow.0.len() > 1 && stand_for(&slow, 0, &FOUR));
-    Ok(())
 }
 
 #[test]
-fn fast_path_empty_input(rt: HostRuntime) -> Result<(), Fail> {
+fn fast_path_empty_input(rt: HostRuntime) {
     let none: [&[u8]; 0] = [];
-    let made = built(rt.alloc(), &none, 0, 1024)?;
+    let made = built(rt.alloc(), &none, 0, 1024).expect(&rt, "made");
     assert!(rt; made.0.is_empty() && made.1.len() == 0);
-    Ok(())
 }
 
 #[test]
-fn fast_path_matches_make_view(rt: HostRuntime) -> Result<(), Fail> {
+fn fast_path_matches_make_view(rt: HostRuntime) {
     let values: [&[u8]; 3] = [b"inline", b"this is a long reference value", b""];
-    let (_, views) = built(rt.alloc(), &values, 0, 37)?;
+    let (_, views) = built(rt.alloc(), &values, 0, 37).expect(&rt, "made");
     assert_eq!(rt; views.len(), 3);
     assert!(rt; views.value(0) == BinaryView::make_view(values[0], 0, 0));
     assert!(rt; views.value(1) == BinaryView::make_view(values[1], 0, 6));
     assert!(rt; views.value(2) == BinaryView::make_view(values[2], 0, 36));
-    Ok(())
 }
 
 // That a buffer shares the heap cannot be asked here; the buffer is the part of the heap that the
 // offsets name.
 #[test]
-fn from_offsets_matches_lengths_and_is_zero_copy(rt: HostRuntime) -> Result<(), Fail> {
-    let heap = ByteBuffer::copy_from(rt.alloc(), b"..a long value that is referenced!tiny..")?;
+fn from_offsets_matches_lengths_and_is_zero_copy(rt: HostRuntime) {
+    let heap = ByteBuffer::copy_from(
+        rt.alloc(),
+        b"..a long value that is referenced!tiny..",
+    ).expect(&rt, "made");
     let offsets = [2u32, 34, 38];
-    let made = build_views_from_offsets(rt.alloc(), 5, MAX_BUFFER_LEN, heap, &offsets)?;
+    let made = build_views_from_offsets(rt.alloc(), 5, MAX_BUFFER_LEN, heap, &offsets).expect(
+        &rt, "made",
+    );
     assert!(rt; made.0.len() == 1 && made.0[0].len() == 36);
     let values: [&[u8]; 2] = [b"a long value that is referenced!", b"tiny"];
     assert!(rt; stand_for(&made, 5, &values));
-    Ok(())
 }
 
 // Upstream panics.
 #[test]
-fn short_lengths_panic(rt: HostRuntime) -> Result<(), Fail> {
-    let heap = ByteBuffer::copy_from(rt.alloc(), b"a long value that is referencedtiny")?;
+fn short_lengths_panic(rt: HostRuntime) {
+    let heap = ByteBuffer::copy_from(rt.alloc(), b"a long value that is referencedtiny").expect(
+        &rt, "made",
+    );
     let made = build_views(rt.alloc(), 0, MAX_BUFFER_LEN, heap, &[31u32]);
     assert!(rt; matches!(made, Err(VortexError::LengthsNotExact)));
-    Ok(())
 }
 
 #[test]
-fn test_to_canonical_large(rt: HostRuntime) -> Result<(), Fail> {
+fn test_to_canonical_large(rt: HostRuntime) {
     let values: [&[u8]; 4] = [&[b'a'; 13], &[b'b'; 13], &[b'c'; 13], &[b'd'; 13]];
-    let (heap, _) = flatten(rt.alloc(), &values)?;
-    let heap = ByteBuffer::from_vec(rt.alloc(), heap)?;
-    let (buffers, views) = build_views(rt.alloc(), 0, 26, heap, &[13u8, 13, 13, 13])?;
+    let (heap, _) = flatten(rt.alloc(), &values).expect(&rt, "made");
+    let heap = ByteBuffer::from_vec(rt.alloc(), heap).expect(&rt, "made");
+    let (buffers, views) = build_views(rt.alloc(), 0, 26, heap, &[13u8, 13, 13, 13]).expect(
+        &rt, "made",
+    );
     assert!(rt; buffers.len() == 2 && views.len() == 4);
     assert!(rt; buffers[0].as_slice() == b"aaaaaaaaaaaaabbbbbbbbbbbbb".as_slice());
     assert!(rt; buffers[1].as_slice() == b"cccccccccccccddddddddddddd".as_slice());
@@ -231,14 +237,12 @@ fn test_to_canonical_large(rt: HostRuntime) -> Result<(), Fail> {
     assert!(rt; views.value(1) == BinaryView::make_view(values[1], 0, 13));
     assert!(rt; views.value(2) == BinaryView::make_view(values[2], 1, 0));
     assert!(rt; views.value(3) == BinaryView::make_view(values[3], 1, 13));
-    Ok(())
 }
 
 // Upstream panics past 2147483647; here the greatest limit is 4294967295.
 #[test]
-fn test_max_buffer_len_too_large_panics(rt: HostRuntime) -> Result<(), Fail> {
-    let heap = ByteBuffer::copy_from(rt.alloc(), b"abc")?;
+fn test_max_buffer_len_too_large_panics(rt: HostRuntime) {
+    let heap = ByteBuffer::copy_from(rt.alloc(), b"abc").expect(&rt, "made");
     let made = build_views(rt.alloc(), 0, MAX_BUFFER_LEN + 1, heap, &[3u32]);
     assert!(rt; matches!(made, Err(VortexError::LimitTooLarge)));
-    Ok(())
 }

@@ -37,32 +37,30 @@ fn has_indices(alloc: Global, mask: &Mask, wanted: &[usize]) -> Result<bool, Vor
 }
 
 #[test]
-fn nullable_codes_validity(rt: HostRuntime) -> Result<(), Fail> {
-    let codes = valid_where(rt.alloc(), &[true, false, true, false, true])?;
-    assert!(rt; are_valid(rt.alloc(), codes, Validity::AllValid, &[0, 2, 4])?);
-    Ok(())
+fn nullable_codes_validity(rt: HostRuntime) {
+    let codes = valid_where(rt.alloc(), &[true, false, true, false, true]).expect(&rt, "made");
+    assert!(rt; are_valid(rt.alloc(), codes, Validity::AllValid, &[0, 2, 4]).expect(&rt, "made"));
 }
 
 #[test]
-fn nullable_values_validity(rt: HostRuntime) -> Result<(), Fail> {
-    let values = valid_where(rt.alloc(), &[true, false, false])?;
-    assert!(rt; are_valid(rt.alloc(), Validity::NonNullable, values, &[0])?);
-    Ok(())
+fn nullable_values_validity(rt: HostRuntime) {
+    let values = valid_where(rt.alloc(), &[true, false, false]).expect(&rt, "made");
+    assert!(rt; are_valid(rt.alloc(), Validity::NonNullable, values, &[0]).expect(&rt, "made"));
 }
 
 #[test]
-fn nullable_codes_and_values(rt: HostRuntime) -> Result<(), Fail> {
-    let codes = valid_where(rt.alloc(), &[true, false, true, false, true])?;
-    let values = valid_where(rt.alloc(), &[false, true, true])?;
-    assert!(rt; are_valid(rt.alloc(), codes, values, &[2, 4])?);
-    Ok(())
+fn nullable_codes_and_values(rt: HostRuntime) {
+    let codes = valid_where(rt.alloc(), &[true, false, true, false, true]).expect(&rt, "made");
+    let values = valid_where(rt.alloc(), &[false, true, true]).expect(&rt, "made");
+    assert!(rt; are_valid(rt.alloc(), codes, values, &[2, 4]).expect(&rt, "made"));
 }
 
 #[test]
-fn nullable_codes_and_non_null_values(rt: HostRuntime) -> Result<(), Fail> {
-    let codes = valid_where(rt.alloc(), &[true, false, true, false, true])?;
-    assert!(rt; are_valid(rt.alloc(), codes, Validity::NonNullable, &[0, 2, 4])?);
-    Ok(())
+fn nullable_codes_and_non_null_values(rt: HostRuntime) {
+    let codes = valid_where(rt.alloc(), &[true, false, true, false, true]).expect(&rt, "made");
+    assert!(rt;
+        are_valid(rt.alloc(), codes, Validity::NonNullable, &[0, 2, 4]).expect(&rt, "made")
+    );
 }
 
 // Upstream appends the rows to a builder; here they are laid out.
@@ -92,14 +90,13 @@ fn chunk(alloc: Global, codes: &[u64]) -> Result<ArrayRef, VortexError> {
 
 // Upstream appends the chunks to a builder; here they are joined.
 #[test]
-fn test_dict_array_from_primitive_chunks(rt: HostRuntime) -> Result<(), Fail> {
+fn test_dict_array_from_primitive_chunks(rt: HostRuntime) {
     let alloc = rt.alloc();
-    let first = chunk(alloc, &[1, 0])?;
-    let second = chunk(alloc, &[1, 1])?;
-    let joined = ArrayRef::concat(alloc, &[first, second])?;
+    let first = chunk(alloc, &[1, 0]).expect(&rt, "made");
+    let second = chunk(alloc, &[1, 1]).expect(&rt, "made");
+    let joined = ArrayRef::concat(alloc, &[first, second]).expect(&rt, "made");
     let high = 9_223_372_036_854_775_808;
     assert!(rt; has_numbers(&joined, &[high, 7, high, high]));
-    Ok(())
 }
 
 // So many codes that go round those below `range`, each third of them null where some are.
@@ -168,19 +165,17 @@ fn both_mark(
 }
 
 #[test]
-fn referenced_values_mask_matches_reference(rt: HostRuntime) -> Result<(), Fail> {
-    assert!(rt; both_mark(rt.alloc(), 16, 5000, 16, false)?);
-    assert!(rt; both_mark(rt.alloc(), 4096, 60_000, 4096, false)?);
-    assert!(rt; both_mark(rt.alloc(), 4001, 60_000, 4001, false)?);
-    assert!(rt; both_mark(rt.alloc(), 1024, 10_000, 1000, false)?);
-    assert!(rt; both_mark(rt.alloc(), 1024, 1000, 1024, false)?);
-    Ok(())
+fn referenced_values_mask_matches_reference(rt: HostRuntime) {
+    assert!(rt; both_mark(rt.alloc(), 16, 5000, 16, false).expect(&rt, "made"));
+    assert!(rt; both_mark(rt.alloc(), 4096, 60_000, 4096, false).expect(&rt, "made"));
+    assert!(rt; both_mark(rt.alloc(), 4001, 60_000, 4001, false).expect(&rt, "made"));
+    assert!(rt; both_mark(rt.alloc(), 1024, 10_000, 1000, false).expect(&rt, "made"));
+    assert!(rt; both_mark(rt.alloc(), 1024, 1000, 1024, false).expect(&rt, "made"));
 }
 
 #[test]
-fn referenced_values_mask_matches_reference_with_nulls(rt: HostRuntime) -> Result<(), Fail> {
-    assert!(rt; both_mark(rt.alloc(), 1024, 1500, 1024, true)?);
-    assert!(rt; both_mark(rt.alloc(), 64, 10_000, 64, true)?);
-    assert!(rt; both_mark(rt.alloc(), 64, 10_000, 63, true)?);
-    Ok(())
+fn referenced_values_mask_matches_reference_with_nulls(rt: HostRuntime) {
+    assert!(rt; both_mark(rt.alloc(), 1024, 1500, 1024, true).expect(&rt, "made"));
+    assert!(rt; both_mark(rt.alloc(), 64, 10_000, 64, true).expect(&rt, "made"));
+    assert!(rt; both_mark(rt.alloc(), 64, 10_000, 63, true).expect(&rt, "made"));
 }

@@ -2,7 +2,6 @@
 
 use super::numbers;
 use std::alloc::Global;
-use std::test::Fail;
 use vx_base::VortexError;
 use vx_test_help::{ints, valid_where};
 use vx_tree::{ArrayRef, Validity};
@@ -24,62 +23,71 @@ fn patches_to(
 }
 
 #[test]
-fn patch_validity_of_valid_rows(rt: HostRuntime) -> Result<(), Fail> {
+fn patch_validity_of_valid_rows(rt: HostRuntime) {
     let alloc = rt.alloc();
     let valid = Validity::AllValid;
-    assert!(rt; patches_to(alloc, Validity::AllValid, &valid, &valid)?);
-    let wanted = valid_where(alloc, &[true, true, false, true, false])?;
-    assert!(rt; patches_to(alloc, Validity::AllValid, &Validity::AllInvalid, &wanted)?);
-    let patches = valid_where(alloc, &[true, false])?;
-    let wanted = valid_where(alloc, &[true, true, true, true, false])?;
-    assert!(rt; patches_to(alloc, Validity::AllValid, &patches, &wanted)?);
-    Ok(())
+    assert!(rt; patches_to(alloc, Validity::AllValid, &valid, &valid).expect(&rt, "made"));
+    let wanted = valid_where(alloc, &[true, true, false, true, false]).expect(&rt, "made");
+    assert!(rt;
+        patches_to(alloc, Validity::AllValid, &Validity::AllInvalid, &wanted).expect(&rt, "made")
+    );
+    let patches = valid_where(alloc, &[true, false]).expect(&rt, "made");
+    let wanted = valid_where(alloc, &[true, true, true, true, false]).expect(&rt, "made");
+    assert!(rt; patches_to(alloc, Validity::AllValid, &patches, &wanted).expect(&rt, "made"));
 }
 
 #[test]
-fn patch_validity_of_null_rows(rt: HostRuntime) -> Result<(), Fail> {
+fn patch_validity_of_null_rows(rt: HostRuntime) {
     let alloc = rt.alloc();
-    let wanted = valid_where(alloc, &[false, false, true, false, true])?;
-    assert!(rt; patches_to(alloc, Validity::AllInvalid, &Validity::AllValid, &wanted)?);
+    let wanted = valid_where(alloc, &[false, false, true, false, true]).expect(&rt, "made");
+    assert!(rt;
+        patches_to(alloc, Validity::AllInvalid, &Validity::AllValid, &wanted).expect(&rt, "made")
+    );
     let null = Validity::AllInvalid;
-    assert!(rt; patches_to(alloc, Validity::AllInvalid, &null, &null)?);
-    let patches = valid_where(alloc, &[true, false])?;
-    let wanted = valid_where(alloc, &[false, false, true, false, false])?;
-    assert!(rt; patches_to(alloc, Validity::AllInvalid, &patches, &wanted)?);
-    Ok(())
+    assert!(rt; patches_to(alloc, Validity::AllInvalid, &null, &null).expect(&rt, "made"));
+    let patches = valid_where(alloc, &[true, false]).expect(&rt, "made");
+    let wanted = valid_where(alloc, &[false, false, true, false, false]).expect(&rt, "made");
+    assert!(rt; patches_to(alloc, Validity::AllInvalid, &patches, &wanted).expect(&rt, "made"));
 }
 
 #[test]
-fn patch_validity_of_some_rows(rt: HostRuntime) -> Result<(), Fail> {
+fn patch_validity_of_some_rows(rt: HostRuntime) {
     let alloc = rt.alloc();
-    let rows = valid_where(alloc, &[false, true, false, true, false])?;
-    let wanted = valid_where(alloc, &[false, true, true, true, true])?;
-    assert!(rt; patches_to(alloc, rows.try_clone(alloc)?, &Validity::AllValid, &wanted)?);
-    let wanted = valid_where(alloc, &[false, true, false, true, false])?;
+    let rows = valid_where(alloc, &[false, true, false, true, false]).expect(&rt, "made");
+    let wanted = valid_where(alloc, &[false, true, true, true, true]).expect(&rt, "made");
     assert!(rt;
         patches_to(
             alloc,
-            rows.try_clone(alloc)?,
+            rows.try_clone(alloc).expect(&rt, "made"),
+            &Validity::AllValid,
+            &wanted
+        )
+        .expect(&rt, "made")
+    );
+    let wanted = valid_where(alloc, &[false, true, false, true, false]).expect(&rt, "made");
+    assert!(rt;
+        patches_to(
+            alloc,
+            rows.try_clone(alloc).expect(&rt, "made"),
             &Validity::AllInvalid,
             &wanted
-        )?
+        )
+        .expect(&rt, "made")
     );
-    let patches = valid_where(alloc, &[true, false])?;
-    let wanted = valid_where(alloc, &[false, true, true, true, false])?;
-    assert!(rt; patches_to(alloc, rows, &patches, &wanted)?);
-    Ok(())
+    let patches = valid_where(alloc, &[true, false]).expect(&rt, "made");
+    let wanted = valid_where(alloc, &[false, true, true, true, false]).expect(&rt, "made");
+    assert!(rt; patches_to(alloc, rows, &patches, &wanted).expect(&rt, "made"));
 }
 
 #[test]
-fn rejects_invalid_patch(rt: HostRuntime) -> Result<(), Fail> {
+fn rejects_invalid_patch(rt: HostRuntime) {
     let alloc = rt.alloc();
-    let first = ints::<u64>(alloc, &[1])?;
+    let first = ints::<u64>(alloc, &[1]).expect(&rt, "made");
     let refused = Validity::NonNullable.patch(alloc, 2, 0, &first, &Validity::AllInvalid);
     assert!(rt; matches!(refused, Err(VortexError::NullabilityMismatch)));
-    let past = ints::<u64>(alloc, &[4])?;
+    let past = ints::<u64>(alloc, &[4]).expect(&rt, "made");
     let refused = Validity::AllValid.patch(alloc, 2, 0, &past, &Validity::AllInvalid);
     assert!(rt; matches!(refused, Err(VortexError::PatchOutOfRange { row: 0 })));
-    Ok(())
 }
 
 // Whether rows that are taken are nullable and valid as is wanted.
@@ -96,18 +104,22 @@ fn takes_to(
 }
 
 #[test]
-fn validity_take(rt: HostRuntime) -> Result<(), Fail> {
+fn validity_take(rt: HostRuntime) {
     let alloc = rt.alloc();
-    let plain = ints::<i32>(alloc, &[0, 1])?;
-    let some = numbers(alloc, &[0i32, 1], valid_where(alloc, &[true, false])?)?;
-    let none = numbers(alloc, &[0i32, 1], Validity::AllInvalid)?;
-    let first = valid_where(alloc, &[true, false])?;
+    let plain = ints::<i32>(alloc, &[0, 1]).expect(&rt, "made");
+    let some = numbers(
+        alloc,
+        &[0i32, 1],
+        valid_where(alloc, &[true, false]).expect(&rt, "made"),
+    )
+    .expect(&rt, "made");
+    let none = numbers(alloc, &[0i32, 1], Validity::AllInvalid).expect(&rt, "made");
+    let first = valid_where(alloc, &[true, false]).expect(&rt, "made");
     for rows in [Validity::AllValid, Validity::NonNullable] {
-        assert!(rt; takes_to(alloc, &rows, &some, &first)?);
-        assert!(rt; takes_to(alloc, &rows, &plain, &rows)?);
-        assert!(rt; takes_to(alloc, &rows, &none, &Validity::AllInvalid)?);
+        assert!(rt; takes_to(alloc, &rows, &some, &first).expect(&rt, "made"));
+        assert!(rt; takes_to(alloc, &rows, &plain, &rows).expect(&rt, "made"));
+        assert!(rt; takes_to(alloc, &rows, &none, &Validity::AllInvalid).expect(&rt, "made"));
     }
-    Ok(())
 }
 
 // Whether two validities of three rows have equal masks.
@@ -118,18 +130,29 @@ fn are_equal(alloc: Global, one: &Validity, other: &Validity) -> Result<bool, Vo
 }
 
 #[test]
-fn mask_eq_mixed_variants(rt: HostRuntime) -> Result<(), Fail> {
+fn mask_eq_mixed_variants(rt: HostRuntime) {
     let alloc = rt.alloc();
     let plain = Validity::NonNullable;
     let valid = Validity::AllValid;
     let null = Validity::AllInvalid;
-    assert!(rt; are_equal(alloc, &plain, &valid)? && are_equal(alloc, &valid, &plain)?);
-    assert!(rt; !are_equal(alloc, &valid, &null)? && !are_equal(alloc, &plain, &null)?);
-    let set = valid_where(alloc, &[true, true, true])?;
-    assert!(rt; are_equal(alloc, &set, &valid)? && are_equal(alloc, &plain, &set)?);
-    let unset = valid_where(alloc, &[false, false, false])?;
-    assert!(rt; are_equal(alloc, &unset, &null)?);
-    let mixed = valid_where(alloc, &[true, false, true])?;
-    assert!(rt; !are_equal(alloc, &mixed, &valid)? && !are_equal(alloc, &mixed, &null)?);
-    Ok(())
+    assert!(rt;
+        are_equal(alloc, &plain, &valid).expect(&rt, "made")
+            && are_equal(alloc, &valid, &plain).expect(&rt, "made")
+    );
+    assert!(rt;
+        !are_equal(alloc, &valid, &null).expect(&rt, "made")
+            && !are_equal(alloc, &plain, &null).expect(&rt, "made")
+    );
+    let set = valid_where(alloc, &[true, true, true]).expect(&rt, "made");
+    assert!(rt;
+        are_equal(alloc, &set, &valid).expect(&rt, "made")
+            && are_equal(alloc, &plain, &set).expect(&rt, "made")
+    );
+    let unset = valid_where(alloc, &[false, false, false]).expect(&rt, "made");
+    assert!(rt; are_equal(alloc, &unset, &null).expect(&rt, "made"));
+    let mixed = valid_where(alloc, &[true, false, true]).expect(&rt, "made");
+    assert!(rt;
+        !are_equal(alloc, &mixed, &valid).expect(&rt, "made")
+            && !are_equal(alloc, &mixed, &null).expect(&rt, "made")
+    );
 }

@@ -1,7 +1,6 @@
 // Texts of foreign views, accepted and read, or refused.
 
 use std::alloc::Global;
-use std::test::Fail;
 use vx_base::{Buffer, ByteBuffer, VortexError};
 use vx_test_help::bools;
 use vx_tree::Validity;
@@ -24,27 +23,26 @@ fn read(alloc: Global, views: &[BinaryView]) -> Result<Vec<Option<String>>, Vort
 }
 
 #[test]
-fn foreign_views_are_read(rt: HostRuntime) -> Result<(), Fail> {
+fn foreign_views_are_read(rt: HostRuntime) {
     let alloc = rt.alloc();
     let short = BinaryView::new_inlined(b"abc");
     let long = BinaryView::new_ref(13, *b"a lo", 0, 2);
     let anything = BinaryView::new_ref(99, *b"????", 7, 5);
-    let views = Buffer::copy_from(alloc, &[short, long, anything])?;
-    let buffers = [ByteBuffer::copy_from(alloc, b"..a longer text.")?];
-    let validity = Validity::Array(bools(alloc, &[true, true, false])?);
-    let texts = foreign_texts(alloc, &views, &buffers, &validity)?;
+    let views = Buffer::copy_from(alloc, &[short, long, anything]).expect(&rt, "made");
+    let buffers = [ByteBuffer::copy_from(alloc, b"..a longer text.").expect(&rt, "made")];
+    let validity = Validity::Array(bools(alloc, &[true, true, false]).expect(&rt, "made"));
+    let texts = foreign_texts(alloc, &views, &buffers, &validity).expect(&rt, "made");
     assert!(rt; texts.len() == 3 && texts[2].is_none());
     assert!(rt; is_text(&texts[0], "abc") && is_text(&texts[1], "a longer text"));
     assert!(rt; views.value(2) == anything);
     assert!(rt; buffers[0].as_slice() == b"..a longer text.".as_slice());
-    let short_by_one = Validity::Array(bools(alloc, &[true, true])?);
+    let short_by_one = Validity::Array(bools(alloc, &[true, true]).expect(&rt, "made"));
     let refused = foreign_texts(alloc, &views, &buffers, &short_by_one);
     assert!(rt; matches!(refused, Err(VortexError::LengthMismatch { .. })));
-    Ok(())
 }
 
 #[test]
-fn foreign_views_are_refused(rt: HostRuntime) -> Result<(), Fail> {
+fn foreign_views_are_refused(rt: HostRuntime) {
     let alloc = rt.alloc();
     let short = BinaryView::new_inlined(b"abc");
     let refused = read(alloc, &[short, BinaryView::new_ref(13, *b"a lo", 1, 2)]);
@@ -57,5 +55,4 @@ fn foreign_views_are_refused(rt: HostRuntime) -> Result<(), Fail> {
     assert!(rt; matches!(refused, Err(VortexError::BadPrefix { row: 1 })));
     let refused = read(alloc, &[BinaryView::new_inlined(b"\xFF"), short]);
     assert!(rt; matches!(refused, Err(VortexError::NotUtf8 { row: 0 })));
-    Ok(())
 }

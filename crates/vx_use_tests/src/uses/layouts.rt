@@ -1,7 +1,6 @@
 // Columns of lists that are compared, and told by offsets alone.
 
 use std::alloc::Global;
-use std::test::Fail;
 use vx_base::VortexError;
 use vx_lists::{ListViewArray, ListViewRebuildMode};
 use vx_test_help::{bools, has_numbers_or_nulls};
@@ -40,73 +39,90 @@ fn are_same(
 }
 
 #[test]
-fn lists_are_the_same_wherever_they_lie(rt: HostRuntime) -> Result<(), Fail> {
+fn lists_are_the_same_wherever_they_lie(rt: HostRuntime) {
     let alloc = rt.alloc();
-    let scattered = scattered_lists(alloc)?;
-    let elements = column::<i64>(alloc, &[0, 3, 4, 1, 2, 3])?;
-    let offsets = column::<u8>(alloc, &[1, 3, 4])?;
-    let sizes = column::<i64>(alloc, &[2, 1, 2])?;
-    let joined = ListViewArray::try_new(alloc, elements, offsets, sizes, Validity::NonNullable)?;
-    assert!(rt; are_same(alloc, &scattered, &joined)?);
-    Ok(())
+    let scattered = scattered_lists(alloc).expect(&rt, "made");
+    let elements = column::<i64>(alloc, &[0, 3, 4, 1, 2, 3]).expect(&rt, "made");
+    let offsets = column::<u8>(alloc, &[1, 3, 4]).expect(&rt, "made");
+    let sizes = column::<i64>(alloc, &[2, 1, 2]).expect(&rt, "made");
+    let joined = ListViewArray::try_new(
+        alloc,
+        elements,
+        offsets,
+        sizes,
+        Validity::NonNullable,
+    ).expect(&rt, "made");
+    assert!(rt; are_same(alloc, &scattered, &joined).expect(&rt, "made"));
 }
 
 #[test]
-fn other_elements_make_other_lists(rt: HostRuntime) -> Result<(), Fail> {
+fn other_elements_make_other_lists(rt: HostRuntime) {
     let alloc = rt.alloc();
-    let scattered = scattered_lists(alloc)?;
-    let elements = column::<i32>(alloc, &[3, 4, 1, 2, 9])?;
-    let offsets = column::<u32>(alloc, &[0, 2, 3])?;
-    let sizes = column::<u32>(alloc, &[2, 1, 2])?;
-    let other = ListViewArray::try_new(alloc, elements, offsets, sizes, Validity::NonNullable)?;
-    assert!(rt; !are_same(alloc, &scattered, &other)?);
-    Ok(())
+    let scattered = scattered_lists(alloc).expect(&rt, "made");
+    let elements = column::<i32>(alloc, &[3, 4, 1, 2, 9]).expect(&rt, "made");
+    let offsets = column::<u32>(alloc, &[0, 2, 3]).expect(&rt, "made");
+    let sizes = column::<u32>(alloc, &[2, 1, 2]).expect(&rt, "made");
+    let other = ListViewArray::try_new(
+        alloc,
+        elements,
+        offsets,
+        sizes,
+        Validity::NonNullable,
+    ).expect(&rt, "made");
+    assert!(rt; !are_same(alloc, &scattered, &other).expect(&rt, "made"));
 }
 
 #[test]
-fn a_null_list_is_no_empty_one(rt: HostRuntime) -> Result<(), Fail> {
+fn a_null_list_is_no_empty_one(rt: HostRuntime) {
     let alloc = rt.alloc();
-    let empty = two_lists(alloc, &[true, true])?;
-    let null = two_lists(alloc, &[true, false])?;
-    assert!(rt; !are_same(alloc, &empty, &null)?);
-    assert!(rt; are_same(alloc, &null, &null)?);
-    Ok(())
+    let empty = two_lists(alloc, &[true, true]).expect(&rt, "made");
+    let null = two_lists(alloc, &[true, false]).expect(&rt, "made");
+    assert!(rt; !are_same(alloc, &empty, &null).expect(&rt, "made"));
+    assert!(rt; are_same(alloc, &null, &null).expect(&rt, "made"));
 }
 
 #[test]
-fn flagged_lists_keep_their_elements(rt: HostRuntime) -> Result<(), Fail> {
+fn flagged_lists_keep_their_elements(rt: HostRuntime) {
     let alloc = rt.alloc();
-    let rebuilt = scattered_lists(alloc)?.rebuild(alloc, ListViewRebuildMode::MakeExact)?;
-    let last_two = rebuilt.as_array().slice(alloc, 1..3)?;
+    let rebuilt = scattered_lists(alloc)
+        .expect(&rt, "made")
+        .rebuild(alloc, ListViewRebuildMode::MakeExact)
+        .expect(&rt, "made");
+    let last_two = rebuilt.as_array().slice(alloc, 1..3).expect(&rt, "made");
     let Ok(lists) = ListViewArray::try_from_array(last_two) else {
-        return Err(VortexError::MismatchedTypes.into());
+        panic!(rt; "another layout");
     };
-    let stored = lists_by_offsets(alloc, &lists)?;
+    let stored = lists_by_offsets(alloc, &lists).expect(&rt, "made");
     assert!(rt; lists.is_zero_copy_to_list());
     assert!(rt; stored.offsets.as_slice() == [2, 3, 5].as_slice());
     let elements = [Some(3), Some(4), Some(1), Some(2), Some(3)];
     assert!(rt; has_numbers_or_nulls(&stored.elements, &elements));
-    Ok(())
 }
 
 #[test]
-fn other_lists_are_laid_out_first(rt: HostRuntime) -> Result<(), Fail> {
+fn other_lists_are_laid_out_first(rt: HostRuntime) {
     let alloc = rt.alloc();
-    let stored = lists_by_offsets(alloc, &scattered_lists(alloc)?)?;
+    let stored = lists_by_offsets(alloc, &scattered_lists(alloc).expect(&rt, "made")).expect(
+        &rt, "made",
+    );
     assert!(rt; stored.offsets.as_slice() == [0, 2, 3, 5].as_slice());
     let elements = [Some(3), Some(4), Some(1), Some(2), Some(3)];
     assert!(rt; has_numbers_or_nulls(&stored.elements, &elements));
-    Ok(())
 }
 
 #[test]
-fn no_lists_have_one_offset(rt: HostRuntime) -> Result<(), Fail> {
+fn no_lists_have_one_offset(rt: HostRuntime) {
     let alloc = rt.alloc();
-    let elements = column::<i32>(alloc, &[1])?;
-    let offsets = column::<u32>(alloc, &[])?;
-    let sizes = column::<u32>(alloc, &[])?;
-    let none = ListViewArray::try_new(alloc, elements, offsets, sizes, Validity::NonNullable)?;
-    let stored = lists_by_offsets(alloc, &none)?;
+    let elements = column::<i32>(alloc, &[1]).expect(&rt, "made");
+    let offsets = column::<u32>(alloc, &[]).expect(&rt, "made");
+    let sizes = column::<u32>(alloc, &[]).expect(&rt, "made");
+    let none = ListViewArray::try_new(
+        alloc,
+        elements,
+        offsets,
+        sizes,
+        Validity::NonNullable,
+    ).expect(&rt, "made");
+    let stored = lists_by_offsets(alloc, &none).expect(&rt, "made");
     assert!(rt; stored.offsets.as_slice() == [0].as_slice() && stored.elements.len() == 1);
-    Ok(())
 }

@@ -1,6 +1,5 @@
 // The text of each refusal, as a person reads it.
 
-use std::test::Fail;
 use vx_base::VortexError;
 
 // Each refusal with its number, its name and its text.
@@ -146,20 +145,18 @@ fn all_refusals() -> [(VortexError, u8, &'static str, &'static str); 23] {
 }
 
 #[test]
-fn every_refusal_has_its_number_name_and_text(rt: HostRuntime) -> Result<(), Fail> {
+fn every_refusal_has_its_number_name_and_text(rt: HostRuntime) {
     for (refusal, number, name, text) in all_refusals() {
         assert_eq!(rt; refusal.number(), number, "{name}");
         assert_eq!(rt; refusal.name(), name);
-        let shown = format!(in rt.alloc(); "{refusal}")?;
+        let shown = format!(in rt.alloc(); "{refusal}").expect(&rt, "made");
         assert_eq!(rt; shown.as_str(), text);
     }
-    Ok(())
 }
 
 #[test]
-fn refusals_show_their_parts(rt: HostRuntime) -> Result<(), Fail> {
+fn refusals_show_their_parts(rt: HostRuntime) {
     let refusal = VortexError::OutOfBounds { index: 9, len: 4 };
-    let shown = format!(in rt.alloc(); "{refusal:?}")?;
+    let shown = format!(in rt.alloc(); "{refusal:?}").expect(&rt, "made");
     assert_eq!(rt; shown.as_str(), "OutOfBounds { index: 9, len: 4 }");
-    Ok(())
 }

@@ -1,7 +1,6 @@
 // Columns of tables, looked up by their names and joined.
 
 use std::alloc::Global;
-use std::test::Fail;
 use vx_base::{FieldName, VortexError};
 use vx_lists::{StructArray, StructArrayExt};
 use vx_test_help::{bools, has_numbers, ints};
@@ -24,56 +23,66 @@ fn one_row(alloc: Global) -> Result<StructArray, VortexError> {
 }
 
 #[test]
-fn columns_of_a_name_are_joined(rt: HostRuntime) -> Result<(), Fail> {
-    let (first, second) = (two_rows(rt.alloc())?, one_row(rt.alloc())?);
-    let joined = joined_column(rt.alloc(), &first, &second, "a")?;
+fn columns_of_a_name_are_joined(rt: HostRuntime) {
+    let (first, second) = (
+        two_rows(rt.alloc()).expect(&rt, "made"),
+        one_row(rt.alloc()).expect(&rt, "made"),
+    );
+    let joined = joined_column(rt.alloc(), &first, &second, "a").expect(&rt, "made");
     assert!(rt; has_numbers(&joined, &[1, 2, 3]));
-    let joined = joined_column(rt.alloc(), &second, &first, "a")?;
+    let joined = joined_column(rt.alloc(), &second, &first, "a").expect(&rt, "made");
     assert!(rt; has_numbers(&joined, &[3, 1, 2]));
-    Ok(())
 }
 
 #[test]
-fn columns_that_one_table_has_not_are_not_joined(rt: HostRuntime) -> Result<(), Fail> {
-    let (first, second) = (two_rows(rt.alloc())?, one_row(rt.alloc())?);
+fn columns_that_one_table_has_not_are_not_joined(rt: HostRuntime) {
+    let (first, second) = (
+        two_rows(rt.alloc()).expect(&rt, "made"),
+        one_row(rt.alloc()).expect(&rt, "made"),
+    );
     let refused = joined_column(rt.alloc(), &first, &second, "c");
     assert!(rt; matches!(refused, Err(VortexError::UnknownField)));
     let refused = joined_column(rt.alloc(), &second, &first, "c");
     assert!(rt; matches!(refused, Err(VortexError::UnknownField)));
-    Ok(())
 }
 
 #[test]
-fn columns_of_two_data_types_are_not_joined(rt: HostRuntime) -> Result<(), Fail> {
-    let (first, second) = (two_rows(rt.alloc())?, one_row(rt.alloc())?);
+fn columns_of_two_data_types_are_not_joined(rt: HostRuntime) {
+    let (first, second) = (
+        two_rows(rt.alloc()).expect(&rt, "made"),
+        one_row(rt.alloc()).expect(&rt, "made"),
+    );
     let refused = joined_column(rt.alloc(), &first, &second, "b");
     assert!(rt; matches!(refused, Err(VortexError::DifferingDtypes)));
-    Ok(())
 }
 
 #[test]
-fn columns_of_names_are_joined(rt: HostRuntime) -> Result<(), Fail> {
-    let (first, second) = (one_row(rt.alloc())?, one_row(rt.alloc())?);
+fn columns_of_names_are_joined(rt: HostRuntime) {
+    let (first, second) = (
+        one_row(rt.alloc()).expect(&rt, "made"),
+        one_row(rt.alloc()).expect(&rt, "made"),
+    );
     let names = [
-        FieldName::try_new(rt.alloc(), "a")?,
-        FieldName::try_new(rt.alloc(), "c")?,
+        FieldName::try_new(rt.alloc(), "a").expect(&rt, "made"),
+        FieldName::try_new(rt.alloc(), "c").expect(&rt, "made"),
     ];
-    let joined = joined_columns(rt.alloc(), &first, &second, &names)?;
+    let joined = joined_columns(rt.alloc(), &first, &second, &names).expect(&rt, "made");
     assert!(rt; joined.len() == 2 && joined.fields().len() == 2);
     assert!(rt; joined.names().len() == 2 && joined.names().get(1).as_str() == "c");
     assert!(rt; has_numbers(joined.unmasked_field(0), &[3, 3]));
     assert!(rt; has_numbers(joined.unmasked_field(1), &[7, 7]));
-    Ok(())
 }
 
 #[test]
-fn columns_of_other_places_are_joined(rt: HostRuntime) -> Result<(), Fail> {
-    let (first, second) = (two_rows(rt.alloc())?, one_row(rt.alloc())?);
-    let names = [FieldName::try_new(rt.alloc(), "a")?];
-    let joined = joined_columns(rt.alloc(), &first, &second, &names)?;
+fn columns_of_other_places_are_joined(rt: HostRuntime) {
+    let (first, second) = (
+        two_rows(rt.alloc()).expect(&rt, "made"),
+        one_row(rt.alloc()).expect(&rt, "made"),
+    );
+    let names = [FieldName::try_new(rt.alloc(), "a").expect(&rt, "made")];
+    let joined = joined_columns(rt.alloc(), &first, &second, &names).expect(&rt, "made");
     assert!(rt; joined.len() == 3 && joined.fields().len() == 1);
     assert!(rt; has_numbers(joined.unmasked_field(0), &[1, 2, 3]));
-    Ok(())
 }
 
 // How the columns of one name of these two tables are refused.
@@ -86,14 +95,18 @@ fn fault_of(alloc: Global, name: &str) -> Result<Option<VortexError>, VortexErro
 }
 
 #[test]
-fn names_come_before_data_types(rt: HostRuntime) -> Result<(), Fail> {
-    assert!(rt; matches!(fault_of(rt.alloc(), "c")?, Some(VortexError::UnknownField)));
+fn names_come_before_data_types(rt: HostRuntime) {
     assert!(rt;
         matches!(
-            fault_of(rt.alloc(), "b")?,
+            fault_of(rt.alloc(), "c").expect(&rt, "made"),
+            Some(VortexError::UnknownField)
+        )
+    );
+    assert!(rt;
+        matches!(
+            fault_of(rt.alloc(), "b").expect(&rt, "made"),
             Some(VortexError::DifferingDtypes)
         )
     );
-    assert!(rt; fault_of(rt.alloc(), "a")?.is_none());
-    Ok(())
+    assert!(rt; fault_of(rt.alloc(), "a").expect(&rt, "made").is_none());
 }

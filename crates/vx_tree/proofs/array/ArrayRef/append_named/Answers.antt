@@ -32,7 +32,7 @@ append_picked-requires c =
     let w = c.in_ok-values.values in
     let ps = c.in_ok-positions.positions in
     let rows = c.in_ok-values.ensures.ok.same in
-    let are : AreIndices c.args.codes.now (tree_len v) ps = rw c.len-2.ensures at c.in_ok-positions.ensures in
+    let are : AreIndices c.args.codes.now (tree_len v) ps = rw c.len-4.ensures at c.in_ok-positions.ensures in
     let held : AreNumbers c.args.ptype w = numbers_of_kind w c.args.ptype (is_nullable_kind (kind_of v)) c.in_ok-values.ensures.ok.plain c.known.ensures (rows.kind ∙ c.requires.kind) in
     let bytes : c.as_slice.result.now ≡ bytes_in w = c.as_slice.ensures.value ∙ ap bytes_in (sym (ap tree_of c.in-Primitive.is) ∙ c.layout.ensures.parts) in
     rw (c.selection.ensures, named_within c.args.ptype v w c.as_slice.result.now rows held bytes)
@@ -44,7 +44,7 @@ returns c =
     let w = c.in_ok-values.values in
     let ps = c.in_ok-positions.positions in
     let rows = c.in_ok-values.ensures.ok.same in
-    let are : AreIndices c.args.codes.now (tree_len v) ps = rw c.len-2.ensures at c.in_ok-positions.ensures in
+    let are : AreIndices c.args.codes.now (tree_len v) ps = rw c.len-4.ensures at c.in_ok-positions.ensures in
     let held : AreNumbers c.args.ptype w = numbers_of_kind w c.args.ptype (is_nullable_kind (kind_of v)) c.in_ok-values.ensures.ok.plain c.known.ensures (rows.kind ∙ c.requires.kind) in
     let bytes : c.as_slice.result.now ≡ bytes_in w = c.as_slice.ensures.value ∙ ap bytes_in (sym (ap tree_of c.in-Primitive.is) ∙ c.layout.ensures.parts) in
     appended_more _ _
