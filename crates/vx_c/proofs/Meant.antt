@@ -21,16 +21,16 @@ use Rattle.vx_c.proofs.Names.{names-refused, no_bytes}
 -- ---- what is meant
 
 pub means_concat : (c : CodraskStep) (arrays : Vec ℕ) → arrays.items ≡ c.arrays.now → MeansStep (Some Concat) c (step.Concat arrays)
-means_concat c arrays same = (arrays, (same, refl))
+means_concat c arrays same = (arrays, same, refl)
 
 pub means_rebuild : (c : CodraskStep) (mode : ListViewRebuildMode) → mode_numbered c.mode ≡ Some mode → MeansStep (Some Rebuild) c (step.Rebuild c.array mode)
-means_rebuild c mode is = (mode, (is, refl))
+means_rebuild c mode is = (mode, is, refl)
 
 pub means_project : (c : CodraskStep) (names : Vec (List ℕ)) → names.items ≡ names_in c → MeansStep (Some Project) c (step.Project c.array names)
-means_project c names same = (names, (same, refl))
+means_project c names same = (names, same, refl)
 
 pub means_push : (c : CodraskStep) (remove : Bool) → flag_numbered c.mode ≡ Some remove → MeansStep (Some PushValidity) c (step.PushValidity c.array remove)
-means_push c remove is = (remove, (is, refl))
+means_push c remove is = (remove, is, refl)
 
 -- ---- which fault is answered
 
@@ -51,6 +51,6 @@ names-refused_or buffers i e before inside (inr is) = told (refusal_of e) refl
   where
     told : (r : Option Refusal) → refusal_of e ≡ r → IsMemoryOr (names_fault (map (λ (b : CodraskBytes). b.bytes.now) buffers)) e
     told None same = inl (memory_only None e refl (inr (sym same)))
-    told (Some r) same = names-refused buffers i e before inside (subst IsSome (sym same) tt, is)
+    told (Some r) same = names-refused buffers i e before inside (subst IsSome (sym same) refl, is)
 
 pub ruleset meant = (means_concat, means_rebuild, means_project, means_push, form_refused, form_sound, no_mode)

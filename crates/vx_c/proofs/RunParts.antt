@@ -78,7 +78,7 @@ no_step steps i other read e inside before fault =
     inr ((read, before), there (λ c. IsFormFault e (step_form_fault c)) steps i other inside fault)
 
 pub many_steps : (steps : List CodraskStep) → MAX_STEPS < length steps → AreStepsOr steps (error.Form MAX_STEPS TooManySteps)
-many_steps steps many = inl (many, (refl, refl))
+many_steps steps many = inl (many, refl, refl)
 
 -- ---- tables
 
@@ -130,7 +130,7 @@ written_alone c nodes written = let same = ap length written.put in omega (arith
 pub too_long : (results : List Tree) (w : ℕ) (a c : Tree) (nodes : List WrittenNode) → slice_get results w ≡ Some a → IsCanonical a c
     → IsWritten [] (unflagged c ∷ []) nodes → MAX_NODES < length nodes → IsNoTable results w TooManyNodes
 too_long results w a c nodes is canonical written long =
-    inr (refl, (c, (subst (λ x. IsCanonical x c) (sym (array_there results w a is)) canonical, omega (arith, long, written_alone c nodes written))))
+    inr (refl, c, subst (λ x. IsCanonical x c) (sym (array_there results w a is)) canonical, omega (arith, long, written_alone c nodes written))
 
 rows_both : (t r s : Tree) → HasRowsOf t r → HasRowsOf r s → HasRowsOf t s
 rows_both t r s first second = record {
@@ -194,7 +194,7 @@ run_made tables steps wanted columns results taken written made are meant ran re
 
 pub told_run : (tables : List CodraskTable) (steps : List CodraskStep) (wanted : List ℕ) (e : RunError) (fault : CodraskRunFault)
     → IsRunError tables steps wanted e → fault ≡ told_of_run e → IsToldOf tables steps wanted fault
-told_run tables steps wanted e fault is told = (e, (is, told))
+told_run tables steps wanted e fault is told = (e, is, told)
 
 pub ruleset step_parts = (steps_read, no_step, many_steps)
 
