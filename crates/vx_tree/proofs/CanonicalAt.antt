@@ -1,17 +1,15 @@
 -- The rows at positions in plain layout, layout by layout.
-use Rattle.std.proofs.Common.{ℕ, ◌+◌, ◌*◌, ◌<◌, ◌≤◌, ◌≡◌, Bool, true, false, List, [], ◌∷◌, length, take, None, refl, sym, ◌∙◌, ap, subst, arith}
+use Rattle.std.proofs.Common.{ℕ, ◌+◌, ◌*◌, ◌<◌, ◌≤◌, ◌≡◌, Bool, false, List, [], ◌∷◌, length, take, None, refl, sym, ◌∙◌, ap, subst, arith}
 use Rattle.std.specs.Prelude.{slice_index}
 use Rattle.std.specs.List.{AllZip, flat_map}
 use Rattle.vx_base.specs.Kinds.{Kind, lists, fixed_lists, records}
 use Rattle.vx_base.specs.Rows.{Row, items, count_in}
 use Rattle.vx_base.specs.Selections.{list_positions}
 use Rattle.vx_tree.specs.Tree.{Tree, bools, primitive, constant, dictionary, fixed_list, list_view, structure, view_array, Trees, Valid}
-use Rattle.vx_tree.specs.Layouts.{is_bools, is_primitive, is_view_array}
 use Rattle.vx_tree.specs.Meaning.{tree_len, kind_of, row_at, is_valid_at, nullable, trees_from}
-use Rattle.vx_tree.specs.Shapes.{Shape, view_shape, shape_of, selected_shape}
 use Rattle.vx_tree.specs.Flags.{is_flagged, kept_flag}
 use Rattle.vx_tree.specs.Formed.{IsListView}
-use Rattle.vx_tree.specs.Extents.{Extent, extent_of, leaf_extent, view_extent, list_extent, fixed_list_extent, struct_extent}
+use Rattle.vx_tree.specs.Extents.{extent_of, list_extent, fixed_list_extent, struct_extent}
 use Rattle.vx_tree.specs.Operations.{IsSelected, IsValidSelected, AreBelow}
 use Rattle.vx_tree.specs.Canonical.{IsCanonical, IsCanonicalAt, AreCanonicalAt, IsCanonicalValid, plain_overflow}
 use Rattle.vx_base.proofs.SizedLists.{lists_long}
@@ -45,27 +43,6 @@ picked_canonical t s r ps h e x =
       flag = x.flag ∙ unflagged s (flag_of_selected t s ps h);
       rows = λ i l. x.same.rows i (rw h.len l) ∙ h.rows i l;
     }
-
--- what is picked has the layout and the buffers
-pub bools_picked : (t s : Tree) → is_bools t ≡ true → shape_of s ≡ selected_shape (shape_of t) → (is_bools s ≡ true) × (extent_of s ≡ extent_of t)
-bools_picked (bools b v) (bools c w) h e = (refl, refl)
-bools_picked (bools b v) _ h e = absurd (cc)
-bools_picked _ s h e = absurd (cc)
-
-pub numbers_picked : (t s : Tree) → is_primitive t ≡ true → shape_of s ≡ selected_shape (shape_of t) → (is_primitive s ≡ true) × (extent_of s ≡ extent_of t)
-numbers_picked (primitive p b v) (primitive q c w) h e = (refl, refl)
-numbers_picked (primitive p b v) _ h e = absurd (cc)
-numbers_picked _ s h e = absurd (cc)
-
-shape_extent : Shape → Extent
-shape_extent (view_shape bs s) = view_extent (length bs)
-shape_extent _ = leaf_extent
-
-pub views_picked : (t s : Tree) → is_view_array t ≡ true → shape_of s ≡ selected_shape (shape_of t) → (is_view_array s ≡ true) × (extent_of s ≡ extent_of t)
-unfolding shape_extent
-views_picked (view_array vs bs k v) (view_array ws cs l w) h e = (refl, ap shape_extent e)
-views_picked (view_array vs bs k v) _ h e = absurd (cc)
-views_picked _ s h e = absurd (cc)
 
 -- ---- constants and dictionaries
 

@@ -27,6 +27,7 @@ pub mod Blanks
 pub mod PlainValues
 pub mod PlainTexts
 pub mod PlainParts
+pub mod UnderValidity
 pub mod CanonicalDictionaries
 pub mod CanonicalAt
 pub mod CanonicalFaults

@@ -34,6 +34,13 @@ abbrev pub is_struct : Tree → Bool
 is_struct (structure ns ts v n) = true
 is_struct _ = false
 
+-- rows that have no rows in them, each by its own place: booleans, integers, texts and byte lists
+abbrev pub is_leaf : Tree → Bool
+is_leaf (bools bits v) = true
+is_leaf (primitive t bs v) = true
+is_leaf (view_array vs bs k v) = true
+is_leaf _ = false
+
 -- ---- parts
 
 -- the values that the codes of a dictionary name

@@ -28,6 +28,7 @@ mod take_runs;
 mod to_canonical;
 mod typed_array;
 mod validity;
+mod with_validity;
 
 pub use crate::array::{ArrayRef, Layout, Validity};
 pub use crate::collect::collect_items;

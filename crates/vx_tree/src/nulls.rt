@@ -24,14 +24,14 @@ impl ArrayRef {
         ensures one_value { is_constant self.now ≡ true → IfOk result HasOneValue }
     {
         match self.layout() {
-            Layout::Bool { .. } => self.nulled_bools(alloc, nulls),
-            Layout::Primitive { .. } => self.nulled_primitive(alloc, nulls),
             Layout::Constant { .. } => self.nulled_constant(alloc, nulls),
             Layout::Dict { .. } => self.nulled_dictionary(alloc, nulls),
-            Layout::FixedSizeList { .. } => self.nulled_fixed_lists(alloc, nulls),
-            Layout::ListView { .. } => self.nulled_list_view(alloc, nulls),
             Layout::VarBinView { .. } => self.nulled_views(alloc, nulls),
-            Layout::Struct { .. } => self.nulled_struct(alloc, nulls),
+            Layout::Bool { validity, .. }
+            | Layout::Primitive { validity, .. }
+            | Layout::FixedSizeList { validity, .. }
+            | Layout::ListView { validity, .. }
+            | Layout::Struct { validity, .. } => self.nulled_parts(alloc, validity, nulls),
         }
     }
 

@@ -45,13 +45,13 @@ impl ArrayRef {
         ensures refuses { Refuses result (canonical_fault self.now) }
     {
         match self.layout() {
-            Layout::Bool { .. } => Ok(self.canonical_bools(alloc)?),
-            Layout::Primitive { .. } => Ok(self.canonical_primitive(alloc)?),
+            Layout::Bool { .. } | Layout::Primitive { .. } | Layout::VarBinView { .. } => {
+                Ok(self.canonical_leaf(alloc)?)
+            }
             Layout::Constant { .. } => self.canonical_constant(alloc),
             Layout::Dict { .. } => self.canonical_dictionary(alloc),
             Layout::FixedSizeList { .. } => self.canonical_fixed_lists(alloc),
             Layout::ListView { .. } => self.canonical_list_view(alloc),
-            Layout::VarBinView { .. } => Ok(self.canonical_views(alloc)?),
             Layout::Struct { .. } => self.canonical_struct(alloc),
         }
     }
@@ -69,13 +69,13 @@ impl ArrayRef {
         ensures refuses { Refuses result (canonical_fault self.now) }
     {
         match self.layout() {
-            Layout::Bool { .. } => Ok(self.canonical_bools_at(alloc, selection)?),
-            Layout::Primitive { .. } => Ok(self.canonical_primitive_at(alloc, selection)?),
+            Layout::Bool { .. } | Layout::Primitive { .. } | Layout::VarBinView { .. } => {
+                Ok(self.canonical_leaf_at(alloc, selection)?)
+            }
             Layout::Constant { .. } => self.canonical_constant_at(alloc, selection),
             Layout::Dict { .. } => self.canonical_dictionary_at(alloc, selection),
             Layout::FixedSizeList { .. } => self.canonical_fixed_lists_at(alloc, selection),
             Layout::ListView { .. } => self.canonical_list_view_at(alloc, selection),
-            Layout::VarBinView { .. } => Ok(self.canonical_views_at(alloc, selection)?),
             Layout::Struct { .. } => self.canonical_struct_at(alloc, selection),
         }
     }

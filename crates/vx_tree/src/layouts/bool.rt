@@ -11,8 +11,7 @@ ghost use Rattle.vx_tree.specs.Meaning.{tree_len, kind_of, row_at, is_valid_at, 
 ghost use Rattle.vx_tree.specs.Joined.{joined_len, IsJoined, IsValidJoined, bits_in};
 ghost use Rattle.vx_tree.specs.Formed.{ValidFits};
 ghost use Rattle.vx_tree.specs.Parts.{valid_of};
-ghost use Rattle.vx_tree.specs.Canonical.{IsCanonical, IsCanonicalAt};
-ghost use Rattle.vx_tree.specs.Operations.{IsSlice, IsSelected, IsNulled, IsNulls, AreBelow};
+ghost use Rattle.vx_tree.specs.Operations.{IsSlice, IsSelected, IsNulls, AreBelow};
 
 use crate::array::{ArrayRef, Layout, Validity};
 use std::alloc::Global;
@@ -71,22 +70,6 @@ impl ArrayRef {
         self.with_parts(alloc, Layout::Bool { bits, validity })
     }
 
-    pub(crate) fn nulled_bools(
-        &self,
-        alloc: Global,
-        nulls: &Validity,
-    ) -> Result<ArrayRef, VortexError>
-        requires layout { is_bools self.now ≡ true }
-        requires fits { ValidFits (valid_of nulls.now) (tree_len self.now) }
-        ensures { Gives result (IsNulled self.now (valid_of nulls.now)) }
-    {
-        let Layout::Bool { bits, validity } = self.layout() else {
-            unreachable!();
-        };
-        let validity = validity.nulled(alloc, nulls, bits.len())?;
-        ArrayRef::bools(alloc, bits.try_clone(alloc)?, validity)
-    }
-
     pub(crate) fn null_bools(
         &self,
         alloc: Global,
@@ -103,31 +86,6 @@ impl ArrayRef {
         };
         let validity = validity.nulls(alloc, len, nulls)?;
         ArrayRef::bools(alloc, BitBuffer::new_unset(alloc, len)?, validity)
-    }
-
-    pub(crate) fn canonical_bools(&self, alloc: Global) -> Result<ArrayRef, VortexError>
-        requires { is_bools self.now ≡ true }
-        ensures { Gives result (IsCanonical self.now) }
-    {
-        let Layout::Bool { bits, validity } = self.layout() else {
-            unreachable!();
-        };
-        let validity = validity.canonical(alloc, bits.len())?;
-        ArrayRef::bools(alloc, bits.try_clone(alloc)?, validity)
-    }
-
-    // The same of the rows that are picked.
-    pub(crate) fn canonical_bools_at(
-        &self,
-        alloc: Global,
-        selection: &Selection,
-    ) -> Result<ArrayRef, VortexError>
-        requires layout { is_bools self.now ≡ true }
-        requires within { AreBelow (tree_len self.now) selection.now }
-        ensures { Gives result (IsCanonicalAt self.now selection.now) }
-    {
-        let picked = self.select_bools(alloc, selection)?;
-        picked.canonical_bools(alloc)
     }
 
     // The value of row `i`, `None` where it is null.

@@ -13,7 +13,7 @@ ghost use Rattle.vx_tree.specs.Formed.{ValidFits, WellFormed};
 ghost use Rattle.vx_tree.specs.Parts.{valid_of};
 ghost use Rattle.vx_tree.specs.Faults.{take_overflow};
 ghost use Rattle.vx_tree.specs.Canonical.{IsCanonical, IsCanonicalAt, canonical_fault, plain_overflow};
-ghost use Rattle.vx_tree.specs.Operations.{IsSlice, IsSelected, IsNulled, IsNulls, AreBelow};
+ghost use Rattle.vx_tree.specs.Operations.{IsSlice, IsSelected, IsNulls, AreBelow};
 
 use crate::array::{ArrayRef, Layout, Validity};
 use std::alloc::Global;
@@ -113,29 +113,6 @@ impl ArrayRef {
             len,
         };
         self.with_parts(alloc, layout)
-    }
-
-    pub(crate) fn nulled_fixed_lists(
-        &self,
-        alloc: Global,
-        nulls: &Validity,
-    ) -> Result<ArrayRef, VortexError>
-        requires layout { is_fixed_list self.now ≡ true }
-        requires fits { ValidFits (valid_of nulls.now) (tree_len self.now) }
-        ensures { Gives result (IsNulled self.now (valid_of nulls.now)) }
-    {
-        let Layout::FixedSizeList {
-            elements,
-            size,
-            validity,
-            len,
-        } = self.layout()
-        else {
-            unreachable!();
-        };
-        let validity = validity.nulled(alloc, nulls, *len)?;
-        let elements = elements.try_clone(alloc)?;
-        ArrayRef::fixed_size_list(alloc, elements, *size, validity, *len)
     }
 
     // The elements are default rows.

@@ -17,7 +17,7 @@ ghost use Rattle.vx_tree.specs.Meaning.{tree_len, kind_of, row_at, is_valid_at, 
 ghost use Rattle.vx_tree.specs.Formed.{ValidFits, IsCounts, WellFormed};
 ghost use Rattle.vx_tree.specs.Parts.{valid_of};
 ghost use Rattle.vx_tree.specs.Canonical.{IsCanonical, IsCanonicalAt, canonical_fault};
-ghost use Rattle.vx_tree.specs.Operations.{IsSlice, IsSelected, IsNulled, IsNulls, AreBelow};
+ghost use Rattle.vx_tree.specs.Operations.{IsSlice, IsSelected, IsNulls, AreBelow};
 
 use crate::array::{ArrayRef, Layout, Validity};
 use crate::indices::to_position;
@@ -145,32 +145,6 @@ impl ArrayRef {
             flag: false,
         };
         self.with_parts(alloc, layout)
-    }
-
-    pub(crate) fn nulled_list_view(
-        &self,
-        alloc: Global,
-        nulls: &Validity,
-    ) -> Result<ArrayRef, VortexError>
-        requires layout { is_list_view self.now ≡ true }
-        requires fits { ValidFits (valid_of nulls.now) (tree_len self.now) }
-        ensures { Gives result (IsNulled self.now (valid_of nulls.now)) }
-    {
-        let Layout::ListView {
-            elements,
-            offsets,
-            sizes,
-            validity,
-            flag,
-        } = self.layout()
-        else {
-            unreachable!();
-        };
-        let validity = validity.nulled(alloc, nulls, offsets.len())?;
-        let elements = elements.try_clone(alloc)?;
-        let offsets = offsets.try_clone(alloc)?;
-        let sizes = sizes.try_clone(alloc)?;
-        ArrayRef::list_view(alloc, elements, offsets, sizes, validity, *flag)
     }
 
     // Each list is empty; offsets and sizes are constants.

@@ -13,8 +13,7 @@ ghost use Rattle.vx_tree.specs.Meaning.{tree_len, kind_of, row_at, is_valid_at, 
 ghost use Rattle.vx_tree.specs.Joined.{IsJoined, IsValidJoined, AreNumbers, bytes_in};
 ghost use Rattle.vx_tree.specs.Formed.{ValidFits, WellFormed};
 ghost use Rattle.vx_tree.specs.Parts.{valid_of};
-ghost use Rattle.vx_tree.specs.Canonical.{IsCanonical, IsCanonicalAt};
-ghost use Rattle.vx_tree.specs.Operations.{IsSlice, IsSelected, IsNulled, IsNulls, IsZeroes, IsZeroCodes, AreBelow};
+ghost use Rattle.vx_tree.specs.Operations.{IsSlice, IsSelected, IsNulls, IsZeroes, IsZeroCodes, AreBelow};
 
 use crate::array::{ArrayRef, Layout, Validity};
 use crate::validity::constant_truth;
@@ -105,27 +104,6 @@ impl ArrayRef {
         self.with_parts(alloc, layout)
     }
 
-    pub(crate) fn nulled_primitive(
-        &self,
-        alloc: Global,
-        nulls: &Validity,
-    ) -> Result<ArrayRef, VortexError>
-        requires layout { is_primitive self.now ≡ true }
-        requires fits { ValidFits (valid_of nulls.now) (tree_len self.now) }
-        ensures { Gives result (IsNulled self.now (valid_of nulls.now)) }
-    {
-        let Layout::Primitive {
-            ptype,
-            bytes,
-            validity,
-        } = self.layout()
-        else {
-            unreachable!();
-        };
-        let validity = validity.nulled(alloc, nulls, self.len())?;
-        ArrayRef::primitive(alloc, *ptype, bytes.try_clone(alloc)?, validity)
-    }
-
     pub(crate) fn null_numbers(
         &self,
         alloc: Global,
@@ -147,36 +125,6 @@ impl ArrayRef {
         };
         let validity = validity.nulls(alloc, len, nulls)?;
         ArrayRef::primitive(alloc, *ptype, zero_numbers(alloc, *ptype, len)?, validity)
-    }
-
-    pub(crate) fn canonical_primitive(&self, alloc: Global) -> Result<ArrayRef, VortexError>
-        requires { is_primitive self.now ≡ true }
-        ensures { Gives result (IsCanonical self.now) }
-    {
-        let Layout::Primitive {
-            ptype,
-            bytes,
-            validity,
-        } = self.layout()
-        else {
-            unreachable!();
-        };
-        let validity = validity.canonical(alloc, self.len())?;
-        ArrayRef::primitive(alloc, *ptype, bytes.try_clone(alloc)?, validity)
-    }
-
-    // The same of the rows that are picked.
-    pub(crate) fn canonical_primitive_at(
-        &self,
-        alloc: Global,
-        selection: &Selection,
-    ) -> Result<ArrayRef, VortexError>
-        requires layout { is_primitive self.now ≡ true }
-        requires within { AreBelow (tree_len self.now) selection.now }
-        ensures { Gives result (IsCanonicalAt self.now selection.now) }
-    {
-        let picked = self.select_primitive(alloc, selection)?;
-        picked.canonical_primitive(alloc)
     }
 
     // The value of row `i`, `None` where it is null.

@@ -17,7 +17,7 @@ ghost use Rattle.vx_tree.specs.Faults.{take_overflow, columns_overflow};
 ghost use Rattle.vx_tree.specs.Columns.{AllReach, AllHave, AreAlike, AreSlices, AreSelected, AreFields};
 ghost use Rattle.vx_tree.specs.Canonical.{IsCanonical, IsCanonicalAt, AreCanonical, AreCanonicalAt};
 ghost use Rattle.vx_tree.specs.Canonical.{canonical_fault, columns_fault, plain_overflow};
-ghost use Rattle.vx_tree.specs.Operations.{IsSlice, IsSelected, IsNulled, IsNulls, AreBelow};
+ghost use Rattle.vx_tree.specs.Operations.{IsSlice, IsSelected, IsNulls, AreBelow};
 
 use crate::array::{ArrayRef, Layout, Validity};
 use std::alloc::Global;
@@ -186,30 +186,6 @@ impl ArrayRef {
             }
         }
         true
-    }
-
-    pub(crate) fn nulled_struct(
-        &self,
-        alloc: Global,
-        nulls: &Validity,
-    ) -> Result<ArrayRef, VortexError>
-        requires layout { is_struct self.now ≡ true }
-        requires fits { ValidFits (valid_of nulls.now) (tree_len self.now) }
-        ensures { Gives result (IsNulled self.now (valid_of nulls.now)) }
-    {
-        let Layout::Struct {
-            names,
-            columns,
-            validity,
-            len,
-        } = self.layout()
-        else {
-            unreachable!();
-        };
-        let validity = validity.nulled(alloc, nulls, *len)?;
-        let names = names.try_clone(alloc)?;
-        let columns = share_columns(alloc, columns)?;
-        ArrayRef::structure(alloc, names, columns, validity, *len)
     }
 
     // The columns keep their data types.
@@ -411,7 +387,10 @@ fn column_dtypes(alloc: Global, columns: &[ArrayRef]) -> Result<Vec<DType>, Vort
 }
 
 // The same columns, shared.
-fn share_columns(alloc: Global, columns: &[ArrayRef]) -> Result<Vec<ArrayRef>, VortexError>
+pub(crate) fn share_columns(
+    alloc: Global,
+    columns: &[ArrayRef],
+) -> Result<Vec<ArrayRef>, VortexError>
     ensures { Gives result (λ cs. cs.items ≡ columns.now) }
 {
     let mut shared = Vec::with_capacity(alloc, columns.len())?;

@@ -21,7 +21,7 @@ ghost use Rattle.vx_tree.specs.Fitting.{AreViews};
 ghost use Rattle.vx_tree.specs.Parts.{valid_of};
 ghost use Rattle.vx_tree.specs.Plain.{IsPlainValid};
 ghost use Rattle.vx_tree.specs.Extents.{extent_of};
-ghost use Rattle.vx_tree.specs.Canonical.{IsCanonical, IsCanonicalAt, IsBlank};
+ghost use Rattle.vx_tree.specs.Canonical.{IsBlank};
 ghost use Rattle.vx_tree.specs.Operations.{IsSlice, IsSelected, IsNulled, IsNulls, AreBelow, valid_view};
 ghost use Rattle.vx_tree.specs.PlainValues.{buffers_overflow};
 ghost use Rattle.vx_tree.specs.Joined.{IsJoined, IsValidJoined, AreValues, AreResolved, joined_buffers, shifted_view, views_from};
@@ -216,37 +216,6 @@ impl ArrayRef {
         empty_views(alloc, len, buffers, &dtype, validity)
     }
 
-    pub(crate) fn canonical_views(&self, alloc: Global) -> Result<ArrayRef, VortexError>
-        requires { is_view_array self.now ≡ true }
-        ensures { Gives result (IsCanonical self.now) }
-    {
-        let Layout::VarBinView {
-            views,
-            buffers,
-            dtype,
-            validity,
-        } = self.layout()
-        else {
-            unreachable!();
-        };
-        let validity = validity.canonical(alloc, views.len())?;
-        views_over(alloc, views.try_clone(alloc)?, buffers, dtype, validity)
-    }
-
-    // The same of the rows that are picked.
-    pub(crate) fn canonical_views_at(
-        &self,
-        alloc: Global,
-        selection: &Selection,
-    ) -> Result<ArrayRef, VortexError>
-        requires layout { is_view_array self.now ≡ true }
-        requires within { AreBelow (tree_len self.now) selection.now }
-        ensures { Gives result (IsCanonicalAt self.now selection.now) }
-    {
-        let picked = self.select_views(alloc, selection)?;
-        picked.canonical_views(alloc)
-    }
-
     /// The bytes of row `i`, a text or a byte list, `None` where it is null: those in the view or
     /// in the buffer, with no copy. Asks an array of views, and a row below the length.
     #[tactic(auto, using(crate::proofs::ViewArrays::view_reads))]
@@ -304,7 +273,7 @@ fn value_of_kind(dtype: &DType, value: ByteBuffer) -> ScalarValue
 }
 
 // Texts or byte lists of these views, over the buffers, which are shared.
-fn views_over(
+pub(crate) fn views_over(
     alloc: Global,
     views: Buffer<BinaryView>,
     buffers: &[ByteBuffer],

@@ -1,0 +1,121 @@
+// The same parts under another validity.
+
+ghost use Rattle.std.specs.Prelude.{◌≡◌, true};
+ghost use Rattle.vx_base.specs.Refusals.{Gives};
+ghost use Rattle.vx_tree.specs.Layouts.{is_leaf};
+ghost use Rattle.vx_tree.specs.Meaning.{tree_len};
+ghost use Rattle.vx_tree.specs.Formed.{ValidFits, WellFormed};
+ghost use Rattle.vx_tree.specs.Parts.{valid_of};
+ghost use Rattle.vx_tree.specs.Slots.{keeps_parts, under_validity, validity_of};
+ghost use Rattle.vx_tree.specs.Canonical.{IsCanonical, IsCanonicalAt};
+ghost use Rattle.vx_tree.specs.Operations.{AreBelow, IsNulled};
+
+use crate::array::{ArrayRef, Layout, Validity};
+use crate::layouts::structure::share_columns;
+use crate::layouts::var_bin_view::views_over;
+use std::alloc::Global;
+use vx_base::{Selection, VortexError};
+
+impl ArrayRef {
+    // The same parts under another validity; a constant and a dictionary have none and stay as
+    // they are. Asks that the parts are well formed under it.
+    fn with_validity(&self, alloc: Global, validity: Validity) -> Result<ArrayRef, VortexError>
+        requires { WellFormed (under_validity self.now (valid_of validity)) }
+        ensures { Gives result (λ a. a ≡ under_validity self.now (valid_of validity)) }
+    {
+        match self.layout() {
+            Layout::Bool { bits, .. } => ArrayRef::bools(alloc, bits.try_clone(alloc)?, validity),
+            Layout::Primitive { ptype, bytes, .. } => {
+                ArrayRef::primitive(alloc, *ptype, bytes.try_clone(alloc)?, validity)
+            }
+            Layout::FixedSizeList {
+                elements,
+                size,
+                len,
+                ..
+            } => {
+                let elements = elements.try_clone(alloc)?;
+                ArrayRef::fixed_size_list(alloc, elements, *size, validity, *len)
+            }
+            Layout::ListView {
+                elements,
+                offsets,
+                sizes,
+                flag,
+                ..
+            } => {
+                let elements = elements.try_clone(alloc)?;
+                let offsets = offsets.try_clone(alloc)?;
+                let sizes = sizes.try_clone(alloc)?;
+                ArrayRef::list_view(alloc, elements, offsets, sizes, validity, *flag)
+            }
+            Layout::Struct {
+                names,
+                columns,
+                len,
+                ..
+            } => {
+                let names = names.try_clone(alloc)?;
+                let columns = share_columns(alloc, columns)?;
+                ArrayRef::structure(alloc, names, columns, validity, *len)
+            }
+            Layout::VarBinView {
+                views,
+                buffers,
+                dtype,
+                ..
+            } => views_over(alloc, views.try_clone(alloc)?, buffers, dtype, validity),
+            Layout::Constant { .. } | Layout::Dict { .. } => self.try_clone(alloc),
+        }
+    }
+
+    // The same parts, null also where these nulls are. `own` is the validity that they have.
+    #[tactic(auto, using(crate::proofs::UnderValidity::under_nulls))]
+    pub(crate) fn nulled_parts(
+        &self,
+        alloc: Global,
+        own: &Validity,
+        nulls: &Validity,
+    ) -> Result<ArrayRef, VortexError>
+        requires kept { keeps_parts self.now ≡ true }
+        requires own { valid_of own.now ≡ validity_of self.now }
+        requires fits { ValidFits (valid_of nulls.now) (tree_len self.now) }
+        ensures { Gives result (IsNulled self.now (valid_of nulls.now)) }
+    {
+        self.known();
+        let validity = own.nulled(alloc, nulls, self.len())?;
+        self.with_validity(alloc, validity)
+    }
+
+    // Booleans, numbers, texts or byte lists in plain layout: the same parts, under a plain
+    // validity.
+    #[tactic(auto, using(crate::proofs::UnderValidity::leaves))]
+    pub(crate) fn canonical_leaf(&self, alloc: Global) -> Result<ArrayRef, VortexError>
+        requires { is_leaf self.now ≡ true }
+        ensures { Gives result (IsCanonical self.now) }
+    {
+        match self.layout() {
+            Layout::Bool { validity, .. }
+            | Layout::Primitive { validity, .. }
+            | Layout::VarBinView { validity, .. } => {
+                let validity = validity.canonical(alloc, self.len())?;
+                self.with_validity(alloc, validity)
+            }
+            _ => unreachable!(),
+        }
+    }
+
+    // The same of the rows that are picked.
+    pub(crate) fn canonical_leaf_at(
+        &self,
+        alloc: Global,
+        selection: &Selection,
+    ) -> Result<ArrayRef, VortexError>
+        requires leaf { is_leaf self.now ≡ true }
+        requires within { AreBelow (tree_len self.now) selection.now }
+        ensures { Gives result (IsCanonicalAt self.now selection.now) }
+    {
+        let picked = self.select_within(alloc, selection)?;
+        picked.canonical_leaf(alloc)
+    }
+}
