@@ -1,4 +1,4 @@
--- Rows that become null, layout by layout.
+-- Rows that become null: validities, and rows of null.
 use Rattle.std.proofs.Common.{ℕ, zero, suc, ◌<◌, ◌≡◌, Bool, true, false, List, [], ◌∷◌, length, map, replicate, refl, sym, ◌∙◌, ap, zero-add, arith}
 use Rattle.std.specs.List.{range_with_len}
 use Rattle.std.proofs.lemmas.List.{length-map, get_or-map, length-replicate, get_or-replicate}
@@ -9,13 +9,13 @@ use Rattle.vx_base.specs.declared.ptypes.PType.TheVariants.{U8}
 use Rattle.vx_base.specs.Integers.{numbers, number_nth}
 use Rattle.vx_base.specs.Rows.{Row, null, boolean, whole, truth_of}
 use Rattle.vx_base.specs.Bits.{bool_at, both}
-use Rattle.vx_base.specs.Kinds.{booleans, integers, lists}
-use Rattle.vx_tree.specs.Tree.{Tree, bools, primitive, constant, dictionary, list_view, Valid, non_nullable, all_valid, all_invalid, by_array}
+use Rattle.vx_base.specs.Kinds.{booleans, integers}
+use Rattle.vx_tree.specs.Tree.{Tree, bools, primitive, constant, dictionary, Valid, non_nullable, all_valid, all_invalid, by_array}
 use Rattle.vx_tree.specs.Meaning.{row_at, tree_len, kind_of, is_valid_at, nullable}
-use Rattle.vx_tree.specs.Shapes.{State, list_view_shape, never_null, none_null, every_null, told, state_of, is_nullable_state, taken_state, row_state}
+use Rattle.vx_tree.specs.Shapes.{State, never_null, none_null, every_null, told, state_of, is_nullable_state, taken_state, row_state}
 use Rattle.vx_tree.specs.Formed.{ValidFits, IsMask}
 use Rattle.vx_tree.specs.Named.{IsRepeated}
-use Rattle.vx_tree.specs.Operations.{IsNulled, IsValidNulled, IsZeroes, IsZeroCodes}
+use Rattle.vx_tree.specs.Operations.{IsValidNulled, IsZeroes, IsZeroCodes}
 use Rattle.vx_tree.specs.Validities.{IsAndOf}
 use Rattle.vx_tree.proofs.Selected.{nullable-state}
 
@@ -47,19 +47,6 @@ two a true true r e = rw e refl
 two a true false r e = rw e refl
 two a false true r e = rw e refl
 two a false false r e = rw e refl
-
--- ---- layouts
-
-pub lists_nulled : (t r e o s : Tree) (v u w : Valid) (f : Bool) → t ≡ list_view e o s v f → r ≡ list_view e o s w f → IsValidNulled v u (tree_len o) w → IsNulled t u r
-lists_nulled t r e o s v u w f a b h =
-    rw (a, b) (record {
-      len = refl;
-      kind = ap (lists (kind_of e)) (nullable_nulled v u w h.state);
-      shape = ap (λ st. list_view_shape e st f) h.state;
-      plain = λ p q. (p.0, p.1, p.2, h.plain p.3 q);
-      extent = λ p. refl;
-      rows = λ i l. two (is_valid_at w i) (is_valid_at v i) (is_valid_at u i) _ (h.bits i l);
-    })
 
 -- ---- validities
 
