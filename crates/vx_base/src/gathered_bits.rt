@@ -6,8 +6,9 @@ ghost use Rattle.std.specs.List.{All, flat_map};
 ghost use Rattle.vx_base.specs.Bits.{unpacked, bool_at};
 ghost use Rattle.vx_base.specs.Selections.{run_positions, list_positions};
 
-use crate::bit_buffer::{BitBuffer, byte_of};
-use crate::bit_buffer_mut::{BitBufferMut, put_bit};
+use crate::bit_buffer::BitBuffer;
+use crate::bit_buffer_mut::BitBufferMut;
+use crate::bit_bytes::{byte_of, put_bit};
 use crate::byte_buffer::ByteBuffer;
 use crate::errors::VortexError;
 use crate::gather::{Gather, gather_rows};
@@ -93,7 +94,8 @@ impl Gather for Bits<'_> {
     }
 }
 
-// Writes the booleans at these positions, eight to a byte.
+// Writes the booleans at these positions, eight to a byte. Not inlined, so that the loop stands by
+// itself, where what it writes is known to be nothing that it reads.
 #[inline(never)]
 fn put_bits_at<P: Places>(bits: &BitBuffer, places: P, out: &mut [u8])
     requires within { All (λ k. k < length bits.now.bits) (P.positions places) }

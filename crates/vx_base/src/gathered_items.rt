@@ -88,7 +88,8 @@ impl<T: Copy> Gather for Items<'_, T> {
     }
 }
 
-// Writes the items at these positions.
+// Writes the items at these positions. Not inlined, so that the loop stands by itself, where what
+// it writes is known to be nothing that it reads.
 #[inline(never)]
 fn put_items_at<T: Copy, P: Places>(items: &[T], places: P, out: &mut [T])
     requires within { All (λ k. k < length items.now) (P.positions places) }

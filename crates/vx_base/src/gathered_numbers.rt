@@ -154,7 +154,8 @@ fn extend_at<const WIDTH: usize, P: Places>(
     Ok(())
 }
 
-// Reads the numbers at the positions from place `start` on.
+// Reads the numbers at the positions from place `start` on. Not inlined, so that the loop stands by
+// itself, where what it writes is known to be nothing that it reads.
 #[inline(never)]
 fn read_numbers_at<const WIDTH: usize, P: Places>(
     bytes: &[u8],
@@ -216,7 +217,8 @@ fn extend_lists<const WIDTH: usize, P: Places>(
     extend_wide_at::<P>(picked, bytes, lists, size * WIDTH)
 }
 
-// One number at a time, where a number takes `width` bytes. Of few bytes it is held whole.
+// One number at a time, where a number takes `width` bytes: by blocks where that is a width of a
+// number, or two or four of the widest.
 fn extend_wide_at<P: Places>(
     picked: &mut Vec<u8>,
     bytes: &[u8],
@@ -238,7 +240,7 @@ fn extend_wide_at<P: Places>(
     }
 }
 
-// The same at any width.
+// One number at a time, where a number takes `width` bytes, each by one copy.
 fn extend_numbers_at<P: Places>(
     picked: &mut Vec<u8>,
     bytes: &[u8],

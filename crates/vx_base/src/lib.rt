@@ -1,9 +1,12 @@
 //! The ground of the arrays: refusals, data types, integer types, buffers, bits and masks.
 #![tactic(auto)]
 
+mod bit_ands;
 mod bit_buffer;
 mod bit_buffer_mut;
 mod bit_buffer_view;
+mod bit_bytes;
+mod bit_copies;
 mod bit_words;
 mod buffer;
 mod buffer_mut;
