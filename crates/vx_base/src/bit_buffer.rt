@@ -1,16 +1,15 @@
 // A shared run of booleans, packed eight to a byte.
 #![tactic(auto, using(crate::proofs::PackedBits::unpacked_bits))]
 
-ghost use Rattle.std.specs.Prelude.{ℕ, ◌&&◌, ◌≡◌, ◌≤◌, ◌<◌, ◌+◌, ◌*◌, ◌/◌, ◌^◌, ◌↔◌, Bool, [], length, take, slice_range, count_by};
-ghost use Rattle.std.specs.Prelude.{slice_index, IsTrue, ◌%◌, true, false, replicate, ◌-◌, ◌==◌, IfOk, ◌++◌, map, bit_and};
+ghost use Rattle.std.specs.Prelude.{ℕ, ◌&&◌, ◌≡◌, ◌≤◌, ◌<◌, ◌+◌, ◌*◌, ◌/◌, ◌^◌, ◌↔◌, [], length, take, slice_range, count_by};
+ghost use Rattle.std.specs.Prelude.{IsTrue, ◌%◌, true, false, replicate, ◌-◌, ◌==◌, IfOk};
 ghost use Rattle.std.specs.Int.{bit_at};
 ghost use Rattle.vx_base.specs.Refusals.{Gives};
 ghost use Rattle.std.specs.Bool.{beq};
-ghost use Rattle.std.specs.List.{zip};
 ghost use Rattle.std.specs.Cmp.{bool_eq_equiv, on_equiv, partial_equiv_from_equiv};
 ghost use Rattle.std.specs.Cmp.Lexicographic.{pointwise, lists_equiv};
 ghost use Rattle.std.specs.Ordering.{on};
-ghost use Rattle.vx_base.specs.Bits.{packed, bits_of, bit_of, unpacked, bool_at, both, byte_from, byte_of, byte_like, Written};
+ghost use Rattle.vx_base.specs.Bits.{packed, bits_of, unpacked, bool_at, both, byte_from, Written};
 
 use crate::bit_ands::and_bytes;
 use crate::bit_buffer_mut::BitBufferMut;

@@ -1,6 +1,6 @@
 // Bits that are read a word of 64 at a time.
 
-ghost use Rattle.std.specs.Prelude.{ℕ, ◌≡◌, ◌≢◌, ◌≤◌, ◌<◌, ◌+◌, ◌-◌, ◌*◌, ◌/◌, ◌%◌, ◌^◌, ◌==◌, ◌↔◌, length, count_by};
+ghost use Rattle.std.specs.Prelude.{ℕ, ◌≡◌, ◌≤◌, ◌<◌, ◌+◌, ◌-◌, ◌*◌, ◌/◌, ◌%◌, ◌^◌, ◌==◌, ◌↔◌, length, count_by};
 ghost use Rattle.std.specs.Int.{bit_at};
 ghost use Rattle.vx_base.specs.Bits.{bit_of, bit_before, unpacked, Written};
 

@@ -1,10 +1,10 @@
 // Booleans that are gathered.
 
-ghost use Rattle.std.specs.Prelude.{◌≡◌, ◌<◌, ◌≤◌, ◌*◌, ◌+◌, ◌^◌, ◌++◌, IfOk, length, map, replicate, slice_index_or};
+ghost use Rattle.std.specs.Prelude.{◌≡◌, ◌<◌, ◌≤◌, ◌*◌, ◌+◌, ◌^◌, ◌++◌, IfOk, length, map, slice_index_or};
 ghost use Rattle.vx_base.specs.Refusals.{Gives};
-ghost use Rattle.std.specs.List.{All, flat_map};
+ghost use Rattle.std.specs.List.{All};
 ghost use Rattle.vx_base.specs.Bits.{unpacked, bool_at};
-ghost use Rattle.vx_base.specs.Selections.{run_positions, list_positions};
+ghost use Rattle.vx_base.specs.Selections.{run_positions};
 
 use crate::bit_buffer::BitBuffer;
 use crate::bit_buffer_mut::BitBufferMut;

@@ -1,9 +1,9 @@
 // Items of any type that are gathered.
 
-ghost use Rattle.std.specs.Prelude.{◌≡◌, ◌<◌, ◌++◌, length, map, replicate};
+ghost use Rattle.std.specs.Prelude.{◌≡◌, ◌<◌, ◌++◌, length, map};
 ghost use Rattle.vx_base.specs.Refusals.{Gives};
-ghost use Rattle.std.specs.List.{All, flat_map};
-ghost use Rattle.vx_base.specs.Selections.{run_positions, list_positions, item_of_position};
+ghost use Rattle.std.specs.List.{All};
+ghost use Rattle.vx_base.specs.Selections.{run_positions, item_of_position};
 
 use crate::buffer::Buffer;
 use crate::errors::VortexError;

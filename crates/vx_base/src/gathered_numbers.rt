@@ -5,7 +5,7 @@ ghost use Rattle.std.specs.Prelude.{length, map, replicate, slice_range};
 ghost use Rattle.vx_base.specs.Refusals.{Gives};
 ghost use Rattle.std.specs.List.{All, flat_map};
 ghost use Rattle.vx_base.specs.Integers.{byte_width, numbers, number_nth};
-ghost use Rattle.vx_base.specs.Selections.{run_positions, list_positions, bytes_of_position};
+ghost use Rattle.vx_base.specs.Selections.{list_positions, bytes_of_position};
 
 use crate::byte_buffer::{ByteBuffer, zero_numbers};
 use crate::errors::VortexError;
