@@ -1,20 +1,22 @@
 // A shared run of booleans, packed eight to a byte.
 #![tactic(auto, using(crate::proofs::PackedBits::unpacked_bits))]
 
-ghost use Rattle.std.specs.Prelude.{ℕ, ◌&&◌, ◌≡◌, ◌≤◌, ◌<◌, ◌+◌, ◌*◌, ◌/◌, ◌^◌, ◌↔◌, Bool, [], length, take, slice_range, count_by};
-ghost use Rattle.std.specs.Prelude.{slice_index, IsTrue, ◌%◌, true, false, replicate, ◌-◌, ◌==◌, IfOk, ◌++◌, map, bit_and};
+ghost use Rattle.std.specs.Prelude.{ℕ, ◌&&◌, ◌≡◌, ◌≤◌, ◌<◌, ◌+◌, ◌*◌, ◌/◌, ◌^◌, ◌↔◌, [], length, take, slice_range, count_by};
+ghost use Rattle.std.specs.Prelude.{IsTrue, ◌%◌, true, false, replicate, ◌-◌, ◌==◌, IfOk};
 ghost use Rattle.std.specs.Int.{bit_at};
 ghost use Rattle.vx_base.specs.Refusals.{Gives};
 ghost use Rattle.std.specs.Bool.{beq};
-ghost use Rattle.std.specs.List.{zip};
 ghost use Rattle.std.specs.Cmp.{bool_eq_equiv, on_equiv, partial_equiv_from_equiv};
 ghost use Rattle.std.specs.Cmp.Lexicographic.{pointwise, lists_equiv};
 ghost use Rattle.std.specs.Ordering.{on};
-ghost use Rattle.vx_base.specs.Bits.{packed, bits_of, bit_of, unpacked, bool_at, both, byte_from, byte_of, byte_like, Written};
+ghost use Rattle.vx_base.specs.Bits.{packed, bits_of, unpacked, bool_at, both, byte_from, Written};
 
-use crate::bit_buffer_mut::{fill_bits, put_bit};
+use crate::bit_ands::and_bytes;
+use crate::bit_buffer_mut::BitBufferMut;
 use crate::bit_buffer_view::{BitBufferMeta, BitBufferView};
-use crate::bit_words::bits_from;
+use crate::bit_bytes::{byte_from, fill_bits, pack, read_bit, same_whole};
+use crate::bit_copies::copy_bits;
+use crate::bit_words::{bits_from, count_words};
 use crate::byte_buffer::ByteBuffer;
 use crate::errors::VortexError;
 use std::alloc::Global;
@@ -39,236 +41,6 @@ impl Model for BitBuffer {
     ghost view = { λ b. packed (unpacked b.bytes b.offset b.len) b.offset };
 
     ghost invariant = { λ b. (b.offset < 8) × (b.offset + b.len ≤ 8 * length b.bytes) × (b.offset + b.len < 2 ^ 64) };
-}
-
-// The byte at place `i`, or 0 past the end.
-pub(crate) fn byte_or_zero(bytes: &[u8], i: usize) -> u8
-    ensures { result ≡ slice_index bytes.now i }
-{
-    if i < bytes.len() { bytes[i] } else { 0 }
-}
-
-// The eight bits from bit `place` on, with zeroes past the end.
-#[inline]
-fn byte_from(bytes: &[u8], place: usize) -> u8
-    ensures { result ≡ byte_from bytes.now place }
-{
-    let low = byte_or_zero(bytes, place / 8);
-    let shift = place % 8;
-    if shift == 0 {
-        return low;
-    }
-    low >> shift | byte_or_zero(bytes, place / 8 + 1) << (8 - shift)
-}
-
-// The byte that these booleans make, the first of them its least significant bit.
-#[inline]
-pub(crate) fn byte_of(bits: [bool; 8]) -> u8
-    ensures { result ≡ byte_of bits }
-{
-    bits[0] as u8
-        + 2 * bits[1] as u8
-        + 4 * bits[2] as u8
-        + 8 * bits[3] as u8
-        + 16 * bits[4] as u8
-        + 32 * bits[5] as u8
-        + 64 * bits[6] as u8
-        + 128 * bits[7] as u8
-}
-
-// The byte of eight bits that are all `value`.
-#[inline]
-pub(crate) fn byte_like(value: bool) -> u8
-    ensures { result ≡ byte_like value }
-{
-    if value { 255 } else { 0 }
-}
-
-// Bit `place` of the bytes.
-#[inline]
-pub(crate) fn read_bit(bytes: &[u8], place: usize) -> bool
-    requires { place / 8 < length bytes.now }
-    ensures { result ≡ bit_of bytes.now place }
-{
-    (bytes[place / 8] >> (place % 8)) & 1 == 1
-}
-
-// Copies the bits of the source from place `from` on to the places from `at` on: those of the
-// places from `start` up to, but not at, `end`, one by one.
-fn copy_each(source: &[u8], from: usize, out: &mut [u8], at: usize, start: usize, end: usize)
-    requires ordered { (at ≤ start) × (start ≤ end) }
-    requires source { from + (end - at) ≤ 8 * length source.now }
-    requires room { end ≤ 8 * length out.old }
-    requires fits { from + (end - at) < 2 ^ 64 }
-    ensures len { length out.new ≡ length out.old }
-    ensures written { Written out.old out.new start end (λ k. bit_of source.now (from + (k - at))) }
-{
-    for k in start..end {
-        put_bit(out, k, read_bit(source, from + (k - at)));
-    }
-}
-
-// Writes bytes that are each joined from two: the bits of the source from bit `shift` on.
-fn join_bytes(source: &[u8], shift: usize, out: &mut [u8])
-    requires shift { (0 < shift) × (shift < 8) }
-    requires source { length out.old < length source.now }
-    ensures len { length out.new ≡ length out.old }
-    ensures bits { (k : ℕ) → k < 8 * length out.old → bit_of out.new k ≡ bit_of source.now (shift + k) }
-{
-    for (j, byte) in out.iter_mut().enumerate() {
-        *byte = source[j] >> shift | source[j + 1] << (8 - shift);
-    }
-}
-
-// The same as `copy_each` of the bytes from `first` up to, but not at, `last`, many at a time.
-fn copy_bytes(source: &[u8], from: usize, out: &mut [u8], at: usize, first: usize, last: usize)
-    requires ordered { (at ≤ 8 * first) × (first ≤ last) }
-    requires source { from + (8 * last - at) ≤ 8 * length source.now }
-    requires room { last ≤ length out.old }
-    requires counted { 8 * last < 2 ^ 64 }
-    requires fits { from + (8 * last - at) < 2 ^ 64 }
-    ensures len { length out.new ≡ length out.old }
-    ensures written { Written out.old out.new (8 * first) (8 * last) (λ k. bit_of source.now (from + (k - at))) }
-{
-    let start = from + (8 * first - at);
-    let skip = start / 8;
-    let shift = start % 8;
-    if shift == 0 {
-        out[first..last].copy_from_slice(&source[skip..skip + (last - first)]);
-    } else {
-        join_bytes(&source[skip..], shift, &mut out[first..last]);
-    }
-}
-
-// The same of the places from `at` up to, but not at, `end`, the whole bytes between at once.
-fn copy_bits(source: &[u8], from: usize, out: &mut [u8], at: usize, end: usize)
-    requires ordered { at ≤ end }
-    requires source { from + (end - at) ≤ 8 * length source.now }
-    requires room { end ≤ 8 * length out.old }
-    requires fits { from + (end - at) < 2 ^ 64 }
-    ensures len { length out.new ≡ length out.old }
-    ensures written { Written out.old out.new at end (λ k. bit_of source.now (from + (k - at))) }
-{
-    let first = at.div_ceil(8);
-    let last = end / 8;
-    if last <= first {
-        copy_each(source, from, out, at, at, end);
-        return;
-    }
-    copy_each(source, from, out, at, at, 8 * first);
-    copy_bytes(source, from, out, at, first, last);
-    copy_each(source, from, out, at, 8 * last, end);
-}
-
-// Writes these booleans, eight to a byte.
-fn pack(bools: &[bool], out: &mut [u8])
-    requires { length bools.now ≤ 8 * length out.old }
-    ensures len { length out.new ≡ length out.old }
-    ensures bits { unpacked out.new 0 (length bools.now) ≡ bools.now }
-{
-    let whole = bools.len() / 8;
-    for j in 0..whole {
-        let at = 8 * j;
-        out[j] = byte_of([
-            bools[at],
-            bools[at + 1],
-            bools[at + 2],
-            bools[at + 3],
-            bools[at + 4],
-            bools[at + 5],
-            bools[at + 6],
-            bools[at + 7],
-        ]);
-    }
-    for i in 8 * whole..bools.len() {
-        put_bit(out, i, bools[i]);
-    }
-}
-
-// How many of the bits of the first `words` words of 64 bits are set.
-fn count_words(bytes: &[u8], words: usize) -> usize
-    requires within { 8 * words ≤ length bytes.now }
-    requires fits { 64 * words < 2 ^ 64 }
-    ensures value { result ≡ count_by (λ b. b) (unpacked bytes.now 0 (64 * words)) }
-    ensures bound { result ≤ 64 * words }
-{
-    let (chunks, _) = bytes.as_chunks::<8>();
-    let mut count = 0;
-    for j in 0..words {
-        count += u64::from_le_bytes(chunks[j]).count_ones() as usize;
-    }
-    count
-}
-
-// Whether the first `count` bytes of two are the same.
-fn same_whole(left: &[u8], right: &[u8], count: usize) -> bool
-    requires left { count ≤ length left.now }
-    requires right { count ≤ length right.now }
-    ensures { IsTrue result ↔ (unpacked left.now 0 (8 * count) ≡ unpacked right.now 0 (8 * count)) }
-{
-    left[..count] == right[..count]
-}
-
-// Adds the bytes of the bits that are set in both, of two runs that begin a byte.
-fn extend_both(bytes: &mut Vec<u8>, left: &[u8], right: &[u8]) -> Result<(), VortexError>
-    ensures { Gives result (λ u. bytes.new.items
-        ≡ bytes.old.items ++ map (λ p. bit_and p.0 p.1) (zip left.now right.now)) }
-{
-    let pairs = left.iter().zip(right.iter());
-    Ok(bytes.extend(pairs.map(|(l, r)| *l & *r))?)
-}
-
-// The bits that are set in both, of two runs that begin a byte. Each byte is written once, and the
-// first few by themselves, so that those that are written many at a time lie where that is fast.
-fn and_whole(alloc: Global, left: &[u8], right: &[u8], count: usize) -> Result<Vec<u8>, VortexError>
-    requires left { count ≤ length left.now }
-    requires right { count ≤ length right.now }
-    ensures len { IfOk result (λ v. length v.items ≡ count) }
-    ensures bits { Gives result (λ v. (k : ℕ) → k < 8 * count
-        → bit_of v.items k ≡ (bit_of left.now (0 + k) && bit_of right.now (0 + k))) }
-{
-    let first = count.min(16);
-    let mut bytes = Vec::with_capacity(alloc, count)?;
-    extend_both(&mut bytes, &left[..first], &right[..first])?;
-    extend_both(&mut bytes, &left[first..count], &right[first..count])?;
-    Ok(bytes)
-}
-
-// The bits that are set in both, of the runs from these places on, in `count` bytes.
-fn and_bytes(
-    alloc: Global,
-    left: &[u8],
-    from: usize,
-    right: &[u8],
-    at: usize,
-    count: usize,
-) -> Result<Vec<u8>, VortexError>
-    requires left { from ≡ 0 → count ≤ length left.now }
-    requires right { at ≡ 0 → count ≤ length right.now }
-    requires from { from + 8 * count < 2 ^ 64 + 8 }
-    requires at { at + 8 * count < 2 ^ 64 + 8 }
-    ensures len { IfOk result (λ v. length v.items ≡ count) }
-    ensures bits { Gives result (λ v. (k : ℕ) → k < 8 * count
-        → bit_of v.items k ≡ (bit_of left.now (from + k) && bit_of right.now (at + k))) }
-{
-    if from == 0 && at == 0 {
-        return and_whole(alloc, left, right, count);
-    }
-    let mut bytes = vec![in alloc; 0u8; count]?;
-    and_joined(left, from, right, at, &mut bytes);
-    Ok(bytes)
-}
-
-// Writes them a byte at a time, each joined from two.
-fn and_joined(left: &[u8], from: usize, right: &[u8], at: usize, out: &mut [u8])
-    requires from { from + 8 * length out.old < 2 ^ 64 + 8 }
-    requires at { at + 8 * length out.old < 2 ^ 64 + 8 }
-    ensures len { length out.new ≡ length out.old }
-    ensures bits { (k : ℕ) → k < 8 * length out.old → bit_of out.new k ≡ (bit_of left.now (from + k) && bit_of right.now (at + k)) }
-{
-    for (j, byte) in out.iter_mut().enumerate() {
-        *byte = byte_from(left, from + 8 * j) & byte_from(right, at + 8 * j);
-    }
 }
 
 impl BitBuffer {
@@ -333,7 +105,7 @@ impl BitBuffer {
         ensures bits { Gives result (λ b. b.bits ≡ replicate len false) }
         ensures offset { IfOk result (λ b. b.offset ≡ 0) }
     {
-        BitBuffer::full(alloc, false, len)
+        BitBufferMut::new_unset(alloc, len)?.freeze()
     }
 
     /// How many booleans there are.
@@ -364,8 +136,7 @@ impl BitBuffer {
         requires { i < length self.now.bits }
         ensures { result ≡ bool_at self.now.bits i }
     {
-        let place = self.offset + i;
-        (self.bytes.as_slice()[place / 8] >> (place % 8)) & 1 == 1
+        read_bit(self.bytes.as_slice(), self.offset + i)
     }
 
     /// The booleans of `range`, shared. Asks that the range starts at or before its end, and ends

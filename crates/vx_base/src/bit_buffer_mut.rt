@@ -1,14 +1,15 @@
 // A run of booleans that grows.
 #![tactic(auto, using(crate::proofs::PackedBits::unpacked_bits))]
 
-ghost use Rattle.std.specs.Prelude.{◌≡◌, ◌≢◌, ◌≤◌, ◌<◌, ◌+◌, ◌-◌, ◌/◌, ◌*◌, ◌^◌, ℕ, Bool, true, false, [], ◌∷◌, ◌++◌, length, take, drop};
+ghost use Rattle.std.specs.Prelude.{◌≡◌, ◌≤◌, ◌<◌, ◌+◌, ◌-◌, ◌/◌, ◌*◌, ◌^◌, ℕ, Bool, true, false, [], ◌∷◌, ◌++◌, length, take, drop};
 ghost use Rattle.std.specs.Prelude.{replicate, slice_set, slice_range, OnOk, OnErr, IfOk, IsOkUnless};
 ghost use Rattle.vx_base.specs.Refusals.{Gives, Refuses};
-ghost use Rattle.vx_base.specs.Bits.{bit_of, bool_at, Filled};
+ghost use Rattle.vx_base.specs.Bits.{bit_of, bool_at};
 ghost use Rattle.vx_base.specs.Booleans.{count_fault};
 ghost use Rattle.vx_base.specs.declared.errors.VortexError.TheVariants.{Memory};
 
-use crate::bit_buffer::{BitBuffer, byte_like};
+use crate::bit_buffer::BitBuffer;
+use crate::bit_bytes::{fill_bits, put_bit};
 use crate::bit_words::put_word;
 use crate::byte_buffer::ByteBuffer;
 use crate::errors::VortexError;
@@ -31,72 +32,6 @@ impl Model for BitBufferMut {
     ghost view = { λ b. unpacked b.bytes.items 0 b.len };
 
     ghost invariant = { λ b. (b.len ≤ 8 * length b.bytes.items) × (b.len < 2 ^ 64) };
-}
-
-// Writes bit `k` of the bytes.
-#[inline]
-pub(crate) fn put_bit(bytes: &mut [u8], k: usize, value: bool)
-    requires { k / 8 < length bytes.old }
-    ensures written { bit_of bytes.new k ≡ value }
-    ensures others { (j : ℕ) → j ≢ k → bit_of bytes.new j ≡ bit_of bytes.old j }
-{
-    let mask = 1u8 << (k % 8);
-    if value {
-        bytes[k / 8] |= mask;
-    } else {
-        bytes[k / 8] &= !mask;
-    }
-}
-
-// Writes the bits from `start` up to, but not at, `end`, all of them in one byte.
-#[inline]
-fn put_in_byte(bytes: &mut [u8], start: usize, end: usize, value: bool)
-    requires start_le_end { start ≤ end }
-    requires within { end ≤ 8 * length bytes.old }
-    requires one_byte { end ≤ 8 * (start / 8) + 8 }
-    ensures len { length bytes.new ≡ length bytes.old }
-    ensures filled { Filled bytes.old bytes.new start end value }
-{
-    if start == end {
-        return;
-    }
-    let mask = (u8::MAX >> (8 - (end - start))) << (start % 8);
-    if value {
-        bytes[start / 8] |= mask;
-    } else {
-        bytes[start / 8] &= !mask;
-    }
-}
-
-// Writes all bits of the bytes from `first` up to, but not at, `last`.
-fn fill_bytes(bytes: &mut [u8], first: usize, last: usize, value: bool)
-    requires first_le_last { first ≤ last }
-    requires within { last ≤ length bytes.old }
-    ensures len { length bytes.new ≡ length bytes.old }
-    ensures filled { Filled bytes.old bytes.new (8 * first) (8 * last) value }
-{
-    let byte = byte_like(value);
-    for j in first..last {
-        bytes[j] = byte;
-    }
-}
-
-// Writes the bits from `start` up to, but not at, `end`, each byte at once.
-pub(crate) fn fill_bits(bytes: &mut [u8], start: usize, end: usize, value: bool)
-    requires start_le_end { start ≤ end }
-    requires within { end ≤ 8 * length bytes.old }
-    ensures len { length bytes.new ≡ length bytes.old }
-    ensures filled { Filled bytes.old bytes.new start end value }
-{
-    let first = start.div_ceil(8);
-    let last = end / 8;
-    if last < first {
-        put_in_byte(bytes, start, end, value);
-        return;
-    }
-    put_in_byte(bytes, start, 8 * first, value);
-    fill_bytes(bytes, first, last, value);
-    put_in_byte(bytes, 8 * last, end, value);
 }
 
 // Adds a byte if bit `len` has none.
@@ -161,8 +96,7 @@ impl BitBufferMut {
     pub fn new_unset(alloc: Global, len: usize) -> Result<BitBufferMut, VortexError>
         ensures { Gives result (λ b. b ≡ replicate len false) }
     {
-        let mut bytes = vec![in alloc; 0u8; len.div_ceil(8)]?;
-        fill_bits(&mut bytes, 0, len, false);
+        let bytes = vec![in alloc; 0u8; len.div_ceil(8)]?;
         Ok(BitBufferMut { bytes, len })
     }
 

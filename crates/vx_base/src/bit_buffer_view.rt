@@ -3,7 +3,7 @@
 ghost use Rattle.std.specs.Prelude.{◌≡◌, ◌<◌, ◌≤◌, ◌+◌, ◌*◌, ◌^◌, ◌%◌, length};
 ghost use Rattle.vx_base.specs.Bits.{unpacked, bool_at};
 
-use crate::bit_buffer::read_bit;
+use crate::bit_bytes::read_bit;
 use std::marker::Model;
 
 /// Where booleans stand in bytes: the bit at which they begin, and how many they are.

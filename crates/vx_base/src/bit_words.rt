@@ -1,10 +1,10 @@
 // Bits that are read a word of 64 at a time.
 
-ghost use Rattle.std.specs.Prelude.{ℕ, ◌≡◌, ◌≢◌, ◌≤◌, ◌<◌, ◌+◌, ◌-◌, ◌*◌, ◌/◌, ◌%◌, ◌^◌, ◌==◌, ◌↔◌, length};
+ghost use Rattle.std.specs.Prelude.{ℕ, ◌≡◌, ◌≤◌, ◌<◌, ◌+◌, ◌-◌, ◌*◌, ◌/◌, ◌%◌, ◌^◌, ◌==◌, ◌↔◌, length, count_by};
 ghost use Rattle.std.specs.Int.{bit_at};
-ghost use Rattle.vx_base.specs.Bits.{bit_of, bit_before, Written};
+ghost use Rattle.vx_base.specs.Bits.{bit_of, bit_before, unpacked, Written};
 
-use crate::bit_buffer::byte_or_zero;
+use crate::bit_bytes::byte_or_zero;
 
 // The 64 bits from byte `at` on, with zeroes past the end.
 #[inline]
@@ -27,7 +27,7 @@ fn word_from(bytes: &[u8], at: usize) -> u64
     ])
 }
 
-// The same where the bytes end within the word.
+// The 64 bits from byte `at` on, of which the bytes hold fewer: past their end there are zeroes.
 fn last_word(bytes: &[u8], at: usize) -> u64
     requires { at + 8 < 2 ^ 64 }
     ensures { (i : ℕ) → i < 64 → (bit_at result i == 1) ≡ bit_of bytes.now (8 * at + i) }
@@ -102,4 +102,19 @@ pub(crate) fn put_word(out: &mut [u8], at: usize, end: usize, word: u64)
     let shift = at % 8;
     let joined = word << shift | low_bits(out[first], shift) as u64;
     put_bytes(out, first, end.div_ceil(8), joined);
+}
+
+// How many of the bits of the first `words` words of 64 bits are set.
+pub(crate) fn count_words(bytes: &[u8], words: usize) -> usize
+    requires within { 8 * words ≤ length bytes.now }
+    requires fits { 64 * words < 2 ^ 64 }
+    ensures value { result ≡ count_by (λ b. b) (unpacked bytes.now 0 (64 * words)) }
+    ensures bound { result ≤ 64 * words }
+{
+    let (chunks, _) = bytes.as_chunks::<8>();
+    let mut count = 0;
+    for j in 0..words {
+        count += u64::from_le_bytes(chunks[j]).count_ones() as usize;
+    }
+    count
 }

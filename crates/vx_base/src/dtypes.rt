@@ -52,7 +52,7 @@ impl DType {
         }
     }
 
-    /// The same as a truth value.
+    /// Whether null may stand among the rows, as a truth value.
     pub fn is_nullable(&self) -> bool
         ensures { result ≡ is_nullable_kind (dtype_meaning self.now) }
     {

@@ -18,16 +18,18 @@ pub enum VortexError {
     /// A data type or a layout that the call does not take.
     #[error("a data type or layout is not one that the call takes")]
     MismatchedTypes,
-    /// Both count rows, or bytes where the bytes of numbers are too few or too many.
+    /// A length that is not the one that was asked for. Both count rows, or bytes where the bytes
+    /// of numbers are too few or too many.
     #[error("a length is {found}, expected {expected}")]
     LengthMismatch { expected: usize, found: usize },
     /// One side can hold nulls and the other cannot.
     #[error("the nullability does not fit")]
     NullabilityMismatch,
-    /// A position, or the end of a range, and the length that it has to stay within.
+    /// A position, or the end of a range, past the length that it has to stay within.
     #[error("position {index} lies past the length {len}")]
     OutOfBounds { index: usize, len: usize },
-    /// The first such row, counted from 0 as all rows here are.
+    /// A number below 0 where a position, an offset or a size is asked for. The first such row is
+    /// told, counted from 0 as all rows here are.
     #[error("row {row} is negative")]
     Negative { row: usize },
     /// A count or a number that its integer type cannot hold.
@@ -48,34 +50,34 @@ pub enum VortexError {
     /// Arrays to be joined that are not of one data type.
     #[error("the data types differ")]
     DifferingDtypes,
-    /// The first such row.
+    /// A text whose bytes are not UTF-8. The first such row is told.
     #[error("row {row} is not UTF-8")]
     NotUtf8 { row: usize },
-    /// The first such row.
+    /// A view that names a buffer which is not there. The first such row is told.
     #[error("the view of row {row} names no buffer")]
     BadBuffer { row: usize },
-    /// The first such row.
+    /// A view that starts past the end of its buffer. The first such row is told.
     #[error("the view of row {row} starts past its buffer")]
     BadStart { row: usize },
-    /// The first such row.
+    /// A view that ends past the end of its buffer. The first such row is told.
     #[error("the view of row {row} ends past its buffer")]
     BadEnd { row: usize },
-    /// The first such row.
+    /// A view whose prefix is not the first four bytes of its value. The first such row is told.
     #[error("the prefix in the view of row {row} is not that of its value")]
     BadPrefix { row: usize },
     /// A limit above the greatest length of a buffer that views refer to.
     #[error("the limit passes the greatest length of a buffer")]
     LimitTooLarge,
-    /// The first such row.
+    /// A value that is longer than the limit of a buffer. The first such row is told.
     #[error("the value of row {row} is longer than the limit")]
     ValueTooLong { row: usize },
     /// Lengths of values that do not sum to the bytes that hold them.
     #[error("the lengths do not sum to the length of the heap")]
     LengthsNotExact,
-    /// The place of the first such offset.
+    /// An offset that is less than the one before it. The place of the first such offset is told.
     #[error("offset {row} is less than the one before it")]
     FallingOffsets { row: usize },
-    /// The first such patch.
+    /// A patch at a position that is no row. The first such patch is told.
     #[error("the position of patch {row} is out of range")]
     PatchOutOfRange { row: usize },
     /// Elements that no list of size 0 can have.

@@ -1,9 +1,12 @@
 //! The ground of the arrays: refusals, data types, integer types, buffers, bits and masks.
 #![tactic(auto)]
 
+mod bit_ands;
 mod bit_buffer;
 mod bit_buffer_mut;
 mod bit_buffer_view;
+mod bit_bytes;
+mod bit_copies;
 mod bit_words;
 mod buffer;
 mod buffer_mut;
@@ -14,6 +17,9 @@ mod dtypes;
 mod errors;
 mod field_names;
 mod gather;
+mod gathered_bits;
+mod gathered_items;
+mod gathered_numbers;
 pub mod laws;
 mod mask;
 mod mask_rows;
@@ -22,6 +28,7 @@ mod mask_values;
 mod named;
 mod native;
 mod nullability;
+mod number_runs;
 mod numbers;
 mod places;
 mod ptypes;
@@ -41,7 +48,9 @@ pub use crate::counts::{read_counts, write_counts};
 pub use crate::dtypes::{DType, equal_where_same_kind};
 pub use crate::errors::VortexError;
 pub use crate::field_names::{FieldName, FieldNames};
-pub use crate::gather::{extend_with_numbers, gather_bits, gather_items, gather_numbers};
+pub use crate::gathered_bits::gather_bits;
+pub use crate::gathered_items::gather_items;
+pub use crate::gathered_numbers::{extend_with_numbers, gather_numbers};
 pub use crate::laws::first_fault_is_least;
 pub use crate::mask::Mask;
 pub use crate::mask_rows::MaskRows;

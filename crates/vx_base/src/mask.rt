@@ -185,7 +185,8 @@ impl Mask {
         Ok(self.runs().to_vec(alloc)?)
     }
 
-    /// The same, lent: none empty, and a row that is false between any two.
+    /// The rows that are true, in order, as runs that are lent: none empty, and a row that is false
+    /// between any two.
     pub fn runs(&self) -> &[(usize, usize)]
         ensures apart { AreRuns (length self.now) result.now }
         ensures trues { flat_map run_positions result.now ≡ trues self.now }

@@ -7,7 +7,7 @@ ghost use Rattle.vx_base.specs.Bits.{bit_of};
 ghost use Rattle.vx_base.specs.MaskRuns.{is_in_run, is_in_runs, AreRuns};
 ghost use Rattle.vx_base.specs.Selections.{run_positions};
 
-use crate::bit_buffer_mut::fill_bits;
+use crate::bit_bytes::fill_bits;
 use crate::errors::VortexError;
 use std::alloc::Global;
 

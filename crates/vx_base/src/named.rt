@@ -57,7 +57,7 @@ impl<T> Named<T> {
 }
 
 impl<T: Drop> Named<T> {
-    // The same, shared.
+    // The same names and items, shared.
     pub(crate) fn try_clone(&self, alloc: Global) -> Result<Named<T>, VortexError>
         ensures { Gives result (λ n. n ≡ self.now) }
     {

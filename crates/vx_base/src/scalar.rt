@@ -61,7 +61,8 @@ impl Scalar {
         }
     }
 
-    /// The same of a value whose row is known to fit, which is not tested again. Asks that it fits.
+    /// The scalar of a value whose row is known to fit, which is not tested again. Asks that it
+    /// fits.
     pub fn new(dtype: DType, value: Option<ScalarValue>) -> Scalar
         requires { Fits (dtype_meaning dtype) (row_under (dtype_meaning dtype) value) }
         ensures { result ≡ typed_row (dtype_meaning dtype) (row_under (dtype_meaning dtype) value) }

@@ -108,7 +108,7 @@ impl ScalarValue {
     }
 }
 
-// The same value, or none, its parts shared.
+// The same value, its parts shared, or none where there is none.
 pub(crate) fn share_value(
     alloc: Global,
     value: &Option<ScalarValue>,
@@ -180,7 +180,7 @@ fn all_fit(dtype: &DType, values: &[Option<ScalarValue>]) -> bool
     true
 }
 
-// The same, and there are so many.
+// Whether each of the rows fits the data type, and there are so many.
 #[cycle(fits)]
 fn all_fit_size(dtype: &DType, size: u32, values: &[Option<ScalarValue>]) -> bool
     ensures { IsTrue result ↔ ((length values.now ≡ size) × ValuesFit (dtype_meaning dtype.now) values.now) }

@@ -44,7 +44,8 @@ impl BitBuffer {
         Ok(runs)
     }
 
-    // The same of the places that lie in these runs. The room for them is had once.
+    // The runs of places that are true and lie in these runs, in order. The room for them is had
+    // once.
     pub(crate) fn true_runs_within(
         &self,
         alloc: Global,

@@ -1,6 +1,0 @@
-use Rattle.std.proofs.Common.{arith}
-use Rattle.vx_base.proofs.Packing.{eight}
-use Rattle.vx_base.proofs.bit_buffer.byte_of.Goals as goal
-
-pub returns : goal.returns
-returns c = eight c.args.bits (omega arith)

@@ -1,6 +1,0 @@
-use Rattle.std.proofs.Common.{ℕ, ◌≡◌, ◌<◌, ◌+◌, ◌*◌}
-use Rattle.vx_base.specs.Bits.{bit_of}
-use Rattle.vx_base.proofs.bit_buffer.join_bytes.Given as goal
-
-abbrev pub invariant-loop-j : goal.invariant-loop-j
-invariant-loop-j l = (k : ℕ) → k < 8 * l.j → bit_of l.out k ≡ bit_of l.source (l.shift + k)

@@ -1,7 +1,0 @@
-use Rattle.std.proofs.Common.{◌≡◌, map, take}
-use Rattle.std.specs.List.{flat_map}
-use Rattle.vx_base.specs.Selections.{list_positions, item_of_position}
-use Rattle.vx_base.proofs.gather.items_of_lists.Given as goal
-
-abbrev pub invariant-loop-i : goal.invariant-loop-i
-invariant-loop-i g l = (d : g.row.T.Denot) → l.picked.items ≡ map (item_of_position d l.items) (flat_map (list_positions l.size) (take l.i (g.P.Places.positions l.lists)))

@@ -1,0 +1,151 @@
+// Booleans that are gathered.
+
+ghost use Rattle.std.specs.Prelude.{◌≡◌, ◌<◌, ◌≤◌, ◌*◌, ◌+◌, ◌^◌, ◌++◌, IfOk, length, map, slice_index_or};
+ghost use Rattle.vx_base.specs.Refusals.{Gives};
+ghost use Rattle.std.specs.List.{All};
+ghost use Rattle.vx_base.specs.Bits.{unpacked, bool_at};
+ghost use Rattle.vx_base.specs.Selections.{run_positions};
+
+use crate::bit_buffer::BitBuffer;
+use crate::bit_buffer_mut::BitBufferMut;
+use crate::bit_bytes::{byte_of, put_bit};
+use crate::byte_buffer::ByteBuffer;
+use crate::errors::VortexError;
+use crate::gather::{Gather, gather_rows};
+use crate::places::Places;
+use crate::selection::Selection;
+use std::alloc::Global;
+
+// Booleans of which some are gathered.
+#[derive(Drop)]
+struct Bits<'a> {
+    bits: &'a BitBuffer,
+}
+
+/// The booleans that are picked, in their order. Asks that each position has a boolean. Fails only
+/// for want of memory.
+pub fn gather_bits(
+    alloc: Global,
+    bits: &BitBuffer,
+    selection: &Selection,
+) -> Result<BitBuffer, VortexError>
+    requires { All (λ k. k < length bits.now.bits) selection.now }
+    ensures bits { Gives result (λ b. b.bits ≡ map (bool_at bits.now.bits) selection.now) }
+    ensures offset { IfOk result (λ b. b.offset ≡ 0) }
+{
+    gather_rows(alloc, Bits { bits }, selection)
+}
+
+impl Gather for Bits<'_> {
+    type Gathered = BitBuffer;
+
+    ghost HasRows = { λ s ks. All (λ k. k < length s.bits.now.bits) ks };
+
+    ghost AreGathered = { λ s ks b. (b.bits ≡ map (bool_at s.bits.now.bits) ks) × (b.offset ≡ 0) };
+
+    fn at<P: Places>(self, alloc: Global, places: P) -> Result<BitBuffer, VortexError> {
+        let len = places.count();
+        let mut bytes = vec![in alloc; 0u8; len.div_ceil(8)]?;
+        put_bits_at::<P>(self.bits, places, &mut bytes);
+        Ok(BitBuffer::from_parts(ByteBuffer::from_vec(alloc, bytes)?, 0, len))
+    }
+
+    #[tactic(auto, using(crate::proofs::Repeated::map_repeated))]
+    fn repeated(
+        self,
+        alloc: Global,
+        position: usize,
+        len: usize,
+    ) -> Result<BitBuffer, VortexError> {
+        if len == 0 {
+            return BitBuffer::new_unset(alloc, 0);
+        }
+        BitBuffer::full(alloc, self.bits.value(position), len)
+    }
+
+    fn of_runs(
+        self,
+        alloc: Global,
+        runs: &[(usize, usize)],
+        len: usize,
+    ) -> Result<BitBuffer, VortexError> {
+        let mut picked = BitBufferMut::with_capacity(alloc, len)?;
+        for run in runs {
+            let (start, end) = *run;
+            append_run(&mut picked, self.bits, start, end)?;
+        }
+        picked.freeze()
+    }
+
+    fn of_lists<P: Places>(
+        self,
+        alloc: Global,
+        lists: P,
+        size: usize,
+        len: usize,
+    ) -> Result<BitBuffer, VortexError> {
+        let _ = self.bits.len();
+        let mut picked = BitBufferMut::with_capacity(alloc, len)?;
+        for i in 0..lists.count() {
+            let start = lists.at(i) * size;
+            append_run(&mut picked, self.bits, start, start + size)?;
+        }
+        picked.freeze()
+    }
+}
+
+// Writes the booleans at these positions, eight to a byte. Not inlined, so that the loop stands by
+// itself, where what it writes is known to be nothing that it reads.
+#[inline(never)]
+fn put_bits_at<P: Places>(bits: &BitBuffer, places: P, out: &mut [u8])
+    requires within { All (λ k. k < length bits.now.bits) (P.positions places) }
+    requires room { length (P.positions places) ≤ 8 * length out.old }
+    ensures len { length out.new ≡ length out.old }
+    ensures bits { unpacked out.new 0 (length (P.positions places)) ≡ map (bool_at bits.now.bits) (P.positions places) }
+{
+    let len = places.count();
+    let whole = len / 8;
+    for j in 0..whole {
+        let at = 8 * j;
+        out[j] = byte_of([
+            bit_at(bits, places, at),
+            bit_at(bits, places, at + 1),
+            bit_at(bits, places, at + 2),
+            bit_at(bits, places, at + 3),
+            bit_at(bits, places, at + 4),
+            bit_at(bits, places, at + 5),
+            bit_at(bits, places, at + 6),
+            bit_at(bits, places, at + 7),
+        ]);
+    }
+    for i in 8 * whole..len {
+        put_bit(out, i, bit_at(bits, places, i));
+    }
+}
+
+// The boolean at the position that stands at a place.
+#[inline]
+fn bit_at<P: Places>(bits: &BitBuffer, places: P, i: usize) -> bool
+    requires within { All (λ k. k < length bits.now.bits) (P.positions places) }
+    requires place { i < length (P.positions places) }
+    ensures { result ≡ bool_at bits.now.bits (slice_index_or (P.positions places) i 0) }
+{
+    bits.value(places.at(i))
+}
+
+// Appends the booleans from `start` up to `end`, none where there is none between.
+fn append_run(
+    picked: &mut BitBufferMut,
+    bits: &BitBuffer,
+    start: usize,
+    end: usize,
+) -> Result<(), VortexError>
+    requires within { All (λ k. k < length bits.now.bits) (run_positions (start, end)) }
+    requires countable { length picked.old + length (run_positions (start, end)) < 2 ^ 64 }
+    ensures { Gives result (λ _. picked.new ≡ picked.old ++ map (bool_at bits.now.bits) (run_positions (start, end))) }
+{
+    if start < end {
+        picked.append_slice(bits, start, end)?;
+    }
+    Ok(())
+}
