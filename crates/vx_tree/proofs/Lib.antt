@@ -35,6 +35,7 @@ pub mod Runs
 pub mod Validities
 pub mod Turned
 pub mod Patched
+pub mod PatchedBits
 pub mod Joins
 pub mod JoinedRows
 pub mod JoinedStates
