@@ -12,6 +12,7 @@ pub mod Dictionaries
 pub mod FixedLists
 pub mod ViewArrays
 pub mod RunViews
+pub mod TakenViews
 pub mod Fitting
 pub mod Counted
 pub mod Values
