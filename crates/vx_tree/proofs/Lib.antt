@@ -12,6 +12,7 @@ pub mod Dictionaries
 pub mod FixedLists
 pub mod ViewArrays
 pub mod RunViews
+pub mod TakenViews
 pub mod Fitting
 pub mod Counted
 pub mod Values
@@ -36,6 +37,7 @@ pub mod Runs
 pub mod Validities
 pub mod Turned
 pub mod Patched
+pub mod PatchedBits
 pub mod Joins
 pub mod JoinedRows
 pub mod JoinedStates

@@ -1,56 +1,86 @@
 -- Booleans that are overwritten at positions.
-use Rattle.std.proofs.Common.{ℕ, zero, suc, ◌+◌, ◌-◌, ◌<◌, ◌≡◌, Bool, false, List, [], ◌∷◌, ◌++◌, length, map, take, drop, replicate, get_or, set, Option, None, refl, sym, ◌∙◌, ap, subst, arith, length-set}
-use Rattle.std.specs.Prelude.{IsSome, slice_index}
-use Rattle.std.specs.List.{All, range_with_len}
-use borrow.Author.Count.{below_more}
-use Rattle.std.proofs.lemmas.List.{append_assoc, get_or-set_same, get_or-set_other, get_or_default, take_more, take_all, length-take-le, take-set, drop-set, take-append-drop}
-use Rattle.std.proofs.lemmas.List.FromFn.{fill_by_all, length-map-range_with_len}
+use Rattle.std.proofs.Common.{ℕ, zero, suc, ◌+◌, ◌-◌, ◌<◌, ◌≤◌, ◌≡◌, Bool, true, false, List, [], ◌∷◌, ◌++◌, length, map, take, replicate, get_or, set, Option, Some, None, refl, sym, ◌∙◌, ap, subst, zero-add, arith, length-set}
+use Rattle.std.specs.Prelude.{IsSome, ℤ, pos, negsuc, ◌≤ℤ◌, nat_lt, unsigned_abs, slice_index, if◌then◌else◌}
+use Rattle.std.specs.List.{range_with_len}
+use Rattle.std.proofs.lemmas.Bool.{ltb-true, ltb-false}
+use Rattle.std.proofs.lemmas.Int.{ints}
+use Rattle.std.proofs.lemmas.List.{take_more, take_all, length-take-le}
+use Rattle.std.proofs.lemmas.List.FromFn.{fill_by_all, length-map-range_with_len, get_or-map-range_with_len}
+use Rattle.vx_base.specs.declared.ptypes.PType.{PType}
 use Rattle.vx_base.specs.Bits.{bool_at}
-use Rattle.vx_base.specs.Refusals.{Refusal, first_fault}
-use Rattle.vx_base.specs.Rows.{boolean, count_in}
+use Rattle.vx_base.specs.Refusals.{Refusal, patch_out_of_range, first_fault}
+use Rattle.vx_base.specs.Rows.{Row, null, boolean, whole, bytes, text, items, record_of, number_in, count_in}
 use Rattle.vx_base.specs.Kinds.{booleans}
 use Rattle.vx_base.proofs.ListParts.{map_range_same}
-use Rattle.vx_base.proofs.FirstFaults.{first_fault-next, first_fault-found, Names-or_else_first, Names-or_else_second, or_else-none}
-use Rattle.vx_tree.specs.Tree.{Tree, bools, constant, Valid, non_nullable, all_valid, all_invalid, by_array}
+use Rattle.vx_base.proofs.FirstFaults.{first_fault-same, first_fault-found, first_fault-none_at, Names-or_else_first, Names-or_else_second, or_else-none}
+use Rattle.vx_tree.specs.Tree.{Tree, primitive, bools, constant, Valid, non_nullable, all_valid, all_invalid, by_array}
 use Rattle.vx_tree.specs.Meaning.{tree_len, row_at, is_valid_at, valid_mask}
 use Rattle.vx_tree.specs.Formed.{ValidFits, IsLenOf}
+use Rattle.vx_tree.specs.Named.{HasNumbers}
 use Rattle.vx_tree.specs.Validities.{array_of}
 use Rattle.vx_tree.proofs.Masks.{mask_of_constant}
 use Rattle.vx_tree.proofs.Positions.{mask_long}
-use Rattle.vx_tree.specs.Patches.{overwritten, patch_positions, patch_row_fault, patch_positions_fault, IsPatched, IsWrittenOver}
+use Rattle.vx_tree.specs.Patches.{overwritten, patch_positions, patch_row_fault, patch_positions_fault, IsPatched}
 
--- ---- positions that are read one after another
+-- ---- rows that name positions
 
-pub record AreFound (t : Tree) (offset len n : ℕ) (ps : List ℕ) : Type 0 where
-  pub long : length ps ≡ tree_len t
-  pub each : (i : ℕ) → i < n → slice_index ps i ≡ count_in (row_at t i) - offset
-  pub below : (i : ℕ) → i < n → slice_index ps i < len
-  pub faultless : first_fault (λ i. patch_row_fault offset len i (row_at t i)) n ≡ None
+named_by_tests : (k offset len i : ℕ) (b c : Bool) → nat_lt k offset ≡ b → nat_lt (k - offset) len ≡ c
+    → (if b then Some (patch_out_of_range i) else (if c then None else Some (patch_out_of_range i))) ≡ None → (offset ≤ k) × (k - offset < len)
+named_by_tests k offset len i true c low high none = absurd (cc)
+named_by_tests k offset len i false true low high none = (ltb-false k offset low, ltb-true (k - offset) len high)
+named_by_tests k offset len i false false low high none = absurd (cc)
 
-pub AreFound-more : (t : Tree) (offset len n k : ℕ) (ps : List ℕ) → n < length ps → AreFound t offset len n ps → k ≡ count_in (row_at t n) - offset → k < len → patch_row_fault offset len n (row_at t n) ≡ None
-    → AreFound t offset len (n + 1) (set ps n k)
-AreFound-more t offset len n k ps inside h told small none =
-    record {
-      long = length-set ps n k ∙ h.long;
-      each = below_more (λ i. slice_index (set ps n k) i ≡ count_in (row_at t i) - offset) n (λ i l. get_or-set_other ps n i k 0 (omega arith) ∙ h.each i l) (get_or-set_same ps n k 0 inside ∙ told);
-      below = below_more (λ i. slice_index (set ps n k) i < len) n (λ i l. rw (get_or-set_other ps n i k 0 (omega arith)) (h.below i l)) (rw (get_or-set_same ps n k 0 inside) small);
-      faultless = first_fault-next (λ i. patch_row_fault offset len i (row_at t i)) n h.faultless none;
-    }
+-- the number of a row names a position below a bound, counted from an offset on
+pub record IsNamed (offset len : ℕ) (r : Row) (z : ℤ) : Type 0 where
+  pub low : pos offset ≤ℤ z
+  pub below : unsigned_abs z - offset < len
+  pub told : unsigned_abs z ≡ count_in r
 
-pub AreFound-fault : (t : Tree) (offset len n : ℕ) (ps : List ℕ) (r : Option Refusal) → AreFound t offset len n ps → patch_row_fault offset len n (row_at t n) ≡ r → IsSome r → n < tree_len t → patch_positions_fault offset len t ≡ r
-AreFound-fault t offset len n ps r h f s l =
-    first_fault-found (λ i. patch_row_fault offset len i (row_at t i)) (tree_len t) n h.faultless (subst IsSome (sym f) s) l ∙ f
+number_named : (offset len i : ℕ) (z : ℤ) → patch_row_fault offset len i (whole z) ≡ None → IsNamed offset len (whole z) z
+number_named offset len i (pos k) none =
+    let h = named_by_tests k offset len i (nat_lt k offset) (nat_lt (k - offset) len) refl refl none in
+    record { low = omega (arith, ints, h.0); below = h.1; told = refl }
+number_named offset len i (negsuc k) none = absurd (cc)
 
-pub AreFound-all : (t : Tree) (offset len n : ℕ) (ps : List ℕ) → n ≡ length ps → AreFound t offset len n ps → ps ≡ patch_positions offset t
-AreFound-all t offset len n ps e h = fill_by_all (λ i. count_in (row_at t i) - offset) ps (tree_len t) 0 h.long (λ i l. h.each i (omega (arith, h.long)))
+-- so does that of each row that has no fault
+pub row_named : (offset len i : ℕ) (r : Row) (z : ℤ) → Some z ≡ number_in r → patch_row_fault offset len i r ≡ None → IsNamed offset len r z
+row_named offset len i (whole y) z e none = let same : z ≡ y = cc in rw same (number_named offset len i y none)
+row_named offset len i null z e none = absurd (cc)
+row_named offset len i (boolean b) z e none = absurd (cc)
+row_named offset len i (bytes b) z e none = absurd (cc)
+row_named offset len i (text b) z e none = absurd (cc)
+row_named offset len i (items b) z e none = absurd (cc)
+row_named offset len i (record_of b) z e none = absurd (cc)
 
-pub AreFound-below : (t : Tree) (offset len n : ℕ) (ps : List ℕ) → n ≡ length ps → AreFound t offset len n ps → All (λ k. k < len) ps
-AreFound-below t offset len n ps e h = λ i d l.
-    let P : ℕ → Type 0 = λ k. k < len in
-    subst P (sym (get_or_default ps i d 0 l)) (h.below i (rw e l))
+pub row_of_named : (offset len i : ℕ) (t : Tree) (z : ℤ) → Some z ≡ number_in (row_at t i) → patch_positions_fault offset len t ≡ None → i < tree_len t → IsNamed offset len (row_at t i) z
+row_of_named offset len i t z e none l =
+    row_named offset len i (row_at t i) z e (first_fault-none_at (λ j. patch_row_fault offset len j (row_at t j)) (tree_len t) i none l)
 
-pub AreFound-faultless : (t : Tree) (offset len n : ℕ) (ps : List ℕ) → n ≡ length ps → AreFound t offset len n ps → patch_positions_fault offset len t ≡ None
-AreFound-faultless t offset len n ps e h = rw (sym h.long, sym e) h.faultless
+-- and so does the position that the number is passed on as
+pub place_named : (offset len k : ℕ) (r : Row) (z y : ℤ) → IsNamed offset len r z → y ≡ z → pos k ≡ y → (offset ≤ k) × (k - offset < len) × (k ≡ count_in r)
+place_named offset len k r z y h passed e =
+    let same : pos k ≡ z = e ∙ passed in
+    let low : pos offset ≤ℤ pos k = subst (λ (x : ℤ). pos offset ≤ℤ x) (sym same) h.low in
+    let place : k ≡ unsigned_abs z = ap unsigned_abs same in
+    (omega (arith, ints, low), subst (λ (j : ℕ). j - offset < len) (sym place) h.below, place ∙ h.told)
+
+-- a row with a fault after some without one is the first
+pub patch_found : (t : Tree) (offset len n : ℕ) (r : Option Refusal) → first_fault (λ i. patch_row_fault offset len i (row_at t i)) n ≡ None → patch_row_fault offset len n (row_at t n) ≡ r → IsSome r → n < tree_len t
+    → patch_positions_fault offset len t ≡ r
+patch_found t offset len n r none f s l = first_fault-found (λ i. patch_row_fault offset len i (row_at t i)) (tree_len t) n none (subst IsSome (sym f) s) l ∙ f
+
+-- the rows of an array are numbers that lie one after another
+pub numbers_patched : (offset : ℕ) (t : Tree) (p : PType) (bs : List ℕ) → HasNumbers t p bs → patch_positions offset t ≡ patch_positions offset (primitive p bs non_nullable)
+numbers_patched offset t p bs h =
+    let f : ℕ → ℕ = λ i. count_in (row_at t i) - offset in
+    let g : ℕ → ℕ = λ i. count_in (row_at (primitive p bs non_nullable) i) - offset in
+    map_range_same f g 0 0 (tree_len t) (λ j l. ap (λ r. count_in r - offset) (h.rows (0 + j) (omega (arith, l)))) ∙ ap (λ n. map g (range_with_len 0 n)) h.len
+
+pub numbers_patch_fault : (offset len : ℕ) (t : Tree) (p : PType) (bs : List ℕ) → HasNumbers t p bs → patch_positions_fault offset len t ≡ patch_positions_fault offset len (primitive p bs non_nullable)
+numbers_patch_fault offset len t p bs h =
+    let u = primitive p bs non_nullable in
+    first_fault-same (λ i. patch_row_fault offset len i (row_at t i)) (λ i. patch_row_fault offset len i (row_at u i)) (tree_len t) (λ i l. ap (patch_row_fault offset len i) (h.rows i l))
+    ∙ ap (first_fault (λ i. patch_row_fault offset len i (row_at u i))) h.len
 
 -- ---- what is written over
 
@@ -72,31 +102,38 @@ overwritten_more bits ps values i d e l =
 pub overwritten_all : (bits : List Bool) (ps : List ℕ) (values : List Bool) (i : ℕ) → length values ≡ length ps → i ≡ length ps → overwritten bits (take i ps) (take i values) ≡ overwritten bits ps values
 overwritten_all bits ps values i e n = rw (take_all i ps (omega arith), take_all i values (omega arith)) refl
 
--- a range of one
-only_one : (n : ℕ) (b : Bool) → n ≡ 1 → replicate n b ≡ b ∷ []
-only_one zero b e = absurd (omega (arith, e))
-only_one (suc zero) b e = refl
-only_one (suc (suc n)) b e = absurd (omega (arith, e))
-
--- one boolean is written as a range of one
-set_by_parts : (bits : List Bool) (p : ℕ) (b : Bool) → p < length bits → take p bits ++ replicate (p + 1 - p) b ++ drop (p + 1) bits ≡ set bits p b
-set_by_parts bits p b l =
-    let one : p + 1 - p ≡ 1 = omega arith in
-    ap (λ xs. take p bits ++ xs ++ drop (p + 1) bits) (only_one (p + 1 - p) b one) ∙ append_assoc (take p bits) (b ∷ []) (drop (p + 1) bits)
-    ∙ sym (ap (λ ys. ys ++ b ∷ drop (p + 1) bits) (take-set bits p b)) ∙ sym (ap (λ zs. take p (set bits p b) ++ zs) (drop-set bits p b l)) ∙ take-append-drop p (set bits p b)
-
 pub length-overwritten : (bits : List Bool) (ps : List ℕ) (values : List Bool) → length (overwritten bits ps values) ≡ length bits
 length-overwritten bits [] values = refl
 length-overwritten bits (p ∷ ps) [] = refl
 length-overwritten bits (p ∷ ps) (b ∷ values) = length-overwritten (set bits p b) ps values ∙ length-set bits p b
 
--- the next boolean is written
-pub overwritten_next : (bits out now : List Bool) (ps : List ℕ) (values : List Bool) (i p : ℕ) (b : Bool) → length values ≡ length ps → i < length ps → p ≡ slice_index ps i → b ≡ bool_at values i → p < length bits
-    → out ≡ overwritten bits (take i ps) (take i values) → now ≡ take p out ++ replicate (p + 1 - p) b ++ drop (p + 1) out → now ≡ overwritten bits (take (i + 1) ps) (take (i + 1) values)
-overwritten_next bits out now ps values i p b e l place value below before after =
-    let long : length out ≡ length bits = ap length before ∙ length-overwritten bits (take i ps) (take i values) in
-    after ∙ set_by_parts out p b (rw long below) ∙ ap (λ ys. set ys p b) before
-    ∙ (λ j. set (overwritten bits (take i ps) (take i values)) (place j) (value j)) ∙ sym (overwritten_more bits ps values i 0 e l)
+-- the booleans after the first n positions of rows are written
+pub record AreWritten (bits : List Bool) (t : Tree) (offset : ℕ) (values : List Bool) (n : ℕ) (out : List Bool) : Type 0 where
+  pub long : length out ≡ length bits
+  pub written : out ≡ overwritten bits (take n (patch_positions offset t)) (take n values)
+
+pub length-patch_positions : (offset : ℕ) (t : Tree) → length (patch_positions offset t) ≡ tree_len t
+length-patch_positions offset t = length-map-range_with_len (λ i. count_in (row_at t i) - offset) 0 (tree_len t)
+
+pub AreWritten-none : (bits : List Bool) (t : Tree) (offset : ℕ) (values : List Bool) → AreWritten bits t offset values 0 bits
+AreWritten-none bits t offset values = record { long = refl; written = refl }
+
+pub AreWritten-next : (bits : List Bool) (t : Tree) (offset : ℕ) (values out now : List Bool) (i k : ℕ) (b : Bool) → length values ≡ tree_len t → i < tree_len t → k ≡ count_in (row_at t i) → b ≡ bool_at values i
+    → AreWritten bits t offset values i out → now ≡ set out (k - offset) b → AreWritten bits t offset values (i + 1) now
+AreWritten-next bits t offset values out now i k b as_many l place value before after =
+    let ps = patch_positions offset t in
+    let many : length values ≡ length ps = as_many ∙ sym (length-patch_positions offset t) in
+    let inside : i < length ps = omega (arith, l, length-patch_positions offset t) in
+    let read : k - offset ≡ get_or ps i 0 = ap (λ j. j - offset) place ∙ sym (get_or-map-range_with_len (λ j. count_in (row_at t j) - offset) 0 (tree_len t) i i 0 l (zero-add i)) in
+    record {
+      long = ap length after ∙ length-set out (k - offset) b ∙ before.long;
+      written = after ∙ ap (λ ys. set ys (k - offset) b) before.written ∙ (λ j. set (overwritten bits (take i ps) (take i values)) (read j) (value j)) ∙ sym (overwritten_more bits ps values i 0 many inside);
+    }
+
+pub AreWritten-all : (bits : List Bool) (t : Tree) (offset : ℕ) (values out : List Bool) (i : ℕ) → length values ≡ tree_len t → i ≡ tree_len t → AreWritten bits t offset values i out → out ≡ overwritten bits (patch_positions offset t) values
+AreWritten-all bits t offset values out i as_many n h =
+    let ps = patch_positions offset t in
+    h.written ∙ overwritten_all bits ps values i (as_many ∙ sym (length-patch_positions offset t)) (n ∙ sym (length-patch_positions offset t))
 
 -- one value that is written over itself stays
 set_alike : (n p : ℕ) (b : Bool) → set (replicate n b) p b ≡ replicate n b
@@ -110,15 +147,14 @@ overwritten_alike n (p ∷ ps) b = ap (λ bs. overwritten bs ps (replicate (leng
 
 -- ---- the validity that is patched
 
-pub length-patch_positions : (offset : ℕ) (indices : Tree) → length (patch_positions offset indices) ≡ tree_len indices
-length-patch_positions offset indices = length-map-range_with_len (λ i. count_in (row_at indices i) - offset) 0 (tree_len indices)
-
 -- what is written, as bits
-pub written_bits : (v u w : Valid) (n : ℕ) (ps : List ℕ) → w ≡ by_array (bools (overwritten (valid_mask v n) ps (valid_mask u (length ps))) non_nullable) → IsWrittenOver v n ps u w
-written_bits v u w n ps a =
+pub patched_by_bits : (v u w : Valid) (n offset : ℕ) (indices : Tree) → w ≡ by_array (bools (overwritten (valid_mask v n) (patch_positions offset indices) (valid_mask u (tree_len indices))) non_nullable) → IsPatched v n offset indices u w
+patched_by_bits v u w n offset indices a =
     let mask = valid_mask v n in
-    let bits = overwritten mask ps (valid_mask u (length ps)) in
-    let long : length bits ≡ n = length-overwritten mask ps (valid_mask u (length ps)) ∙ mask_long v mask n refl in
+    let ps = patch_positions offset indices in
+    let values = valid_mask u (tree_len indices) in
+    let bits = overwritten mask ps values in
+    let long : length bits ≡ n = length-overwritten mask ps values ∙ mask_long v mask n refl in
     let same : bits ≡ map (bool_at bits) (range_with_len 0 n) = fill_by_all (bool_at bits) bits n false long (λ i l. refl) in
     rw a (record { fits = record { len = long; kind = refl }; state = refl; mask = sym same })
 
@@ -135,35 +171,31 @@ array_tells all_valid n i = refl
 array_tells all_invalid n i = refl
 array_tells (by_array t) n i = refl
 
-pub none_written : (v u w : Valid) (n : ℕ) (ps : List ℕ) → ValidFits v n → length ps ≡ 0 → w ≡ by_array (array_of v n) → IsWrittenOver v n ps u w
-none_written v u w n [] h none a =
+overwritten_none : (bits : List Bool) (ps : List ℕ) (values : List Bool) → length ps ≡ 0 → overwritten bits ps values ≡ bits
+overwritten_none bits [] values none = refl
+overwritten_none bits (p ∷ ps) values none = absurd (omega (arith, none))
+
+pub patched_nowhere : (v u w : Valid) (n offset : ℕ) (indices : Tree) → ValidFits v n → tree_len indices ≡ 0 → w ≡ by_array (array_of v n) → IsPatched v n offset indices u w
+patched_nowhere v u w n offset indices h none a =
     rw a (record {
       fits = array_fits v n h;
       state = refl;
-      mask = map_range_same (is_valid_at (by_array (array_of v n))) (is_valid_at v) 0 0 n (λ j l. array_tells v n (0 + j));
+      mask = map_range_same (is_valid_at (by_array (array_of v n))) (is_valid_at v) 0 0 n (λ j l. array_tells v n (0 + j))
+          ∙ sym (overwritten_none (valid_mask v n) (patch_positions offset indices) (valid_mask u (tree_len indices)) (length-patch_positions offset indices ∙ none));
     })
-none_written v u w n (p ∷ ps) h none a = absurd (omega (arith, none))
 
 -- where all are one value and stay it, a constant
-pub value_written : (v u w : Valid) (n : ℕ) (ps : List ℕ) (b : Bool) → ((i : ℕ) → is_valid_at v i ≡ b) → ((i : ℕ) → is_valid_at u i ≡ b) → w ≡ by_array (constant (booleans false) (boolean b) n) → IsWrittenOver v n ps u w
-value_written v u w n ps b mine theirs a =
+pub patched_by_value : (v u w : Valid) (n offset : ℕ) (indices : Tree) (b : Bool) → ((i : ℕ) → is_valid_at v i ≡ b) → ((i : ℕ) → is_valid_at u i ≡ b) → w ≡ by_array (constant (booleans false) (boolean b) n)
+    → IsPatched v n offset indices u w
+patched_by_value v u w n offset indices b mine theirs a =
+    let ps = patch_positions offset indices in
     let before : valid_mask v n ≡ replicate n b = sym (mask_of_constant v n b mine) in
-    let values : valid_mask u (length ps) ≡ replicate (length ps) b = sym (mask_of_constant u (length ps) b theirs) in
+    let values : valid_mask u (tree_len indices) ≡ replicate (length ps) b = sym (mask_of_constant u (tree_len indices) b theirs) ∙ ap (λ m. replicate m b) (sym (length-patch_positions offset indices)) in
     rw a (record {
       fits = record { len = refl; kind = refl };
       state = refl;
       mask = sym (mask_of_constant (by_array (constant (booleans false) (boolean b) n)) n b (λ i. refl)) ∙ sym (overwritten_alike n ps b) ∙ sym (λ j. overwritten (before j) ps (values j));
     })
-
--- at the positions of indices
-pub patched_by : (v u w : Valid) (n offset : ℕ) (indices : Tree) (ps : List ℕ) → IsWrittenOver v n ps u w → ps ≡ patch_positions offset indices → IsPatched v n offset indices u w
-patched_by v u w n offset indices ps h p =
-    let as_many : length ps ≡ tree_len indices = ap length p ∙ length-patch_positions offset indices in
-    record {
-      fits = h.fits;
-      state = h.state;
-      mask = h.mask ∙ (λ i. overwritten (valid_mask v n) (p i) (valid_mask u (as_many i)));
-    }
 
 pub len_of_fits : (v : Valid) (n : ℕ) → ValidFits v n → IsLenOf v n
 len_of_fits non_nullable n h = tt
@@ -173,6 +205,4 @@ len_of_fits (by_array t) n h = h.len
 
 pub ruleset patches = (len_of_fits, Names-or_else_first, Names-or_else_second, or_else-none)
 
-pub ruleset found = (AreFound-more, AreFound-all, AreFound-below, AreFound-faultless)
-
-pub ruleset written = (overwritten_next, overwritten_all)
+pub ruleset written = (patched_nowhere, patched_by_value)

@@ -4,14 +4,25 @@ use Rattle.std.specs.Prelude.{is_some, IfSome, slice_index, slice_index_or, if�
 use Rattle.std.proofs.lemmas.List.{length-map, get_or-map, get_or_default}
 use Rattle.std.proofs.lemmas.List.FromFn.{get_or-map-range_with_len, length-map-range_with_len, fill_by_all}
 use Rattle.vx_base.specs.Rows.{null, position_in}
-use Rattle.vx_base.specs.Kinds.{is_integers}
+use Rattle.vx_base.specs.Kinds.{is_integers, or_nullable}
 use Rattle.vx_tree.specs.Tree.{Tree, Valid}
-use Rattle.vx_tree.specs.Meaning.{row_at, rows, tree_len, kind_of, is_valid_at, picked}
+use Rattle.vx_tree.specs.Meaning.{row_at, rows, tree_len, kind_of, is_valid_at, nullable, picked}
+use Rattle.vx_tree.specs.Shapes.{nulled_shape, state_of}
 use Rattle.vx_tree.specs.Faults.{take_fault, indices_fault, take_overflow}
 use Rattle.vx_tree.specs.Named.{AreIndices}
-use Rattle.vx_tree.specs.Operations.{IsTakenAt, IsValidityOf, AreBelow, positions, picks}
+use Rattle.vx_tree.specs.Operations.{IsSelected, IsNulled, IsTakenAt, IsValidityOf, AreBelow, positions, picks}
 
 -- ---- at positions
+
+-- rows that are selected, and then null where the validity is not true
+pub taken_at : (t s r : Tree) (ps : List ℕ) (u : Valid) → IsSelected t ps s → IsNulled s u r → IsTakenAt t ps u r
+taken_at t s r ps u x n =
+    record {
+      len = n.len ∙ x.len;
+      kind = n.kind ∙ ap (or_nullable (nullable u)) x.kind;
+      shape = n.shape ∙ ap (λ shape. nulled_shape shape (state_of u)) x.shape;
+      rows = λ i l. n.rows i (rw x.len l) ∙ ap (λ row. if is_valid_at u i then row else null) (x.rows i l);
+    }
 
 -- ---- by indices
 

@@ -59,13 +59,7 @@ patch_fault v n offset indices u =
     if is_unchanged v u then None
     else (if nullable v && nullable u then patch_rows_fault v n offset indices u else Some nullability_mismatch)
 
--- n rows of a validity, overwritten one after another at positions by the rows of another
-pub record IsWrittenOver (v : Valid) (n : ℕ) (ps : List ℕ) (u w : Valid) : Type 0 where
-  pub fits : ValidFits w n
-  pub state : state_of w ≡ told
-  pub mask : valid_mask w n ≡ overwritten (valid_mask v n) ps (valid_mask u (length ps))
-
--- the same at the positions of indices
+-- n rows of a validity, overwritten one after another at the positions of indices by the rows of another
 pub record IsPatched (v : Valid) (n offset : ℕ) (indices : Tree) (u : Valid) (w : Valid) : Type 0 where
   pub fits : ValidFits w n
   pub state : state_of w ≡ told

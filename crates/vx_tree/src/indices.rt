@@ -85,7 +85,7 @@ impl ArrayRef {
     }
 
     // The numbers that the rows are, where they lie one after another and none is null.
-    fn plain_numbers(&self) -> Option<(PType, &[u8])>
+    pub(crate) fn plain_numbers(&self) -> Option<(PType, &[u8])>
         ensures { IfSome result (λ n. HasNumbers self.now n.0 n.1.now) }
     {
         let Layout::Primitive {

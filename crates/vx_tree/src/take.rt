@@ -12,7 +12,7 @@ ghost use Rattle.vx_tree.specs.Parts.{valid_of};
 ghost use Rattle.vx_tree.specs.Faults.{take_fault, take_overflow};
 ghost use Rattle.vx_tree.specs.Operations.{AreBelow, IsTakenAt, picks, positions};
 
-use crate::array::{ArrayRef, Validity};
+use crate::array::{ArrayRef, Layout, Validity};
 use crate::indices::Indices;
 use std::alloc::Global;
 use vx_base::VortexError;
@@ -61,6 +61,9 @@ impl ArrayRef {
         }
         if self.is_empty() {
             return Ok(self.nulls(alloc, selection.len(), nulls)?);
+        }
+        if let Layout::VarBinView { .. } = self.layout() {
+            return Ok(self.take_views(alloc, &selection, nulls)?);
         }
         let selected = self.select_within(alloc, &selection)?;
         Ok(selected.nulled(alloc, nulls)?)

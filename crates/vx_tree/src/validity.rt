@@ -20,6 +20,7 @@ mod compare;
 mod join;
 mod laws;
 mod patch;
+mod patched_bits;
 mod rows;
 mod states;
 

@@ -1,23 +1,25 @@
 // Rows of a validity that are overwritten.
 
-ghost use Rattle.std.specs.Prelude.{◌≡◌, ◌<◌, ◌≤ℤ◌, ◌-◌, ◌^◌, ℕ, pos, true, false, length, None, IfOk, IfSome};
-ghost use Rattle.std.specs.List.{All};
+ghost use Rattle.std.specs.Prelude.{◌≡◌, ◌<◌, ◌≤◌, ◌≤ℤ◌, ◌+◌, ◌-◌, ◌^◌, ℕ, pos, true, false, length, None, IfOk, IfSome, IsTrue};
+ghost use Rattle.vx_base.specs.Integers.{numbers, number_nth};
 ghost use Rattle.vx_base.specs.Kinds.{is_plain_integers};
 ghost use Rattle.vx_base.specs.Refusals.{Gives, Refuses, Tests};
 ghost use Rattle.vx_base.specs.Rows.{whole, count_in};
+ghost use Rattle.vx_tree.specs.Tree.{primitive, non_nullable};
 ghost use Rattle.vx_tree.specs.Meaning.{tree_len, kind_of, row_at, is_valid_at};
 ghost use Rattle.vx_tree.specs.Formed.{ValidFits};
 ghost use Rattle.vx_tree.specs.Parts.{valid_of};
 ghost use Rattle.vx_tree.specs.Faults.{valid_type_fault};
 ghost use Rattle.vx_tree.specs.Patches.{is_unchanged, overwritten, patch_positions, patch_row_fault};
 ghost use Rattle.vx_tree.specs.Patches.{patch_positions_fault, patch_type_fault, patch_len_fault, patch_rows_fault};
-ghost use Rattle.vx_tree.specs.Patches.{patch_fault, IsPatched, IsWrittenOver};
+ghost use Rattle.vx_tree.specs.Patches.{patch_fault, IsPatched};
 
 use crate::array::{ArrayRef, Validity};
 use crate::indices::to_position;
+use crate::validity::patched_bits::PatchedBits;
 use crate::validity::{constant_truth, told_by};
 use std::alloc::Global;
-use vx_base::{BitBuffer, BitBufferMut, VortexError};
+use vx_base::{BitBuffer, NativePType, PType, VortexError, call_native, int_at, number_count};
 
 impl Validity {
     /// `len` rows, overwritten one after another at the positions that the indices name, less the
@@ -82,34 +84,40 @@ impl Validity {
     {
         self.check_patch_types(indices, patches)?;
         self.check_patch_lens(len, indices, patches)?;
-        let positions = indices.patch_positions(alloc, offset, len)?;
-        Ok(self.patched_at(alloc, len, &positions, patches)?)
+        indices.check_patch_positions(offset, len)?;
+        Ok(self.patched_at(alloc, len, offset, indices, patches)?)
     }
 
-    // `len` rows, overwritten one after another at the positions by the rows of the patches. No bit
-    // is written where none is overwritten, or all of them are one value and stay it.
+    // `len` rows, overwritten one after another at the positions that the indices name, less the
+    // offset, by the rows of the patches. No bit is written where none is overwritten, or all of
+    // them are one value and stay it. Asks that each index names a position.
     #[tactic(auto, using(crate::proofs::Patched::written))]
     fn patched_at(
         &self,
         alloc: Global,
         len: usize,
-        positions: &[usize],
+        offset: usize,
+        indices: &ArrayRef,
         patches: &Validity,
     ) -> Result<Validity, VortexError>
+        requires ints { is_plain_integers (kind_of indices.now) ≡ true }
         requires mine { ValidFits (valid_of self.now) len }
-        requires theirs { ValidFits (valid_of patches.now) (length positions.now) }
-        requires below { All (λ k. k < len) positions.now }
-        ensures { Gives result (λ w. IsWrittenOver (valid_of self.now) len positions.now (valid_of patches.now) (valid_of w)) }
+        requires theirs { ValidFits (valid_of patches.now) (tree_len indices.now) }
+        requires named { patch_positions_fault offset len indices.now ≡ None }
+        ensures { Gives result (λ w. IsPatched (valid_of self.now) len offset indices.now (valid_of patches.now) (valid_of w)) }
     {
-        if positions.is_empty() {
+        let count = indices.len();
+        if count == 0 {
             return Ok(Validity::Array(self.to_array(alloc, len)?));
         }
-        if let Some(value) = self.common_value(len, patches, positions.len()) {
+        if let Some(value) = self.common_value(len, patches, count) {
             return Ok(Validity::Array(constant_truth(alloc, value, len)?));
         }
         let bits = self.bits(alloc, len)?;
-        let values = patches.bits(alloc, positions.len())?;
-        told_by(alloc, overwrite(alloc, &bits, positions, &values)?)
+        let values = patches.bits(alloc, count)?;
+        let mut truths = PatchedBits::copy_of(alloc, bits)?;
+        indices.write_patches(&mut truths, offset, &values);
+        told_by(alloc, truths.freeze(alloc)?)
     }
 
     // The one value that `len` rows of this and `count` rows of the other have, where the states or
@@ -177,106 +185,159 @@ impl Validity {
 }
 
 impl ArrayRef {
-    // The positions that the rows name, less the offset, each below `len`, or the first fault among
-    // them.
-    fn patch_positions(
-        &self,
-        alloc: Global,
-        offset: usize,
-        len: usize,
-    ) -> Result<Vec<usize>, VortexError>
+    // Whether each row names a position, less the offset, below `len`: refuses the first that does
+    // not. It is looked for where numbers of one type are not all such positions.
+    fn check_patch_positions(&self, offset: usize, len: usize) -> Result<(), VortexError>
         requires { is_plain_integers (kind_of self.now) ≡ true }
-        ensures positions { IfOk result (λ ps. ps.items ≡ patch_positions offset self.now) }
-        ensures below { IfOk result (λ ps. All (λ k. k < len) ps.items) }
-        ensures refuses { Refuses result (patch_positions_fault offset len self.now) }
+        ensures { Tests result (patch_positions_fault offset len self.now) }
     {
-        let mut positions = vec![in alloc; 0; self.len()]?;
-        self.fill_patch_positions(offset, len, &mut positions)?;
-        Ok(positions)
+        if let Some((ptype, bytes)) = self.plain_numbers()
+            && are_all_patches(ptype, bytes, offset, len)
+        {
+            return Ok(());
+        }
+        self.check_each_patch(offset, len)
     }
 
-    // Writes them.
-    #[tactic(auto, using(crate::proofs::Patched::found))]
-    fn fill_patch_positions(
-        &self,
-        offset: usize,
-        len: usize,
-        out: &mut [usize],
-    ) -> Result<(), VortexError>
-        requires ints { is_plain_integers (kind_of self.now) ≡ true }
-        requires room { length out.old ≡ tree_len self.now }
-        ensures positions { IfOk result (λ _. out.new ≡ patch_positions offset self.now) }
-        ensures below { IfOk result (λ _. All (λ k. k < len) out.new) }
-        ensures tests { Tests result (patch_positions_fault offset len self.now) }
+    // The same, in any layout, row by row.
+    fn check_each_patch(&self, offset: usize, len: usize) -> Result<(), VortexError>
+        requires { is_plain_integers (kind_of self.now) ≡ true }
+        ensures { Tests result (patch_positions_fault offset len self.now) }
     {
-        for row in 0..out.len() {
-            out[row] = self.patch_position(row, offset, len)?;
+        for row in 0..self.len() {
+            self.check_patch(row, offset, len)?;
         }
         Ok(())
     }
 
-    // The position that a row names, less the offset, below `len`, or its fault.
-    fn patch_position(&self, row: usize, offset: usize, len: usize) -> Result<usize, VortexError>
+    // Whether a row names a position, less the offset, below `len`.
+    fn check_patch(&self, row: usize, offset: usize, len: usize) -> Result<(), VortexError>
         requires ints { is_plain_integers (kind_of self.now) ≡ true }
         requires in_bounds { row < tree_len self.now }
-        ensures position { IfOk result (λ k. k ≡ count_in (row_at self.now row) - offset) }
-        ensures below { IfOk result (λ k. k < len) }
-        ensures tests { Tests result (patch_row_fault offset len row (row_at self.now row)) }
+        ensures { Tests result (patch_row_fault offset len row (row_at self.now row)) }
     {
         match self.int_at(row) {
-            Some(number) => position_from(number, row, offset, len),
+            Some(number) => check_number(number, row, offset, len),
             None => unreachable!(),
+        }
+    }
+
+    // Overwrites booleans, one after another, at the positions that the rows name, less the offset.
+    // Asks that each row names one. Numbers of one type are read where they lie.
+    fn write_patches(&self, out: &mut PatchedBits, offset: usize, values: &BitBuffer)
+        requires ints { is_plain_integers (kind_of self.now) ≡ true }
+        requires named { patch_positions_fault offset (length out.old) self.now ≡ None }
+        requires as_many { length values.now.bits ≡ tree_len self.now }
+        ensures { out.new ≡ overwritten out.old (patch_positions offset self.now) values.now.bits }
+    {
+        match self.plain_numbers() {
+            Some((ptype, bytes)) => write_numbers(ptype, bytes, out, offset, values),
+            None => self.write_each(out, offset, values),
+        }
+    }
+
+    // The same, in any layout, row by row.
+    fn write_each(&self, out: &mut PatchedBits, offset: usize, values: &BitBuffer)
+        requires ints { is_plain_integers (kind_of self.now) ≡ true }
+        requires named { patch_positions_fault offset (length out.old) self.now ≡ None }
+        requires as_many { length values.now.bits ≡ tree_len self.now }
+        ensures { out.new ≡ overwritten out.old (patch_positions offset self.now) values.now.bits }
+    {
+        for row in 0..values.len() {
+            match self.int_at(row) {
+                Some(number) => out.put(to_position(number) - offset, values.value(row)),
+                None => unreachable!(),
+            }
         }
     }
 }
 
-// The position that a number names, less the offset, below `len`, or its fault.
-fn position_from(number: i128, row: usize, offset: usize, len: usize) -> Result<usize, VortexError>
+// Whether a number names a position, less the offset, below `len`.
+fn check_number(number: i128, row: usize, offset: usize, len: usize) -> Result<(), VortexError>
     requires { number ≤ℤ pos (2 ^ 64 - 1) }
-    ensures position { IfOk result (λ k. k ≡ count_in (whole number) - offset) }
-    ensures below { IfOk result (λ k. k < len) }
-    ensures tests { Tests result (patch_row_fault offset len row (whole number)) }
+    ensures { Tests result (patch_row_fault offset len row (whole number)) }
 {
     if number < 0 {
         return Err(VortexError::PatchOutOfRange { row });
     }
     let place = to_position(number);
-    if place < offset {
+    if place < offset || place - offset >= len {
         return Err(VortexError::PatchOutOfRange { row });
     }
-    let position = place - offset;
-    if position >= len {
-        return Err(VortexError::PatchOutOfRange { row });
-    }
-    Ok(position)
+    Ok(())
 }
 
-// Bits, overwritten one after another at the positions.
-fn overwrite(
-    alloc: Global,
-    bits: &BitBuffer,
-    positions: &[usize],
+// Whether each number is a position, less the offset, below `len`. It may be false where an end is
+// past the greatest number that can be counted.
+fn are_all_patches(ptype: PType, bytes: &[u8], offset: usize, len: usize) -> bool
+    ensures { IsTrue result → patch_positions_fault offset len (primitive ptype bytes.now non_nullable) ≡ None }
+{
+    call_native!(ptype, are_patches(bytes, offset, len))
+}
+
+// The same for numbers of one type: no number ends the loop.
+#[inline(never)]
+fn are_patches<T: NativePType>(bytes: &[u8], offset: usize, len: usize) -> bool
+    ensures { IsTrue result → patch_positions_fault offset len (primitive T.PTYPE bytes.now non_nullable) ≡ None }
+{
+    let end = offset.saturating_add(len);
+    let mut are_all = true;
+    for row in 0..number_count(bytes, T::PTYPE) {
+        if !is_patch(int_at(bytes, T::PTYPE, row), offset, end) {
+            are_all = false;
+        }
+    }
+    are_all
+}
+
+// Whether a number is at least the offset and below an end, and so a position, less the offset, of
+// as many as stand between the two.
+#[inline]
+fn is_patch(number: i128, offset: usize, end: usize) -> bool
+    ensures { (row len : ℕ) → end ≤ offset + len → IsTrue result → patch_row_fault offset len row (whole number) ≡ None }
+{
+    offset as i128 <= number && number < end as i128
+}
+
+// Overwrites booleans, one after another, at the positions that numbers are, less the offset.
+fn write_numbers(
+    ptype: PType,
+    bytes: &[u8],
+    out: &mut PatchedBits,
+    offset: usize,
     values: &BitBuffer,
-) -> Result<BitBuffer, VortexError>
-    requires below { All (λ k. k < length bits.now.bits) positions.now }
-    requires as_many { length values.now.bits ≡ length positions.now }
-    ensures { Gives result (λ b. b.bits ≡ overwritten bits.now.bits positions.now values.now.bits) }
+)
+    requires named { patch_positions_fault offset (length out.old) (primitive ptype bytes.now non_nullable) ≡ None }
+    requires as_many { length values.now.bits ≡ length (numbers ptype bytes.now) }
+    ensures { out.new ≡ overwritten out.old (patch_positions offset (primitive ptype bytes.now non_nullable)) values.now.bits }
 {
-    let mut truths = BitBufferMut::with_capacity(alloc, bits.len())?;
-    truths.append_slice(bits, 0, bits.len())?;
-    write_over(&mut truths, positions, values);
-    truths.freeze()
+    call_native!(ptype, write_typed(bytes, out, offset, values))
 }
 
-// Overwrites bits, one after another, at the positions.
-#[tactic(auto, using(crate::proofs::Patched::written))]
-fn write_over(out: &mut BitBufferMut, positions: &[usize], values: &BitBuffer)
-    requires below { All (λ k. k < length out.old) positions.now }
-    requires counted { length out.old < 2 ^ 64 }
-    requires as_many { length values.now.bits ≡ length positions.now }
-    ensures { out.new ≡ overwritten out.old positions.now values.now.bits }
+// The same for numbers of one type.
+#[inline(never)]
+fn write_typed<T: NativePType>(
+    bytes: &[u8],
+    out: &mut PatchedBits,
+    offset: usize,
+    values: &BitBuffer,
+)
+    requires named { patch_positions_fault offset (length out.old) (primitive T.PTYPE bytes.now non_nullable) ≡ None }
+    requires as_many { length values.now.bits ≡ length (numbers T.PTYPE bytes.now) }
+    ensures { out.new ≡ overwritten out.old (patch_positions offset (primitive T.PTYPE bytes.now non_nullable)) values.now.bits }
 {
-    for (i, position) in positions.iter().enumerate() {
-        out.fill_range(*position, *position + 1, values.value(i));
+    let bits = values.view();
+    for row in 0..bits.len() {
+        out.put(number_less(bytes, T::PTYPE, row, offset), bits.value(row));
     }
+}
+
+// The number of a row less the offset. Asks that it is not below the offset.
+#[inline]
+fn number_less(bytes: &[u8], ptype: PType, row: usize, offset: usize) -> usize
+    requires in_bounds { row < length (numbers ptype bytes.now) }
+    requires low { pos offset ≤ℤ number_nth (numbers ptype bytes.now) row }
+    ensures { result ≡ count_in (whole (number_nth (numbers ptype bytes.now) row)) - offset }
+{
+    to_position(int_at(bytes, ptype, row)) - offset
 }

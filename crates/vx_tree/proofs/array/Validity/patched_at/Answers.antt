@@ -1,27 +1,31 @@
-use Rattle.std.proofs.Common.{ap, ◌∙◌, length}
+use Rattle.std.proofs.Common.{◌≡◌, ap, ◌∙◌, length}
 use Rattle.vx_base.proofs.Refused.{Gives-weaker}
 use Rattle.vx_tree.specs.Tree.{bools, by_array, non_nullable}
+use Rattle.vx_tree.specs.Meaning.{tree_len, valid_mask}
 use Rattle.vx_tree.specs.Parts.{valid_of}
-use Rattle.vx_tree.specs.Patches.{overwritten}
+use Rattle.vx_tree.specs.Patches.{overwritten, patch_positions}
 use Rattle.vx_tree.proofs.Positions.{mask_long}
-use Rattle.vx_tree.proofs.Patched.{written_bits, value_written}
+use Rattle.vx_tree.proofs.Patched.{patched_by_bits, patched_by_value}
 use Rattle.vx_tree.proofs.array.Validity.patched_at.Goals as goal
 
 pub returns-in-Some : goal.returns-in-Some
 returns-in-Some c =
-    value_written (valid_of c.args.self.now) (valid_of c.args.patches.now) (by_array c.in_ok-constant_truth.field-0) c.args.len c.args.positions.now c.in-Some.value c.in-Some.ensures.mine c.in-Some.ensures.theirs (ap by_array c.in_ok-constant_truth.ensures)
+    patched_by_value (valid_of c.args.self.now) (valid_of c.args.patches.now) (by_array c.in_ok-constant_truth.field-0) c.args.len c.args.offset c.args.indices.now c.in-Some.value c.in-Some.ensures.mine c.in-Some.ensures.theirs (ap by_array c.in_ok-constant_truth.ensures)
 
-pub overwrite-requires-clause-below : goal.overwrite-requires-clause-below
-overwrite-requires-clause-below c = rw (mask_long (valid_of c.args.self.now) c.in_ok-bits.bits.bits c.args.len c.in_ok-bits.ensures) c.requires.below
+pub write_patches-requires-clause-named : goal.write_patches-requires-clause-named
+write_patches-requires-clause-named c =
+    let long : length c.in_ok-truths.truths ≡ c.args.len = ap length c.in_ok-truths.ensures ∙ mask_long (valid_of c.args.self.now) c.in_ok-bits.bits.bits c.args.len c.in_ok-bits.ensures in
+    rw long c.requires.named
 
-pub overwrite-requires-clause-as_many : goal.overwrite-requires-clause-as_many
-overwrite-requires-clause-as_many c = mask_long (valid_of c.args.patches.now) c.in_ok-values.values.bits (length c.args.positions.now) c.in_ok-values.ensures
+pub write_patches-requires-clause-as_many : goal.write_patches-requires-clause-as_many
+write_patches-requires-clause-as_many c = mask_long (valid_of c.args.patches.now) c.in_ok-values.values.bits c.len-count.result c.in_ok-values.ensures ∙ c.len-count.ensures
 
 pub returns : goal.returns
 returns c =
-    let before = c.in_ok-bits.ensures in
-    let values = c.in_ok-values.ensures in
-    let over = c.in_ok-overwrite.ensures ∙ (λ j. overwritten (before j) c.args.positions.now (values j)) in
-    Gives-weaker c.told_by.result _ _
-    (λ w h. written_bits (valid_of c.args.self.now) (valid_of c.args.patches.now) (valid_of w) c.args.len c.args.positions.now (h ∙ ap (λ bs. by_array (bools bs non_nullable)) over))
-    c.told_by.ensures
+    let v = valid_of c.args.self.now in
+    let u = valid_of c.args.patches.now in
+    let indices = c.args.indices.now in
+    let before : c.in_ok-truths.truths ≡ valid_mask v c.args.len = c.in_ok-truths.ensures ∙ c.in_ok-bits.ensures in
+    let values : c.in_ok-values.values.bits ≡ valid_mask u (tree_len indices) = c.in_ok-values.ensures ∙ ap (valid_mask u) c.len-count.ensures in
+    let over = c.in_ok-freeze.ensures ∙ c.write_patches.ensures ∙ (λ j. overwritten (before j) (patch_positions c.args.offset indices) (values j)) in
+    Gives-weaker c.told_by.result _ _ (λ w h. patched_by_bits v u (valid_of w) c.args.len c.args.offset indices (h ∙ ap (λ bs. by_array (bools bs non_nullable)) over)) c.told_by.ensures
