@@ -366,9 +366,9 @@ fn valid_views(
     Buffer::from_vec(alloc, valid)
 }
 
-// The same: those between the runs of rows that are true are made empty where they lie, or in a copy
-// where another buffer shares the views. A test of each row in place of the runs takes longer, since
-// a processor guesses it wrong where bits look random: 4 to 6 ns a row beside 3 with the runs made.
+// The same: those between the runs of rows that are true are made empty where they lie, or in a
+// copy where another buffer shares the views. To test each row instead takes longer, 3.9 ns a row
+// beside 3.1 where one row in four is null: a processor guesses that branch wrong.
 fn masked_views(
     alloc: Global,
     views: Buffer<BinaryView>,
