@@ -49,15 +49,3 @@ lengths_back (n ∷ lens) = ap (λ ns. n ∷ ns) (lengths_back lens)
 
 pub number_at : (lens : List ℕ) (k : ℕ) → k < length lens → number_nth (map pos lens) k ≡ pos (get_or lens k 0)
 number_at lens k l = get_or-map pos lens k 0 (pos 0) l
-
--- lengths of a heap, none of them longer than a buffer, have no fault but that of too many buffers
-pub only_numbering : (heap_len : ℕ) (lens : List ℕ) (pieces : ℕ) → sum lens ≡ heap_len → All (λ n. n ≤ MAX_BUFFER_LEN) lens
-    → build_fault 0 MAX_BUFFER_LEN heap_len (map pos lens) pieces ≡ numbering_fault 0 pieces
-only_numbering heap_len lens pieces exact short =
-    let long : length (map pos lens) ≡ length lens = length-map lens pos in
-    let natural : first_negative (map pos lens) ≡ None =
-    first_fault-of_none (negative_at (map pos lens)) (length (map pos lens)) (λ k l. not_negative_at (map pos lens) k (get_or lens k 0) (number_at lens k (rw long at l))) in
-    let same : sum_fault heap_len (map pos lens) ≡ None = ap (λ e. if e then None else Some lengths_not_exact) (eq-eqb (sum (lengths_of (map pos lens))) heap_len (ap sum (lengths_back lens) ∙ exact)) in
-    let fits : first_too_long MAX_BUFFER_LEN (map pos lens) ≡ None =
-    first_fault-of_none (too_long_at MAX_BUFFER_LEN (map pos lens)) (length (map pos lens)) (λ k l. not_too_long_at MAX_BUFFER_LEN (map pos lens) k (get_or lens k 0) (number_at lens k (rw long at l)) (short k 0 (rw long at l))) in
-    rw (natural, same, fits) refl
