@@ -1,14 +1,14 @@
 -- Values put into buffers one after another, whatever values come after them: the maximal cut in the making.
 use Rattle.std.proofs.Common.{◌≡◌, ℕ, ◌+◌, ◌-◌, ◌<◌, ◌≤◌, ◌^◌, List, [], ◌∷◌, ◌++◌, length, take, drop, get_or, sum, slice_range, append_assoc, append-nil, refl, sym, ◌∙◌, ap, subst, length-append, length-drop, arith}
 use Rattle.std.proofs.Math.Seq.{drop-append_seam, take-append_seam}
-use Rattle.std.proofs.lemmas.List.{drop-append-le, get_or_push, length_push, take_all}
+use Rattle.std.proofs.lemmas.List.{drop-append-le, length_push, take_all}
 use Rattle.vx_views.specs.Views.{view_of}
 use Rattle.vx_views.specs.Cut.{IsMaximalCut}
 use Rattle.vx_views.specs.BuildFaults.{IsPieceCount}
 use Rattle.vx_views.specs.declared.view.TheConstants.{MAX_BUFFER_LEN}
 use Rattle.vx_views.proofs.CutPieces.{longest_same}
-use Rattle.vx_views.proofs.CutOpen.{IsOpen, IsMaximalCut-from_open, IsMaximalCut-from_open_push}
-use Rattle.vx_views.proofs.CutPlaces.{IsCutting, HasRoom, HasRoom-kept, HasRoom-closed, IsCutting-pushed, AreDone, AreDone-close, AreDone-empty}
+use Rattle.vx_views.proofs.CutOpen.{IsMaximalCut-from_open, IsMaximalCut-from_open_push}
+use Rattle.vx_views.proofs.CutPlaces.{IsCutting, HasRoom-kept, HasRoom-closed, IsCutting-pushed, AreDone, AreDone-close, AreDone-empty}
 
 -- values of these lengths, one after another in a heap, are in full buffers and a last one, whatever comes after them
 pub record Fills (heap lens : List ℕ) (full : List (List ℕ)) (last : List ℕ) (placed : List (List ℕ)) : Type 0 where

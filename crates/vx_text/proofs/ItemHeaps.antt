@@ -1,18 +1,14 @@
 -- The values that stand in buffers, one after another, and why building views of them has no other fault than that of too
 -- many buffers.
-use Rattle.std.proofs.Common.{ℕ, zero, suc, ◌+◌, ◌-◌, ◌<◌, ◌≤◌, ◌≡◌, List, [], ◌∷◌, ◌++◌, length, get_or, take, drop, map, Some, None, refl, sym, ◌∙◌, ap, add-one, arith, eq-eqb}
-use Rattle.std.specs.Prelude.{slice_range, sum, pos, if◌then◌else◌}
-use Rattle.std.specs.List.{All, flat_map}
+use Rattle.std.proofs.Common.{ℕ, zero, suc, ◌+◌, ◌-◌, ◌<◌, ◌≡◌, List, [], ◌∷◌, ◌++◌, length, get_or, take, drop, map, refl, sym, ◌∙◌, ap, add-one, arith}
+use Rattle.std.specs.Prelude.{slice_range, sum, pos}
+use Rattle.std.specs.List.{flat_map}
 use Rattle.std.proofs.Math.Seq.{drop-append-add, take-append_seam}
-use Rattle.std.proofs.lemmas.List.{length-map, get_or-map}
+use Rattle.std.proofs.lemmas.List.{get_or-map}
 use Rattle.std.proofs.lemmas.List.Sums.{sum-map, sum_by-cons}
 use Rattle.std.proofs.lemmas.List.Concat.{length-flat_map}
 use Rattle.vx_base.specs.Integers.{number_nth}
-use Rattle.vx_base.specs.Refusals.{lengths_not_exact}
-use Rattle.vx_base.proofs.FirstFaults.{first_fault-of_none}
-use Rattle.vx_views.specs.BuildFaults.{build_fault, lengths_of, negative_at, too_long_at, sum_fault, numbering_fault, first_negative, first_too_long}
-use Rattle.vx_views.specs.declared.view.TheConstants.{MAX_BUFFER_LEN}
-use Rattle.vx_views.proofs.NoFaults.{not_negative_at, not_too_long_at}
+use Rattle.vx_views.specs.BuildFaults.{lengths_of}
 
 -- ---- one of joined lists
 
