@@ -1,22 +1,19 @@
 -- Arrays of items.
 use Rattle.std.proofs.Common.{ℕ, ◌<◌, ◌≤◌, ◌^◌, ◌≡◌, Bool, true, false, cond, eqb, List, [], length, map, replicate, take, Option, Some, None, refl, sym, ◌∙◌, ap, subst, inl, inr, ◌⊎◌, zero-add, arith}
-use Rattle.std.specs.Iterator.{Drains}
-use Rattle.std.specs.Prelude.{IsSome, IsTrue, IsUtf8, slice_index_or, if◌then◌else◌, count_by, nat_le}
-use Rattle.std.specs.List.{All}
+use Rattle.std.specs.Prelude.{IsTrue, IsUtf8, slice_index_or, if◌then◌else◌, count_by, nat_le}
 use Rattle.std.specs.Option.{is_some}
 use Rattle.std.specs.Str.{is_utf8}
 use Rattle.std.proofs.lemmas.Bool.{cases_Bool, cases_lt, leb-true}
-use Rattle.std.proofs.lemmas.List.{length-map, get_or-map, get_or_default, take-append-le}
+use Rattle.std.proofs.lemmas.List.{length-map, get_or-map, take-append-le}
 use Rattle.std.proofs.lemmas.List.FromFn.{get_or-map-range_with_len}
 use Rattle.std.proofs.lemmas.Str.{IsUtf8-from_is_utf8}
 use Rattle.vx_base.specs.Bits.{bool_at}
 use Rattle.vx_base.specs.Kinds.{Kind, is_nullable_kind}
 use Rattle.vx_base.specs.Rows.{null}
-use Rattle.vx_base.specs.Refusals.{Refusal, IsMemoryOr, refusal_of, mismatched_types, not_utf8, value_too_long}
+use Rattle.vx_base.specs.Refusals.{Refusal, mismatched_types, not_utf8, value_too_long}
 use Rattle.vx_base.specs.declared.errors.VortexError.{VortexError}
 use Rattle.vx_base.specs.declared.errors.VortexError.TheVariants.{Memory}
 use Rattle.vx_base.proofs.FirstFaults.{or_else-none, first_fault-none_at}
-use Rattle.vx_views.specs.BuildFaults.{IsPieceCount, numbering_fault}
 use Rattle.vx_views.specs.Faulty.{text_fault}
 use Rattle.vx_views.specs.Sound.{IsSoundView}
 use Rattle.vx_views.specs.Views.{view_of, view_value, view_size, view_prefix, padded, prefix_of}
@@ -29,11 +26,10 @@ use Rattle.vx_tree.specs.Validities.{valid_from}
 use Rattle.vx_tree.proofs.Validities.{valid_from-mask}
 use Rattle.vx_tree.proofs.ViewArrays.{empty_is_zeroes}
 use Rattle.vx_tree.proofs.Worked.{are_below, are_text}
-use Rattle.vx_tree.proofs.Dictionaries.{memory_only}
 use Rattle.vx_text.specs.TextFaults.{is_values, value_type_fault}
 use Rattle.vx_text.proofs.TextParts.{kind_of_values}
-use Rattle.vx_text.specs.Collected.{IsFirstFaulty, AreRefused}
-use Rattle.vx_text.specs.Items.{Item, item_at, heap_lens, value_of, valid_items, item_row, item_fault, items_fault, AreCut, IsArrayOf}
+use Rattle.vx_text.specs.Collected.{IsFirstFaulty, AreTooMany, AreRefused}
+use Rattle.vx_text.specs.Items.{Item, item_at, value_of, valid_items, item_row, item_fault, items_fault, AreCut, IsArrayOf}
 
 -- ---- items without a fault
 
@@ -42,7 +38,7 @@ pub record IsFaultless (u n : Bool) (item : Item) : Type 0 where
   pub short : length (value_of item) ≤ MAX_BUFFER_LEN
   pub text : IsTrue u → IsUtf8 (value_of item)
 
-no_fault : (b : Bool) (r : Refusal) → (if b then None else Some r) ≡ None → b ≡ true
+pub no_fault : (b : Bool) (r : Refusal) → (if b then None else Some r) ≡ None → b ≡ true
 no_fault true r none = refl
 no_fault false r none = cc
 
@@ -52,7 +48,7 @@ is_text u value row none on = elim (cases_Bool (is_utf8 value)) [
   | inr e ↦ let stands : text_fault u value row ≡ Some (not_utf8 row) = rw (on, e) refl in absurd (cc)
 ]
 
-faultless : (u n : Bool) (row : ℕ) (item : Item) → item_fault u n row item ≡ None → IsFaultless u n item
+pub faultless : (u n : Bool) (row : ℕ) (item : Item) → item_fault u n row item ≡ None → IsFaultless u n item
 unfolding are_below
 faultless u n row None none = record {
   there = λ plain. let possible = no_fault n _ none in absurd (cc);
@@ -163,9 +159,6 @@ items_array k items views buffers a none c e = record {
       ap (λ t. row_at t i) e ∙ row_of_item (is_valid_at (valid_items (is_nullable_kind k) (map is_some items)) i) (is_texts k) buffers (slice_index_or views i []) (item_at items i) (valid_item (is_nullable_kind k) items i l f.there) (c.read i l);
 }
 
-pub short_items : (u n : Bool) (items : List Item) → items_fault u n items ≡ None → All (λ item. length (value_of item) ≤ MAX_BUFFER_LEN) items
-short_items u n items none i d l = subst (λ item. length (value_of item) ≤ MAX_BUFFER_LEN) (get_or_default items i None d l) (faultless_at u n items none i l).short
-
 pub items_made : (k : Kind) (items : List Item) (views buffers : List (List ℕ)) (v : Valid) → is_values k ≡ true → items_fault (is_texts k) (is_nullable_kind k) items ≡ None → AreCut items buffers views
     → v ≡ valid_items (is_nullable_kind k) (map is_some items) → WellFormed (view_array views buffers k v)
 items_made k items views buffers v values none c e =
@@ -174,25 +167,8 @@ items_made k items views buffers v values none c e =
 pub no_type_fault : (k : Kind) → is_values k ≡ true → value_type_fault k ≡ None
 no_type_fault k values = ap (λ (b : Bool). if b then None else Some mismatched_types) values
 
--- ---- more buffers than can be numbered
-
-none_or_some : (o : Option Refusal) → (o ≡ None) ⊎ IsSome o
-none_or_some None = inl refl
-none_or_some (Some r) = inr refl
-
--- the first faulty item refuses items of a kind that has values, unless memory does
-pub refused_item : {S A : Type 0} (steps : S → Option A → S → Type 0) (s : S) (item : A → Item) (k : Kind) (e : VortexError) → value_type_fault k ≡ None
-    → (e ≡ Memory) ⊎ IsFirstFaulty steps s item k e → AreRefused steps s item k e
-refused_item steps s item k e values (inl memory) = inl memory
-refused_item steps s item k e values (inr faulty) = inr (inr (values, inl faulty))
-
-pub refused_buffers : {S A : Type 0} (steps : S → Option A → S → Type 0) (s : S) (item : A → Item) (k : Kind) (e : VortexError) (all : List A) → value_type_fault k ≡ None
-    → Drains steps s all → items_fault (is_texts k) (is_nullable_kind k) (map item all) ≡ None → (pieces : ℕ) × (IsPieceCount MAX_BUFFER_LEN (heap_lens (map item all)) pieces × IsMemoryOr (numbering_fault 0 pieces) e)
-    → AreRefused steps s item k e
-refused_buffers steps s item k e all values came none (pieces, (counted, inl memory)) = inl memory
-refused_buffers steps s item k e all values came none (pieces, (counted, inr same)) = by_refusal (none_or_some (refusal_of e))
-  where
-    by_refusal : (refusal_of e ≡ None) ⊎ IsSome (refusal_of e) → AreRefused steps s item k e
-    by_refusal (inl nothing) = inl (memory_only (refusal_of e) e nothing (inr refl))
-    by_refusal (inr some) =
-        inr (inr (values, inr (record { all = all; came = came; faultless = none; pieces = pieces; counted = counted; many = (some, same) })))
+-- what refuses items of a kind that has values
+pub refused_items : {S A : Type 0} (steps : S → Option A → S → Type 0) (s : S) (item : A → Item) (k : Kind) (e : VortexError) → value_type_fault k ≡ None
+    → (e ≡ Memory) ⊎ IsFirstFaulty steps s item k e ⊎ AreTooMany steps s item k e → AreRefused steps s item k e
+refused_items steps s item k e values (inl memory) = inl memory
+refused_items steps s item k e values (inr refused) = inr (inr (values, refused))

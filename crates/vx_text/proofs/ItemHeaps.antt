@@ -1,18 +1,14 @@
 -- The values that stand in buffers, one after another, and why building views of them has no other fault than that of too
 -- many buffers.
-use Rattle.std.proofs.Common.{ℕ, zero, suc, ◌+◌, ◌-◌, ◌<◌, ◌≤◌, ◌≡◌, List, [], ◌∷◌, ◌++◌, length, get_or, take, drop, map, Some, None, refl, sym, ◌∙◌, ap, add-one, arith, eq-eqb}
-use Rattle.std.specs.Prelude.{slice_range, sum, pos, if◌then◌else◌}
-use Rattle.std.specs.List.{All, flat_map}
+use Rattle.std.proofs.Common.{ℕ, zero, suc, ◌+◌, ◌-◌, ◌<◌, ◌≡◌, List, [], ◌∷◌, ◌++◌, length, get_or, take, drop, map, refl, sym, ◌∙◌, ap, add-one, arith}
+use Rattle.std.specs.Prelude.{slice_range, sum, pos}
+use Rattle.std.specs.List.{flat_map}
 use Rattle.std.proofs.Math.Seq.{drop-append-add, take-append_seam}
-use Rattle.std.proofs.lemmas.List.{length-map, get_or-map}
+use Rattle.std.proofs.lemmas.List.{get_or-map}
 use Rattle.std.proofs.lemmas.List.Sums.{sum-map, sum_by-cons}
 use Rattle.std.proofs.lemmas.List.Concat.{length-flat_map}
 use Rattle.vx_base.specs.Integers.{number_nth}
-use Rattle.vx_base.specs.Refusals.{lengths_not_exact}
-use Rattle.vx_base.proofs.FirstFaults.{first_fault-of_none}
-use Rattle.vx_views.specs.BuildFaults.{build_fault, lengths_of, negative_at, too_long_at, sum_fault, numbering_fault, first_negative, first_too_long}
-use Rattle.vx_views.specs.declared.view.TheConstants.{MAX_BUFFER_LEN}
-use Rattle.vx_views.proofs.NoFaults.{not_negative_at, not_too_long_at}
+use Rattle.vx_views.specs.BuildFaults.{lengths_of}
 
 -- ---- one of joined lists
 
@@ -49,15 +45,3 @@ lengths_back (n ∷ lens) = ap (λ ns. n ∷ ns) (lengths_back lens)
 
 pub number_at : (lens : List ℕ) (k : ℕ) → k < length lens → number_nth (map pos lens) k ≡ pos (get_or lens k 0)
 number_at lens k l = get_or-map pos lens k 0 (pos 0) l
-
--- lengths of a heap, none of them longer than a buffer, have no fault but that of too many buffers
-pub only_numbering : (heap_len : ℕ) (lens : List ℕ) (pieces : ℕ) → sum lens ≡ heap_len → All (λ n. n ≤ MAX_BUFFER_LEN) lens
-    → build_fault 0 MAX_BUFFER_LEN heap_len (map pos lens) pieces ≡ numbering_fault 0 pieces
-only_numbering heap_len lens pieces exact short =
-    let long : length (map pos lens) ≡ length lens = length-map lens pos in
-    let natural : first_negative (map pos lens) ≡ None =
-    first_fault-of_none (negative_at (map pos lens)) (length (map pos lens)) (λ k l. not_negative_at (map pos lens) k (get_or lens k 0) (number_at lens k (rw long at l))) in
-    let same : sum_fault heap_len (map pos lens) ≡ None = ap (λ e. if e then None else Some lengths_not_exact) (eq-eqb (sum (lengths_of (map pos lens))) heap_len (ap sum (lengths_back lens) ∙ exact)) in
-    let fits : first_too_long MAX_BUFFER_LEN (map pos lens) ≡ None =
-    first_fault-of_none (too_long_at MAX_BUFFER_LEN (map pos lens)) (length (map pos lens)) (λ k l. not_too_long_at MAX_BUFFER_LEN (map pos lens) k (get_or lens k 0) (number_at lens k (rw long at l)) (short k 0 (rw long at l))) in
-    rw (natural, same, fits) refl

@@ -1,20 +1,25 @@
 -- The views of items: those that hold their values, and those of the values in buffers.
-use Rattle.std.proofs.Common.{ℕ, ◌+◌, ◌<◌, ◌≤◌, ◌≡◌, Bool, true, false, List, [], ◌∷◌, ◌++◌, length, None, refl, sym, ◌∙◌, ap, subst, inl, inr, zero-add, append-nil, eq-eqb, arith}
+use Rattle.std.proofs.Common.{ℕ, ◌+◌, ◌<◌, ◌≤◌, ◌≡◌, Bool, true, false, List, [], ◌∷◌, ◌++◌, length, map, None, refl, sym, ◌∙◌, ap, subst, inl, inr, ⊎_elim, zero-add, eq-eqb, arith}
 use Rattle.std.specs.Prelude.{slice_index_or, if◌then◌else◌, ◌==◌}
-use Rattle.std.specs.Option.{is_some}
-use Rattle.std.proofs.lemmas.Bool.{cases_Bool, leb-true, leb-false}
+use Rattle.std.proofs.lemmas.Bool.{cases_Bool, cases_lt, leb-true, leb-false}
 use Rattle.std.proofs.lemmas.Bool.Decides.{eqb_tells}
-use Rattle.std.proofs.lemmas.List.{length-map, get_or-map, map-append}
-use Rattle.std.proofs.lemmas.Grind.{flat_map-append}
-use Rattle.vx_views.specs.Cut.{IsMaximalCut}
-use Rattle.vx_views.specs.Places.{AreBuilt, ReadBack, value_at, pieces_of, place_of, piece_of, offset_of}
+use Rattle.std.proofs.lemmas.List.{length-map, length_push, get_or-map, get_or_append_left, get_or_push}
+use Rattle.vx_views.specs.Places.{AreBuilt, ReadBack, value_at, place_of, piece_of, offset_of}
 use Rattle.vx_views.specs.Views.{view_of}
 use Rattle.vx_views.specs.declared.view.TheConstants.{MAX_INLINED_SIZE, MAX_BUFFER_LEN}
 use Rattle.vx_views.proofs.Places.{ReadsAs, view_of-reads, view_of_short}
-use Rattle.vx_text.specs.Items.{Item, item_at, value_of, is_short, held_part, heap_part, heap_of, heap_lens, item_view, AreGathered, AreCut}
+use Rattle.vx_text.specs.Items.{Item, item_at, value_of, is_short, heap_part, heap_of, heap_lens, item_view, AreCut}
 use Rattle.vx_text.proofs.ItemHeaps.{part_at}
 
 -- ---- one item
+
+-- the bytes that the view of an item holds
+abbrev pub held_part : Item → List ℕ
+held_part item = if is_short item then value_of item else []
+
+-- the view that holds them, for each item
+abbrev pub held_views : List Item → List (List ℕ)
+held_views items = map (λ item. view_of (held_part item) 0 0) items
 
 -- where a view holds the value: its bytes are those, and none stand in a buffer
 pub record IsHeld (item : Item) : Type 0 where
@@ -42,24 +47,6 @@ is_long item e = record {
   rest = ap (λ (b : Bool). if b then [] else value_of item) e;
 }
 
--- ---- one item more
-
-pub gathered_more : (items : List Item) (item : Item) (heap more_heap lens more_lens : List ℕ) (views more_views : List (List ℕ)) (present more_present : List Bool)
-    → more_heap ≡ heap ++ heap_part item → more_lens ≡ lens ++ length (heap_part item) ∷ [] → more_views ≡ views ++ view_of (held_part item) 0 0 ∷ [] → more_present ≡ present ++ is_some item ∷ []
-    → AreGathered items heap lens views present → AreGathered (items ++ item ∷ []) more_heap more_lens more_views more_present
-gathered_more items item heap more_heap lens more_lens views more_views present more_present h l v p g = record {
-  heap_is = h ∙ ap (λ bytes. bytes ++ heap_part item) g.heap_is ∙ sym (joined_more item items);
-  lens_are = l ∙ ap (λ ns. ns ++ length (heap_part item) ∷ []) g.lens_are ∙ sym (map-append (λ x. length (heap_part x)) items (item ∷ []));
-  views_are = v ∙ ap (λ vs. vs ++ view_of (held_part item) 0 0 ∷ []) g.views_are ∙ sym (map-append (λ x. view_of (held_part x) 0 0) items (item ∷ []));
-  present_are = p ∙ ap (λ bs. bs ++ is_some item ∷ []) g.present_are ∙ sym (map-append is_some items (item ∷ []));
-}
-  where
-    joined_more : (item : Item) (items : List Item) → heap_of (items ++ item ∷ []) ≡ heap_of items ++ heap_part item
-    joined_more item items = flat_map-append heap_part items (item ∷ []) ∙ ap (λ bytes. heap_of items ++ bytes) (append-nil (heap_part item))
-
-pub none_gathered : AreGathered [] [] [] [] []
-none_gathered = record { heap_is = refl; lens_are = refl; views_are = refl; present_are = refl }
-
 -- ---- views that are put in their places
 
 not_zero : (n : ℕ) → 0 < n → (n == 0) ≡ false
@@ -73,44 +60,60 @@ abbrev pub ArePut : List ℕ → List (List ℕ) → List (List ℕ) → List (L
 ArePut lens held placed views =
     (i : ℕ) → i < length held → slice_index_or views i [] ≡ (if slice_index_or lens i 0 == 0 then slice_index_or held i [] else slice_index_or placed i [])
 
-module _ (items : List Item) (heap lens : List ℕ) (held placed views buffers : List (List ℕ)) (present : List Bool)
-    (g : AreGathered items heap lens held present) (built : AreBuilt 0 MAX_BUFFER_LEN heap lens buffers placed)
-    (back : ReadBack 0 (value_at heap lens) buffers placed) (put : ArePut lens held placed views) (i : ℕ) (l : i < length items) where
-  held_in : i < length held
-  held_in = omega (arith, ap length g.views_are, length-map items (λ x. view_of (held_part x) 0 0))
+-- one more
+pub put_more : (lens : List ℕ) (held placed views : List (List ℕ)) (n : ℕ) (one_held one_placed view : List ℕ) → length lens ≡ length held → length placed ≡ length held → length views ≡ length held
+    → view ≡ (if n == 0 then one_held else one_placed) → ArePut lens held placed views → ArePut (lens ++ n ∷ []) (held ++ one_held ∷ []) (placed ++ one_placed ∷ []) (views ++ view ∷ [])
+put_more lens held placed views n one_held one_placed view a b c is put i l = ⊎_elim
+    (λ (less : i < length held).
+    get_or_append_left views (view ∷ []) [] i (omega (arith, c)) ∙ put i less
+    ∙ sym ((λ j. if get_or_append_left lens (n ∷ []) 0 i (omega (arith, a)) j == 0 then get_or_append_left held (one_held ∷ []) [] i less j else get_or_append_left placed (one_placed ∷ []) [] i (omega (arith, b)) j)))
+    (λ (ge : length held ≤ i).
+    let here : length held ≡ i = omega (arith, length_push held one_held) in
+    get_or_push views view [] i (c ∙ here) ∙ is
+    ∙ sym ((λ j. if get_or_push lens n 0 i (a ∙ here) j == 0 then get_or_push held one_held [] i here j else get_or_push placed one_placed [] i (b ∙ here) j)))
+    (cases_lt i (length held))
 
-  lens_in : i < length lens
-  lens_in = omega (arith, ap length g.lens_are, length-map items (λ x. length (heap_part x)))
+pub held_of_short : (n : ℕ) (one_held one_placed : List ℕ) → n ≡ 0 → one_held ≡ (if n == 0 then one_held else one_placed)
+held_of_short n one_held one_placed e = sym (ap (λ (b : Bool). if b then one_held else one_placed) (eq-eqb n 0 e))
+
+pub placed_of_long : (n : ℕ) (one_held one_placed : List ℕ) → 0 < n → one_placed ≡ (if n == 0 then one_held else one_placed)
+placed_of_long n one_held one_placed h = sym (ap (λ (b : Bool). if b then one_held else one_placed) (not_zero n h))
+
+module _ (items : List Item) (placed views buffers : List (List ℕ)) (built : AreBuilt 0 MAX_BUFFER_LEN (heap_of items) (heap_lens items) buffers placed)
+    (back : ReadBack 0 (value_at (heap_of items) (heap_lens items)) buffers placed) (put : ArePut (heap_lens items) (held_views items) placed views) (i : ℕ) (l : i < length items) where
+  held_in : i < length (held_views items)
+  held_in = omega (arith, length-map items (λ x. view_of (held_part x) 0 0))
+
+  lens_in : i < length (heap_lens items)
+  lens_in = omega (arith, length-map items (λ x. length (heap_part x)))
 
   placed_in : i < length placed
   placed_in = omega (arith, built.one_each, lens_in)
 
-  held_is : slice_index_or held i [] ≡ view_of (held_part (item_at items i)) 0 0
-  held_is = ap (λ (vs : List (List ℕ)). slice_index_or vs i []) g.views_are ∙ get_or-map (λ x. view_of (held_part x) 0 0) items i None [] l
+  held_is : slice_index_or (held_views items) i [] ≡ view_of (held_part (item_at items i)) 0 0
+  held_is = get_or-map (λ x. view_of (held_part x) 0 0) items i None [] l
 
-  len_is : slice_index_or lens i 0 ≡ length (heap_part (item_at items i))
-  len_is = ap (λ (ns : List ℕ). slice_index_or ns i 0) g.lens_are ∙ get_or-map (λ x. length (heap_part x)) items i None 0 l
+  len_is : slice_index_or (heap_lens items) i 0 ≡ length (heap_part (item_at items i))
+  len_is = get_or-map (λ x. length (heap_part x)) items i None 0 l
 
-  value_is : value_at heap lens i ≡ heap_part (item_at items i)
-  value_is = (λ j. value_at (g.heap_is j) (g.lens_are j) i) ∙ part_at heap_part items i None l
+  value_is : value_at (heap_of items) (heap_lens items) i ≡ heap_part (item_at items i)
+  value_is = part_at heap_part items i None l
 
   view_held : IsHeld (item_at items i) → slice_index_or views i [] ≡ view_of (value_of (item_at items i)) 0 0
   view_held h =
-      let none : (slice_index_or lens i 0 == 0) ≡ true = eq-eqb (slice_index_or lens i 0) 0 (len_is ∙ ap length h.rest) in
-      put i held_in ∙ ap (λ (b : Bool). if b then slice_index_or held i [] else slice_index_or placed i []) none ∙ held_is ∙ ap (λ v. view_of v 0 0) h.held
+      put i held_in ∙ sym (held_of_short (slice_index_or (heap_lens items) i 0) (slice_index_or (held_views items) i []) (slice_index_or placed i []) (len_is ∙ ap length h.rest))
+      ∙ held_is ∙ ap (λ v. view_of v 0 0) h.held
 
   view_long : IsLong (item_at items i) → slice_index_or views i [] ≡ slice_index_or placed i []
   view_long h =
-      let some : (slice_index_or lens i 0 == 0) ≡ false = not_zero (slice_index_or lens i 0) (omega (arith, len_is ∙ ap length h.rest, h.long)) in
-      put i held_in ∙ ap (λ (b : Bool). if b then slice_index_or held i [] else slice_index_or placed i []) some
+      put i held_in ∙ sym (placed_of_long (slice_index_or (heap_lens items) i 0) (slice_index_or (held_views items) i []) (slice_index_or placed i []) (omega (arith, len_is ∙ ap length h.rest, h.long)))
 
   placed_is : IsLong (item_at items i) → slice_index_or placed i [] ≡ item_view items built.ends i
   placed_is h =
       let value = value_of (item_at items i) in
       let ends = built.ends in
       built.each i lens_in
-      ∙ ap (λ v. view_of v (0 + piece_of ends (place_of lens i)) (offset_of ends (place_of lens i))) (value_is ∙ h.rest)
-      ∙ ap (λ ns. view_of value (0 + piece_of ends (place_of ns i)) (offset_of ends (place_of ns i))) g.lens_are
+      ∙ ap (λ v. view_of v (0 + piece_of ends (place_of (heap_lens items) i)) (offset_of ends (place_of (heap_lens items) i))) (value_is ∙ h.rest)
       ∙ ap (λ p. view_of value p (offset_of ends (place_of (heap_lens items) i))) (zero-add (piece_of ends (place_of (heap_lens items) i)))
 
   pub view_each : slice_index_or views i [] ≡ item_view items built.ends i
@@ -134,17 +137,16 @@ module _ (items : List Item) (heap lens : List ℕ) (held placed views buffers :
 
 -- ---- all of them
 
-pub are_cut : (items : List Item) (heap lens : List ℕ) (held placed views buffers : List (List ℕ)) (present : List Bool)
-    → AreGathered items heap lens held present → AreBuilt 0 MAX_BUFFER_LEN heap lens buffers placed → ReadBack 0 (value_at heap lens) buffers placed
-    → ArePut lens held placed views → length views ≡ length held → AreCut items buffers views
-are_cut items heap lens held placed views buffers present g built back put long =
+pub are_cut : (items : List Item) (placed views buffers : List (List ℕ)) → AreBuilt 0 MAX_BUFFER_LEN (heap_of items) (heap_lens items) buffers placed → ReadBack 0 (value_at (heap_of items) (heap_lens items)) buffers placed
+    → ArePut (heap_lens items) (held_views items) placed views → length views ≡ length items → AreCut items buffers views
+are_cut items placed views buffers built back put count =
     record {
       ends = built.ends;
-      cut = subst (λ ns. IsMaximalCut MAX_BUFFER_LEN ns built.ends) g.lens_are built.cut;
-      pieces = built.pieces ∙ ap (λ h. pieces_of h 0 built.ends) g.heap_is;
+      cut = built.cut;
+      pieces = built.pieces;
       numbered = omega (arith, built.numbered);
-      one_each = long ∙ ap length g.views_are ∙ length-map items (λ x. view_of (held_part x) 0 0);
-      each = λ i l. view_each items heap lens held placed views buffers present g built back put i l;
-      resolve = λ i l. (view_reads items heap lens held placed views buffers present g built back put i l).resolves;
-      read = λ i l. (view_reads items heap lens held placed views buffers present g built back put i l).reads;
+      one_each = count;
+      each = λ i l. view_each items placed views buffers built back put i l;
+      resolve = λ i l. (view_reads items placed views buffers built back put i l).resolves;
+      read = λ i l. (view_reads items placed views buffers built back put i l).reads;
     }

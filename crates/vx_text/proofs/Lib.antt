@@ -1,7 +1,8 @@
 mod TextParts
 mod ItemHeaps
 mod ItemViews
-mod ItemCuts
+mod Fills
+mod FilledItems
 mod ItemArrays
 mod ItemFaults
 mod HeapCounts

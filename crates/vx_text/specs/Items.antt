@@ -32,10 +32,7 @@ value_of item = unwrap_or item []
 abbrev pub is_short : Item → Bool
 is_short item = nat_le (length (value_of item)) MAX_INLINED_SIZE
 
--- the bytes that the view of an item holds, and those that stand in a buffer
-abbrev pub held_part : Item → List ℕ
-held_part item = if is_short item then value_of item else []
-
+-- the bytes of an item that stand in a buffer
 abbrev pub heap_part : Item → List ℕ
 heap_part item = if is_short item then [] else value_of item
 
@@ -52,14 +49,6 @@ abbrev pub item_view : List Item → List ℕ → ℕ → List ℕ
 item_view items ends i =
     let place = place_of (heap_lens items) i in
     view_of (value_of (item_at items i)) (piece_of ends place) (offset_of ends place)
-
--- what items become before their buffers are cut: the bytes for these, how many each item has of them, the views of what
--- views hold, and which items are there
-pub record AreGathered (items : List Item) (heap lens : List ℕ) (views : List (List ℕ)) (present : List Bool) : Type 0 where
-  pub heap_is : heap ≡ heap_of items
-  pub lens_are : lens ≡ heap_lens items
-  pub views_are : views ≡ map (λ item. view_of (held_part item) 0 0) items
-  pub present_are : present ≡ map is_some items
 
 -- the buffers are the pieces of the maximal cut of the values that their views do not hold, numbered from 0 within u32;
 -- each view is that of its item, whose value it reads

@@ -1,23 +1,20 @@
 // Arrays of the texts and byte lists that iterators give.
 
-ghost use Rattle.std.specs.Prelude.{◌≡◌, ◌<◌, ◌≤◌, ◌==◌, ℕ, List, [], true, false, length, IfOk, IfErr, slice_index_or, if◌then◌else◌};
-ghost use Rattle.std.specs.List.{All};
+ghost use Rattle.std.specs.Prelude.{◌≡◌, true, false, IfOk, IfErr};
 ghost use Rattle.std.specs.Iterator.{IsFinite};
 ghost use Rattle.vx_base.specs.DTypes.{dtype_meaning, is_nullable};
 ghost use Rattle.vx_base.specs.Kinds.{texts, binaries};
-ghost use Rattle.vx_base.specs.Refusals.{Gives, Refuses};
-ghost use Rattle.vx_views.specs.BuildFaults.{IsPieceCount, numbering_fault};
+ghost use Rattle.vx_base.specs.Refusals.{Gives};
 ghost use Rattle.vx_tree.specs.Parts.{valid_of};
-ghost use Rattle.vx_text.specs.Items.{Item as ItemValue, AreCut, AreGathered, heap_lens, valid_items, value_of};
+ghost use Rattle.vx_text.specs.Items.{valid_items};
 ghost use Rattle.vx_text.specs.Collected.{some_value, maybe_value, IsCollected, AreRefused};
 
-use crate::items::{Gathered, Item, gather};
+use crate::items::{Item, gather};
 use crate::var_bin_view::VarBinViewArray;
 use crate::view_parts::has_values;
 use std::alloc::Global;
-use vx_base::{BitBuffer, Buffer, ByteBuffer, DType, Nullability, VortexError};
+use vx_base::{BitBuffer, DType, Nullability, VortexError};
 use vx_tree::{ArrayRef, TypedArray, Validity};
-use vx_views::{BinaryView, MAX_BUFFER_LEN, build_views};
 
 impl VarBinViewArray {
     /// The array of the items, null where there is none: texts or byte lists by the data type.
@@ -122,44 +119,8 @@ fn array_of_items<T: Item + Drop, I: Iterator<Item = T> + Drop>(
     }
     let all = gather(alloc, items, &dtype)?;
     let validity = validity_of(alloc, &all.present, dtype.nullability())?;
-    let (buffers, views) = cut(alloc, all)?;
-    let array = ArrayRef::var_bin_view(alloc, views, buffers, dtype, validity)?;
+    let array = ArrayRef::var_bin_view(alloc, all.views, all.buffers, dtype, validity)?;
     Ok(VarBinViewArray::from_array(array))
-}
-
-// The buffers of items that were gathered, and their views.
-fn cut(alloc: Global, all: Gathered) -> Result<(Vec<ByteBuffer>, Buffer<BinaryView>), VortexError>
-    requires { length all.views.items ≡ length all.lens.items }
-    ensures ok { IfOk result (λ made. (items : List ItemValue)
-        → AreGathered items all.heap.items all.lens.items all.views.items all.present.items
-        → All (λ item. length (value_of item) ≤ MAX_BUFFER_LEN) items
-        → AreCut items made.0.items made.1) }
-    ensures refuses { (items : List ItemValue)
-        → AreGathered items all.heap.items all.lens.items all.views.items all.present.items
-        → All (λ item. length (value_of item) ≤ MAX_BUFFER_LEN) items
-        → (pieces : ℕ) × (IsPieceCount MAX_BUFFER_LEN (heap_lens items) pieces
-        × Refuses result (numbering_fault 0 pieces)) }
-{
-    let heap = ByteBuffer::from_vec(alloc, all.heap)?;
-    let (buffers, placed) = build_views(alloc, 0, MAX_BUFFER_LEN, heap, &all.lens)?;
-    let mut views = all.views;
-    put_placed(&mut views, placed.as_slice(), &all.lens);
-    Ok((buffers, Buffer::from_vec(alloc, views)?))
-}
-
-// Puts the views of the values that stand in buffers in the place of the others.
-fn put_placed(views: &mut [BinaryView], placed: &[BinaryView], lens: &[u64])
-    requires placed { length placed.now ≡ length views.old }
-    requires lens { length lens.now ≡ length views.old }
-    ensures len { length views.new ≡ length views.old }
-    ensures each { (i : ℕ) → i < length views.old → slice_index_or views.new i []
-        ≡ (if slice_index_or lens.now i 0 == 0 then slice_index_or views.old i [] else slice_index_or placed.now i []) }
-{
-    for row in 0..views.len() {
-        if lens[row] > 0 {
-            views[row] = placed[row];
-        }
-    }
 }
 
 // Which items are there, where null may stand.

@@ -1,20 +1,21 @@
-// Items that iterators give: values that may be none, each read once, before their buffers are cut.
+// Items that iterators give: values that may be none, each looked at once, as it comes.
 
-ghost use Rattle.std.specs.Prelude.{◌≡◌, ◌⊎◌, ◌<◌, ◌^◌, ◌∷◌, ◌++◌, [], List, None, length, map, IfOk, IfErr, true, IsTrue, IsUtf8, ◌↔◌};
+ghost use Rattle.std.specs.Prelude.{◌≡◌, ◌⊎◌, ◌∷◌, ◌++◌, [], List, None, map, IfOk, IfErr, true, IsTrue, IsUtf8, ◌↔◌};
 ghost use Rattle.std.specs.Iterator.{IsFinite, Drains};
+ghost use Rattle.std.specs.Option.{is_some};
 ghost use Rattle.vx_base.specs.DTypes.{dtype_meaning};
 ghost use Rattle.vx_base.specs.Kinds.{is_nullable_kind};
 ghost use Rattle.vx_base.specs.Refusals.{Gives, Tests};
 ghost use Rattle.vx_base.specs.declared.errors.VortexError.TheVariants.{Memory};
-ghost use Rattle.vx_views.specs.Faulty.{text_fault};
 ghost use Rattle.vx_tree.specs.Meaning.{is_texts};
-ghost use Rattle.vx_text.specs.Items.{Item as ItemValue, item_fault, items_fault, value_of, AreGathered};
-ghost use Rattle.vx_text.specs.Collected.{some_value, maybe_value, IsFirstFaulty};
+ghost use Rattle.vx_text.specs.Items.{Item as ItemValue, item_fault, items_fault, value_of, valid_items, AreCut};
+ghost use Rattle.vx_text.specs.Collected.{some_value, maybe_value, IsFirstFaulty, AreTooMany};
 
+use crate::filling::Filling;
 use crate::view_parts::is_utf8;
 use std::alloc::Global;
-use vx_base::{DType, VortexError};
-use vx_views::{BinaryView, MAX_BUFFER_LEN, MAX_INLINED_SIZE};
+use vx_base::{Buffer, ByteBuffer, DType, VortexError};
+use vx_views::{BinaryView, MAX_BUFFER_LEN};
 
 // What an iterator gives for a row.
 pub(crate) trait Item {
@@ -23,6 +24,10 @@ pub(crate) trait Item {
     // The value, where there is one.
     fn bytes(&self) -> Option<&[u8]>
         ensures { maybe_value result ≡ item self.now };
+
+    // Whether the value is text, as no bytes are.
+    fn is_text(&self) -> bool
+        ensures { IsTrue result ↔ IsUtf8 (value_of (item self.now)) };
 }
 
 impl<'a> Item for &'a [u8] {
@@ -31,6 +36,10 @@ impl<'a> Item for &'a [u8] {
     fn bytes(&self) -> Option<&[u8]> {
         Some(*self)
     }
+
+    fn is_text(&self) -> bool {
+        std::str::from_utf8(self).is_ok()
+    }
 }
 
 impl<'a> Item for &'a str {
@@ -38,6 +47,10 @@ impl<'a> Item for &'a str {
 
     fn bytes(&self) -> Option<&[u8]> {
         Some(self.as_bytes())
+    }
+
+    fn is_text(&self) -> bool {
+        str_is_text(self)
     }
 }
 
@@ -48,6 +61,13 @@ impl<'a> Item for Option<&'a [u8]> {
         match self {
             Some(value) => Some(*value),
             None => None,
+        }
+    }
+
+    fn is_text(&self) -> bool {
+        match self {
+            Some(value) => std::str::from_utf8(value).is_ok(),
+            None => true,
         }
     }
 }
@@ -61,45 +81,35 @@ impl<'a> Item for Option<&'a str> {
             None => None,
         }
     }
-}
 
-// What items become before their buffers are cut.
-#[derive(Drop)]
-pub(crate) struct Gathered {
-    // The values that their views do not hold, one after another.
-    pub heap: Vec<u8>,
-    // How many bytes of them each item has.
-    pub lens: Vec<u64>,
-    // The views that hold their values; of the other items the view of no bytes.
-    pub views: Vec<BinaryView>,
-    // Which items are there.
-    pub present: Vec<bool>,
-}
-
-impl Gathered {
-    // One item more.
-    fn push(&mut self, item: Option<&[u8]>) -> Result<(), VortexError>
-        requires { length (value_of (maybe_value item)) < 2 ^ 32 }
-        ensures { Gives result (λ _. (items : List ItemValue)
-            → AreGathered items self.old.heap.items self.old.lens.items self.old.views.items self.old.present.items
-            → AreGathered (items ++ maybe_value item.entry ∷ []) self.new.heap.items self.new.lens.items
-            self.new.views.items self.new.present.items) }
-    {
-        self.present.push(item.is_some())?;
-        let value = item.unwrap_or(&[]);
-        if value.len() <= MAX_INLINED_SIZE {
-            self.lens.push(0)?;
-            self.views.push(BinaryView::new_inlined(value))?;
-        } else {
-            self.lens.push(value.len() as u64)?;
-            self.views.push(BinaryView::empty_view())?;
-            self.heap.extend_from_slice(value)?;
+    fn is_text(&self) -> bool {
+        match self {
+            Some(value) => str_is_text(value),
+            None => true,
         }
-        Ok(())
     }
 }
 
-// The items, up to the first that is faulty.
+// Whether a `str` is text: its type says so, and no byte is looked at.
+fn str_is_text(text: &str) -> bool
+    ensures { IsTrue result ↔ IsUtf8 text.now }
+{
+    true
+}
+
+// Items in buffers.
+#[derive(Drop)]
+pub(crate) struct Gathered {
+    // The values that no view holds.
+    pub buffers: Vec<ByteBuffer>,
+    // The view of each item.
+    pub views: Buffer<BinaryView>,
+    // Which items are there, where null may stand.
+    pub present: Vec<bool>,
+}
+
+// The items in as few buffers as can be; none where one of them is faulty, or the buffers cannot be
+// numbered.
 pub(crate) fn gather<T: Item + Drop, I: Iterator<Item = T> + Drop>(
     alloc: Global,
     items: I,
@@ -109,65 +119,55 @@ pub(crate) fn gather<T: Item + Drop, I: Iterator<Item = T> + Drop>(
     requires ends { IsFinite (I.remaining items) }
     ensures ok { IfOk result (λ all. (xs : List T) × Drains I.next_gives items xs
         × (items_fault (is_texts (dtype_meaning dtype.now)) (is_nullable_kind (dtype_meaning dtype.now)) (map T.item xs) ≡ None)
-        × AreGathered (map T.item xs) all.heap.items all.lens.items all.views.items all.present.items) }
+        × AreCut (map T.item xs) all.buffers.items all.views
+        × (valid_items (is_nullable_kind (dtype_meaning dtype.now)) all.present.items
+        ≡ valid_items (is_nullable_kind (dtype_meaning dtype.now)) (map is_some (map T.item xs)))) }
     ensures err { IfErr result (λ e. (e ≡ Memory)
-        ⊎ IsFirstFaulty I.next_gives items T.item (dtype_meaning dtype.now) e) }
+        ⊎ IsFirstFaulty I.next_gives items T.item (dtype_meaning dtype.now) e
+        ⊎ AreTooMany I.next_gives items T.item (dtype_meaning dtype.now) e) }
 {
     let (is_text, is_nullable) = (is_utf8(dtype), dtype.is_nullable());
-    let mut all = Gathered {
-        heap: Vec::new(alloc),
-        lens: Vec::new(alloc),
-        views: Vec::new(alloc),
-        present: Vec::new(alloc),
-    };
+    let mut filling = Filling::new(alloc);
+    let mut present = Vec::new(alloc);
     for item in items {
+        check_item(&item, filling.views.len(), is_text, is_nullable)?;
         let value = item.bytes();
-        check_item(value, all.lens.len(), is_text, is_nullable)?;
-        all.push(value)?;
+        mark(&mut present, value.is_some(), is_nullable)?;
+        filling.push(alloc, value.unwrap_or(&[]))?;
     }
-    Ok(all)
+    let (buffers, views) = filling.finish(alloc)?;
+    Ok(Gathered {
+        buffers,
+        views,
+        present,
+    })
 }
 
 // Refuses an item: none where no null may stand, a value longer than a buffer may be, or one that
 // is no text where text is asked.
-fn check_item(
-    item: Option<&[u8]>,
+fn check_item<T: Item>(
+    item: &T,
     row: usize,
     is_text: bool,
     is_nullable: bool,
 ) -> Result<(), VortexError>
-    ensures { Tests result (item_fault is_text is_nullable row (maybe_value item.entry)) }
+    ensures { Tests result (item_fault is_text is_nullable row (T.item item.now)) }
 {
-    match item {
-        Some(value) => check_value(value, row, is_text),
-        None if is_nullable => Ok(()),
-        None => Err(VortexError::HasNulls),
+    match item.bytes() {
+        Some(value) if value.len() > MAX_BUFFER_LEN => Err(VortexError::ValueTooLong { row }),
+        Some(_) if is_text && !item.is_text() => Err(VortexError::NotUtf8 { row }),
+        None if !is_nullable => Err(VortexError::HasNulls),
+        _ => Ok(()),
     }
 }
 
-// The same of a value.
-fn check_value(value: &[u8], row: usize, is_text: bool) -> Result<(), VortexError>
-    ensures { Tests result (item_fault is_text true row (Some value.now)) }
+// Marks whether an item is there, where null may stand.
+fn mark(present: &mut Vec<bool>, is_there: bool, is_nullable: bool) -> Result<(), VortexError>
+    ensures { Gives result (λ _. is_nullable ≡ true
+        → present.new.items ≡ present.old.items ++ is_there ∷ []) }
 {
-    if value.len() > MAX_BUFFER_LEN {
-        return Err(VortexError::ValueTooLong { row });
-    }
-    check_text(value, row, is_text)
-}
-
-// Refuses a value that is no text, where text is asked.
-fn check_text(value: &[u8], row: usize, is_text: bool) -> Result<(), VortexError>
-    ensures { Tests result (text_fault is_text value.now row) }
-{
-    if is_text && !is_utf8_text(value) {
-        return Err(VortexError::NotUtf8 { row });
+    if is_nullable {
+        present.push(is_there)?;
     }
     Ok(())
-}
-
-// Whether a value is text.
-fn is_utf8_text(value: &[u8]) -> bool
-    ensures { IsTrue result ↔ IsUtf8 value.now }
-{
-    std::str::from_utf8(value).is_ok()
 }

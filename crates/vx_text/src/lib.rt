@@ -2,6 +2,7 @@
 #![tactic(auto)]
 
 mod data_from_items;
+mod filling;
 mod from_items;
 mod items;
 mod rebuffer;

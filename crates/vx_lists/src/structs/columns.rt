@@ -126,7 +126,7 @@ impl StructArray {
 fn names_and(alloc: Global, names: &FieldNames, name: &str) -> Result<FieldNames, VortexError>
     ensures { Gives result (λ more. more ≡ names.now ++ name.now ∷ []) }
 {
-    let mut texts = Vec::with_capacity(alloc, names.len())?;
+    let mut texts = Vec::with_capacity(alloc, names.len().saturating_add(1))?;
     for i in 0..names.len() {
         texts.push(names.get(i).as_str())?;
     }
@@ -142,7 +142,8 @@ fn columns_and(
 ) -> Result<Vec<ArrayRef>, VortexError>
     ensures { Gives result (λ more. more.items ≡ columns.now ++ column ∷ []) }
 {
-    let mut more = shared_columns(alloc, columns)?;
+    let mut more = Vec::with_capacity(alloc, columns.len() + 1)?;
+    share_columns(alloc, columns, &mut more)?;
     more.push(column)?;
     Ok(more)
 }
