@@ -1,10 +1,11 @@
 // Constants of more rows than memory could hold.
 
-use super::columns::{has_numbers, ints, zeros};
+use super::columns::zeros;
 use std::alloc::Global;
 use std::test::Fail;
-use vx_base::{BitBuffer, DType, Nullability, PType, Scalar, VortexError};
+use vx_base::{DType, Nullability, PType, Scalar, VortexError};
 use vx_leaves::DictArray;
+use vx_test_help::{bools, has_numbers, ints};
 use vx_tree::{ArrayRef, TypedArray, Validity};
 
 // Half of the rows that can be counted, and one more than half of the greatest count.
@@ -21,9 +22,7 @@ fn truths(alloc: Global, value: bool) -> Result<ArrayRef, VortexError> {
 // A code into null and 6, so many times.
 fn dictionary(alloc: Global) -> Result<ArrayRef, VortexError> {
     let values = ints::<i8>(alloc, &[5, 6])?;
-    let bits = BitBuffer::from_bools(alloc, &[false, true])?;
-    let mask = ArrayRef::bools(alloc, bits, Validity::NonNullable)?;
-    let values = values.mask(alloc, &mask)?;
+    let values = values.mask(alloc, &bools(alloc, &[false, true])?)?;
     Ok(DictArray::try_new(alloc, zeros(alloc, MANY)?, values)?.into_array())
 }
 

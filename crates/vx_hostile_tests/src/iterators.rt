@@ -7,34 +7,8 @@ mod texts;
 use std::test::Fail;
 use vx_base::{BitBuffer, Mask, Nullability};
 use vx_leaves::{BoolArray, BoolArrayExt, PrimitiveArray, PrimitiveArrayExt};
+use vx_test_help::Boasting;
 use vx_tree::Validity;
-
-// The items of an iterator, under a hint that they are as many as can be counted.
-#[derive(Drop)]
-struct Boasting<I> {
-    items: I,
-}
-
-impl<I: Iterator> Iterator for Boasting<I> {
-    type Item = I::Item;
-
-    ghost use Rattle.std.specs.Prelude.{◌+◌, ◌^◌};
-    ghost use Rattle.std.specs.Iterator.{count_map};
-
-    ghost can_next = { λ s. I.can_next s.items };
-
-    ghost next_gives = { λ s item t. I.next_gives s.items item t.items };
-
-    ghost remaining = { λ s. count_map (λ n. 2 ^ 64 + n) (I.remaining s.items) };
-
-    fn next(&mut self) -> Option<I::Item> {
-        self.items.next()
-    }
-
-    fn size_hint(&self) -> (usize, Option<usize>) {
-        (usize::MAX, None)
-    }
-}
 
 #[test]
 fn numbers(rt: HostRuntime) {

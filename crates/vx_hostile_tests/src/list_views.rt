@@ -1,10 +1,11 @@
 // List views whose offsets and sizes lead past their elements, or below them.
 
-use super::columns::{ints, validity_of, zeros};
+use super::columns::zeros;
 use std::alloc::Global;
 use std::test::Fail;
 use vx_base::{NativePType, Nullability, PType, Scalar, VortexError};
 use vx_lists::{ListViewArray, ListViewArrayExt, ListViewData};
+use vx_test_help::{ints, valid_where};
 use vx_tree::{ArrayRef, Validity};
 
 // The greatest offset that there is.
@@ -64,7 +65,7 @@ fn a_negative_size(rt: HostRuntime) {
 #[test]
 fn a_null_list_past_the_elements(rt: HostRuntime) {
     let three = zeros(rt.alloc(), 3).expect(&rt, "made");
-    let null = validity_of(rt.alloc(), &[false]).expect(&rt, "made");
+    let null = valid_where(rt.alloc(), &[false]).expect(&rt, "made");
     let fault = fault_of::<u8>(rt.alloc(), three, &[2], &[2], null).expect(&rt, "made");
     assert!(rt; matches!(fault, Some(VortexError::OutOfBounds { index: 4, .. })));
 }

@@ -1,10 +1,10 @@
 // Records of no rows, of which rows are taken.
 
-use super::columns::ints;
 use std::alloc::Global;
 use std::test::Fail;
 use vx_base::{Buffer, DType, Nullability, PType, VortexError};
 use vx_lists::{StructArray, StructArrayExt};
+use vx_test_help::ints;
 use vx_tree::{ArrayRef, TypedArray, Validity};
 
 // The one index null, at which a number is stored that no array has.

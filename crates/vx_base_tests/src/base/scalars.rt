@@ -91,6 +91,15 @@ fn numbers_and_truths(rt: HostRuntime) {
     assert!(rt; truth.as_bool() && truth.as_int().is_none() && truth.dtype().is_plain_bool());
 }
 
+#[test]
+fn values_that_are_known_to_fit(rt: HostRuntime) {
+    let number = ScalarValue::Int(-32768);
+    let dtype = DType::Primitive(PType::I16, Nullability::NonNullable);
+    assert_eq!(rt; Scalar::new(dtype, Some(number)).as_int(), Some(-32768));
+    let null = Scalar::new(DType::Utf8(Nullability::Nullable), None);
+    assert!(rt; null.is_null() && null.dtype().is_nullable());
+}
+
 // The default of pairs of numbers.
 fn default_pair(alloc: Global) -> Result<Scalar, VortexError> {
     let items = Rc::new(alloc, DType::Primitive(PType::U8, Nullability::NonNullable))?;

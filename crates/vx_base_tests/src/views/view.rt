@@ -1,8 +1,11 @@
 ghost use Rattle.std.specs.Prelude.{◌≡◌};
 
+use std::alloc::Global;
 use std::hash::{DefaultHasher, Hash, Hasher};
+use std::slice::from_ref;
 use std::test::Fail;
-use vx_views::{BinaryView, Inlined, MAX_BUFFER_LEN, MAX_INLINED_SIZE, Ref};
+use vx_base::{ByteBuffer, Mask, VortexError};
+use vx_views::{BinaryView, Inlined, MAX_BUFFER_LEN, MAX_INLINED_SIZE, Ref, check_views};
 
 // `06000000 696e6c69 6e650000 00000000`, the view of `inline`.
 const INLINE: u128 = 0x00000000_0000656e_696c6e69_00000006;
@@ -118,6 +121,58 @@ fn bytes_of_an_inlined_view(rt: HostRuntime) {
     let view = BinaryView::from(INLINE);
     assert!(rt; view.is_inlined());
     assert_eq!(rt; view.bytes(&[]), b"inline".as_slice());
+}
+
+// The value of a view into shared buffers, once the view is checked.
+fn checked_value<'a>(
+    alloc: Global,
+    view: &'a BinaryView,
+    buffers: &'a [ByteBuffer],
+) -> Result<&'a [u8], VortexError> {
+    check_views(alloc, from_ref(view), &Mask::new_true(1), buffers, false, 0)?;
+    Ok(view.value_in(buffers))
+}
+
+// The value of a view into a buffer, once the view is checked.
+fn checked_bytes<'a>(
+    alloc: Global,
+    view: &'a BinaryView,
+    buffer: &'a ByteBuffer,
+) -> Result<&'a [u8], VortexError> {
+    check_views(
+        alloc,
+        from_ref(view),
+        &Mask::new_true(1),
+        from_ref(buffer),
+        false,
+        0,
+    )?;
+    Ok(view.bytes(&[buffer.as_slice()]))
+}
+
+#[test]
+fn value_in_the_second_buffer(rt: HostRuntime) {
+    let buffers = [
+        ByteBuffer::copy_from(rt.alloc(), b"aaaaaaaaaaaaaaaa").expect(&rt, "made"),
+        ByteBuffer::copy_from(rt.alloc(), b"bbbthirteen bytecc").expect(&rt, "made"),
+    ];
+    let view = BinaryView::new_ref(13, *b"thir", 1, 3);
+    let value = checked_value(rt.alloc(), &view, &buffers).expect(&rt, "sound");
+    assert_eq!(rt; value, b"thirteen byte".as_slice());
+    let short = BinaryView::from(INLINE);
+    let value = checked_value(rt.alloc(), &short, &buffers).expect(&rt, "sound");
+    assert_eq!(rt; value, b"inline".as_slice());
+}
+
+#[test]
+fn bytes_in_a_buffer(rt: HostRuntime) {
+    let buffer = ByteBuffer::copy_from(rt.alloc(), b"bbbthirteen bytecc").expect(&rt, "made");
+    let view = BinaryView::new_ref(13, *b"thir", 0, 3);
+    let bytes = checked_bytes(rt.alloc(), &view, &buffer).expect(&rt, "sound");
+    assert_eq!(rt; bytes, b"thirteen byte".as_slice());
+    let end = BinaryView::new_ref(14, *b"een ", 0, 4);
+    let refused = checked_bytes(rt.alloc(), &end, &buffer);
+    assert_eq!(rt; refused, Err(VortexError::BadPrefix { row: 0 }));
 }
 
 #[test]

@@ -4,12 +4,11 @@ ghost use Rattle.std.specs.Prelude.{◌≡◌, [], ◌∷◌};
 ghost use Rattle.vx_base.specs.Refusals.{Gives};
 ghost use Rattle.vx_tree.specs.Meaning.{tree_len};
 
-use super::Boasting;
-use crate::columns::{has_numbers, ints};
 use std::alloc::Global;
 use std::test::Fail;
 use vx_base::{FieldNames, VortexError};
 use vx_lists::{StructArray, StructArrayExt};
+use vx_test_help::{Boasting, has_numbers, ints};
 use vx_tree::{ArrayRef, TypedArray, Validity};
 
 // Three columns of three rows each.

@@ -1,8 +1,8 @@
 // Texts and byte lists, as arrays and as their data.
 
-use super::Boasting;
 use std::test::Fail;
 use vx_base::{DType, Nullability};
+use vx_test_help::Boasting;
 use vx_text::{VarBinViewArray, VarBinViewData};
 use vx_tree::TypedArray;
 

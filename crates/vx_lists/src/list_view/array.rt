@@ -177,11 +177,13 @@ impl ListViewArray {
         self.parts().elements
     }
 
-    /// Where each list starts among the elements.
+    /// Where each list starts among the elements: where the flag is set, each but the first where
+    /// the list before it ends.
     pub fn offsets(&self) -> &ArrayRef
         ensures value { result.now ≡ offsets_of self.now }
         ensures counts { IsCounts result.now }
         ensures len { tree_len result.now ≡ tree_len self.now }
+        ensures consecutive { flag_of self.now ≡ true → IsConsecutive (offsets_of self.now) (sizes_of self.now) }
     {
         self.parts().offsets
     }

@@ -377,10 +377,12 @@ fn no_booleans_as_a_validity(rt: HostRuntime) {
 }
 
 #[test]
-fn states_of_a_nullability() {
-    let _plain = Validity::from(Nullability::NonNullable);
-    let _nullable = Validity::from(&Nullability::Nullable);
-    let _dtype = Validity::DTYPE;
+fn states_of_a_nullability(rt: HostRuntime) {
+    let plain = Validity::from(Nullability::NonNullable);
+    assert!(rt; matches!(plain, Validity::NonNullable));
+    let nullable = Validity::from(&Nullability::Nullable);
+    assert!(rt; matches!(nullable, Validity::AllValid));
+    assert!(rt; Validity::DTYPE.is_plain_bool());
 }
 
 // ---- casts
@@ -450,6 +452,8 @@ fn casts_to_nullable(rt: HostRuntime) {
     assert!(rt; cast.nullability() == Nullability::Nullable);
     let united = Validity::NonNullable.union_nullability(Nullability::Nullable);
     assert!(rt; united.nullability() == Nullability::Nullable);
+    assert!(rt; matches!(Validity::NonNullable.into_nullable(), Validity::AllValid));
+    assert!(rt; matches!(Validity::AllInvalid.into_nullable(), Validity::AllInvalid));
 }
 
 // ---- laws
