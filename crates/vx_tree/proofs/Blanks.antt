@@ -1,25 +1,30 @@
 -- Rows in plain layout of which only the validity is given.
-use Rattle.std.proofs.Common.{ℕ, suc, ◌*◌, ◌^◌, ◌<◌, ◌≡◌, Bool, true, false, List, [], ◌∷◌, length, map, replicate, None, refl, sym, ◌∙◌, ap, subst, arith}
-use Rattle.std.specs.Prelude.{pos, nat_lt, slice_index_or, ◌||◌}
+use Rattle.std.proofs.Common.{ℕ, zero, suc, ◌<◌, ◌≡◌, Bool, true, false, List, [], ◌∷◌, length, map, replicate, Option, None, refl, sym, ◌∙◌, ap, subst, arith}
+use Rattle.std.specs.Prelude.{pos, is_some, slice_index_or, ◌||◌, if◌then◌else◌}
+use Rattle.std.specs.List.{filter}
 use Rattle.std.proofs.Math.Bool.{or_self}
-use Rattle.std.proofs.lemmas.Bool.{lt-ltb}
 use Rattle.std.proofs.lemmas.List.{length-map, length-replicate, get_or-replicate}
+use Rattle.vx_base.proofs.Repeated.{map_repeated}
+use Rattle.vx_base.specs.declared.scalar_value.ScalarValue.{ScalarValue}
 use Rattle.vx_base.specs.declared.ptypes.PType.{PType}
 use Rattle.vx_base.specs.Integers.{numbers}
-use Rattle.vx_base.specs.Kinds.{Kind, booleans, integers, lists, fixed_lists, texts, binaries, records, Kinds, no_kinds, kind, is_nullable_kind, or_nullable, Fits}
+use Rattle.vx_base.specs.Kinds.{Kind, booleans, integers, lists, fixed_lists, texts, binaries, records, kind, is_nullable_kind, or_nullable, Fits}
 use Rattle.vx_base.specs.Rows.{Row, null}
+use Rattle.vx_base.specs.ValueRows.{option_row, row_under}
 use Rattle.vx_views.specs.Views.{number_le, view_of}
 use Rattle.vx_views.specs.Sound.{IsSoundView}
-use Rattle.vx_tree.specs.Tree.{Tree, bools, primitive, constant, fixed_list, list_view, structure, view_array, Valid, all_invalid}
+use Rattle.vx_tree.specs.Tree.{Tree, bools, primitive, constant, fixed_list, list_view, structure, view_array, Valid, non_nullable, all_invalid}
 use Rattle.vx_tree.specs.Meaning.{kind_of, kinds_of, is_valid_at, nullable, trees_from, is_texts}
 use Rattle.vx_tree.specs.Formed.{ValidFits, AllLen, IsStruct, WellFormed, column_count, value_kind}
 use Rattle.vx_tree.specs.Plain.{IsPlain, ArePlain, IsPlainValid}
 use Rattle.vx_tree.specs.Shapes.{state_of, tree_state, taken_state}
 use Rattle.vx_tree.specs.Operations.{IsZeroes, IsValidityOf, IsValidNulls}
 use Rattle.vx_tree.specs.Canonical.{IsCanonical, IsCanonicalValid, IsBlank, IsBlankPart, AreBlankParts, IsPlainNulls}
-use Rattle.vx_tree.specs.PlainValues.{ArePlainValues, rows_fault, fields_fault}
+use Rattle.vx_tree.specs.PlainValues.{ArePlainValues, values_valid}
 use Rattle.vx_tree.specs.Extents.{extent_of, extents_of, rows_extent, extent, fixed_list_extent, struct_extent}
-use Rattle.vx_tree.proofs.RowNames.{rows_extent-nulls}
+use Rattle.vx_tree.proofs.RowNames.{named_null}
+use Rattle.vx_tree.proofs.Kept.{rows_extent-nulls}
+use Rattle.vx_tree.proofs.Gathered.{none_where}
 use Rattle.vx_tree.proofs.Canonical.{same_nullable}
 use Rattle.vx_tree.proofs.Nulled.{null_row, nullable_nulled}
 use Rattle.vx_tree.proofs.Worked.{are_below, are_text}
@@ -179,7 +184,7 @@ views_blank t r vs bs k v w n a b plain =
 
 -- ---- of a data type
 
-or_nullable-own : (k : Kind) → or_nullable (is_nullable_kind k) k ≡ k
+pub or_nullable-own : (k : Kind) → or_nullable (is_nullable_kind k) k ≡ k
 or_nullable-own (booleans m) = ap booleans (or_self m)
 or_nullable-own (integers t m) = ap (integers t) (or_self m)
 or_nullable-own (texts m) = ap texts (or_self m)
@@ -187,21 +192,6 @@ or_nullable-own (binaries m) = ap binaries (or_self m)
 or_nullable-own (lists k m) = ap (lists k) (or_self m)
 or_nullable-own (fixed_lists k size m) = ap (fixed_lists k size) (or_self m)
 or_nullable-own (records names ks m) = ap (records names ks) (or_self m)
-
--- no values have no fault
-mutual
-  pub rows_fault-none : (k : Kind) → rows_fault k [] ≡ None
-  rows_fault-none (booleans m) = refl
-  rows_fault-none (integers t m) = refl
-  rows_fault-none (texts m) = refl
-  rows_fault-none (binaries m) = refl
-  rows_fault-none (lists k m) = rows_fault-none k
-  rows_fault-none (fixed_lists k size m) = let few : nat_lt (0 * size) (2 ^ 64) ≡ true = lt-ltb (0 * size) (2 ^ 64) (omega arith) in rw few (rows_fault-none k)
-  rows_fault-none (records names ks m) = fields_fault-none ks 0
-
-  fields_fault-none : (ks : Kinds) (c : ℕ) → fields_fault ks c [] ≡ None
-  fields_fault-none no_kinds c = refl
-  fields_fault-none (kind k ks) c = rw (rows_fault-none k) (fields_fault-none ks (suc c))
 
 -- rows like no values
 pub blank_of_none : (k : Kind) (t r : Tree) (v : Valid) (n : ℕ) → nullable v ≡ is_nullable_kind k → ArePlainValues k [] t → IsBlank (or_nullable (nullable v) (kind_of t)) (extent_of t) n v r → IsBlank k (rows_extent k []) n v r
@@ -272,3 +262,45 @@ null_canonical k n r may h =
     }
 
 pub ruleset null_rows = (null_canonical, null_fits)
+
+-- ---- rows of no value
+
+missing_state : (b : Bool) (n : ℕ) → 0 < n → state_of (if b then all_invalid else non_nullable) ≡ state_of (values_valid b (replicate n None))
+missing_state false n h = refl
+missing_state true n h = ap state_of (sym (none_where (replicate n None) (rw (length-replicate {A = Option ScalarValue} n None) h) (none_there n)))
+  where
+    none_there : (n : ℕ) → length (filter {X = Option ScalarValue} is_some (replicate n None)) ≡ 0
+    none_there zero = refl
+    none_there (suc n) = none_there n
+
+pub nullable-missing : (b : Bool) → nullable (if b then all_invalid else non_nullable) ≡ b
+nullable-missing true = refl
+nullable-missing false = refl
+
+pub missing_may : (t : Tree) (v : Valid) → v ≡ (if is_nullable_kind (kind_of t) then all_invalid else non_nullable) → MayHaveNulls t v
+missing_may t v e may = ap nullable e ∙ nullable-missing (is_nullable_kind (kind_of t)) ∙ may
+
+pub missing_plain : (b : Bool) (v : Valid) → v ≡ (if b then all_invalid else non_nullable) → IsPlainValid v
+missing_plain true v e = rw e tt
+missing_plain false v e = rw e tt
+
+pub missing_made : (k : Kind) (n : ℕ) (t r : Tree) (v : Valid) → 0 < n → v ≡ (if is_nullable_kind k then all_invalid else non_nullable) → ArePlainValues k [] t → IsBlank (or_nullable (nullable v) (kind_of t)) (extent_of t) n v r
+    → ArePlainValues k (replicate n None) r
+missing_made k n t r v some e x h =
+    let may : nullable v ≡ is_nullable_kind k = ap nullable e ∙ nullable-missing (is_nullable_kind k) in
+    record {
+      len = h.len ∙ sym (length-replicate {A = Option ScalarValue} n None);
+      kind = h.kind ∙ ap (or_nullable (nullable v)) x.kind ∙ ap (λ b. or_nullable b k) may ∙ or_nullable-own k;
+      plain = h.plain;
+      state = h.state ∙ ap state_of e ∙ missing_state (is_nullable_kind k) n some;
+      extent = h.extent ∙ x.extent ∙ sym (ap (rows_extent k) (map_repeated option_row None n) ∙ rows_extent-nulls k n);
+      flag = h.flag;
+      rows = λ i l fits.
+          let inside : i < n = rw (length-replicate {A = Option ScalarValue} n None) at l in
+          let here : slice_index_or (replicate n None) i None ≡ None = get_or-replicate {A = Option ScalarValue} n i None None inside in
+          let stands : is_nullable_kind k ≡ true = null_fits k (row_under k None) (subst (λ o. Fits k (row_under k o)) here fits) (named_null k) in
+          h.nulls i inside (ap (λ w. is_valid_at w i) (e ∙ ap (λ b. if b then all_invalid else non_nullable) stands))
+          ∙ sym (ap (row_under k) here ∙ named_null k);
+    }
+
+pub ruleset missing = (missing_may, missing_plain, missing_made)

@@ -9,7 +9,6 @@ use Rattle.std.proofs.Math.Nat.{add-mul}
 use Rattle.vx_base.specs.declared.ptypes.PType.{PType}
 use Rattle.vx_base.specs.Integers.{byte_width, bytes_of, numbers, Holds, number_nth}
 use Rattle.vx_base.specs.Kinds.{Kind, booleans, integers, texts, binaries, lists, fixed_lists, records, is_integers, is_nullable_kind, or_nullable, is_integers-or_nullable, Fits}
-use Rattle.vx_base.specs.Refusals.{Refusal, or_else}
 use Rattle.vx_base.specs.Rows.{Row, null, boolean, whole, bytes, text, items, record_of, is_present, number_in, position_in}
 use Rattle.vx_base.proofs.Defaults.{default_fits}
 use Rattle.vx_base.proofs.FirstFaults.{or_else-second}
@@ -274,12 +273,8 @@ no_overflow (lists k m) n e = refl
 no_overflow (fixed_lists k size m) n e = cc
 no_overflow (records names ks m) n e = cc
 
-none_either : (b : Bool) → {r : Option Refusal} → r ≡ None → (if b then r else None) ≡ None
-none_either true e = e
-none_either false e = refl
-
 constant_faultless : (k : Kind) (r : Row) (n : ℕ) → is_integers k ≡ true → constant_fault k r n ≡ None
-constant_faultless (integers p m) r n e = ap (λ f. or_else f None) (none_either (is_present r) refl)
+constant_faultless (integers p m) r n e = refl
 constant_faultless (booleans m) r n e = cc
 constant_faultless (texts m) r n e = cc
 constant_faultless (binaries m) r n e = cc

@@ -23,12 +23,16 @@ pub mod Flags
 pub mod OneValue
 pub mod Canonical
 pub mod PlainKinds
+pub mod Overflows
 pub mod RowNames
-pub mod Blanks
 pub mod PlainValues
 pub mod PlainTexts
 pub mod PlainParts
 pub mod UnderValidity
+pub mod Kept
+pub mod Gathered
+pub mod Blanks
+pub mod KeptParts
 pub mod CanonicalDictionaries
 pub mod CanonicalAt
 pub mod CanonicalFaults
@@ -51,7 +55,6 @@ pub mod JoinedParts
 pub mod JoinedViews
 pub mod JoinedExtents
 pub mod JoinedNumbers
-pub mod Overflows
 pub mod Concatenated
 pub mod PlainTests
 pub mod ConcatenatedTwice

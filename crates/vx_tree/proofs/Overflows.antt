@@ -5,13 +5,13 @@ use Rattle.std.specs.List.{flat_map, sum_by}
 use Rattle.vx_base.specs.Booleans.{count_fault}
 use Rattle.vx_base.specs.Kinds.{Kind, booleans, integers, texts, binaries, lists, fixed_lists, records, Kinds, no_kinds, kind}
 use Rattle.vx_base.specs.Refusals.{Refusal, overflow, or_else}
-use Rattle.vx_base.specs.Rows.{Row, is_present}
+use Rattle.vx_base.specs.Rows.{Row}
 use Rattle.vx_base.proofs.FirstFaults.{or_else-second}
 use Rattle.vx_tree.specs.Tree.{Tree, bools, primitive, constant, dictionary, fixed_list, list_view, structure, view_array, Trees, no_trees, tree}
 use Rattle.vx_tree.specs.Meaning.{tree_len, kind_of}
 use Rattle.vx_tree.specs.RowParts.{is_long_row, items_in, items_or_nulls, field_in}
-use Rattle.vx_tree.specs.PlainValues.{buffers_overflow, rows_fault, fields_fault}
-use Rattle.vx_tree.specs.Canonical.{plain_overflow, fields_overflow, value_fault, canonical_fault, columns_fault}
+use Rattle.vx_tree.specs.PlainValues.{buffers_overflow, rows_fault, fields_fault, kept_fault, kept_fields_fault}
+use Rattle.vx_tree.specs.Canonical.{plain_overflow, fields_overflow, canonical_fault, columns_fault}
 use Rattle.vx_tree.specs.Extents.{Extent, buffer_count, element_count, elements_extent, column_extent}
 use Rattle.vx_tree.specs.Concatenated.{extents_fault, fields_extents_fault}
 
@@ -40,7 +40,7 @@ numbered n = where_true (nat_lt (2 ^ 32) n) (Some overflow) (inr refl)
 -- ---- making arrays plain
 
 mutual
-  rows_only : (k : Kind) (n : ℕ) → IsOverflow (plain_overflow k n)
+  pub rows_only : (k : Kind) (n : ℕ) → IsOverflow (plain_overflow k n)
   rows_only (booleans m) n = inl refl
   rows_only (integers t m) n = inl refl
   rows_only (texts m) n = inl refl
@@ -49,7 +49,7 @@ mutual
   rows_only (fixed_lists k size m) n = unless (nat_lt (n * size) (2 ^ 64)) (plain_overflow k (n * size)) (rows_only k (n * size))
   rows_only (records names ks m) n = fields_only ks n
 
-  fields_only : (ks : Kinds) (n : ℕ) → IsOverflow (fields_overflow ks n)
+  pub fields_only : (ks : Kinds) (n : ℕ) → IsOverflow (fields_overflow ks n)
   fields_only no_kinds n = inl refl
   fields_only (kind k ks) n = either (plain_overflow k n) (fields_overflow ks n) (rows_only k n) (fields_only ks n)
 
@@ -69,10 +69,24 @@ mutual
   field_values_only (kind k ks) c rs = either (rows_fault k (map (field_in c) rs)) (fields_fault ks (suc c) rs) (values_only k (map (field_in c) rs)) (field_values_only ks (suc c) rs)
 
 mutual
-  plain_only : (t : Tree) → IsOverflow (canonical_fault t)
+  pub kept_only : (k : Kind) (rs : List Row) → IsOverflow (kept_fault k rs)
+  kept_only (booleans m) rs = inl refl
+  kept_only (integers t m) rs = inl refl
+  kept_only (texts m) rs = numbered (count_by is_long_row rs)
+  kept_only (binaries m) rs = numbered (count_by is_long_row rs)
+  kept_only (lists k m) rs = values_only k (flat_map items_in rs)
+  kept_only (fixed_lists k size m) rs = kept_only k (flat_map items_in rs)
+  kept_only (records names ks m) rs = kept_fields_only ks 0 rs
+
+  kept_fields_only : (ks : Kinds) (c : ℕ) (rs : List Row) → IsOverflow (kept_fields_fault ks c rs)
+  kept_fields_only no_kinds c rs = inl refl
+  kept_fields_only (kind k ks) c rs = either (kept_fault k (map (field_in c) rs)) (kept_fields_fault ks (suc c) rs) (kept_only k (map (field_in c) rs)) (kept_fields_only ks (suc c) rs)
+
+mutual
+  pub plain_only : (t : Tree) → IsOverflow (canonical_fault t)
   plain_only (bools bits v) = inl refl
   plain_only (primitive q bs v) = inl refl
-  plain_only (constant k r n) = either (value_fault k r) (plain_overflow k n) (where_true (is_present r) (rows_fault k (r ∷ [])) (values_only k (r ∷ []))) (rows_only k n)
+  plain_only (constant k r n) = either (plain_overflow k n) (kept_fault k (r ∷ [])) (rows_only k n) (kept_only k (r ∷ []))
   plain_only (dictionary c v f) = either (canonical_fault v) (plain_overflow (kind_of v) (tree_len c)) (plain_only v) (rows_only (kind_of v) (tree_len c))
   plain_only (fixed_list e k v n) = plain_only e
   plain_only (list_view e o s v f) =

@@ -1,15 +1,16 @@
 -- What the kind alone tells of arrays in plain layout.
-use Rattle.std.proofs.Common.{ℕ, zero, suc, ◌+◌, ◌*◌, ◌^◌, ◌<◌, ◌≡◌, Bool, true, false, List, [], ◌∷◌, length, drop, ltb, Option, Some, None, refl, sym, ap, subst, arith}
+use Rattle.std.proofs.Common.{ℕ, zero, suc, ◌+◌, ◌*◌, ◌^◌, ◌<◌, ◌≤◌, ◌≡◌, Bool, true, false, List, [], ◌∷◌, length, drop, ltb, Option, Some, None, refl, sym, ap, subst, arith}
 use Rattle.std.specs.Prelude.{nat_lt, slice_index_or, if◌then◌else◌}
 use Rattle.std.specs.List.{All}
-use Rattle.std.proofs.lemmas.Bool.{ltb-true}
+use Rattle.std.proofs.Math.Nat.{mul-le-mul_right}
+use Rattle.std.proofs.lemmas.Bool.{lt-ltb, ltb-true}
 use Rattle.vx_base.specs.declared.dtypes.DType.{DType, Struct as struct_dtype}
 use Rattle.vx_base.specs.declared.nullability.Nullability.{Nullability}
 use Rattle.vx_base.specs.declared.struct_fields.StructFields.{StructFields}
 use Rattle.vx_base.proofs.StructKinds.{from_place, struct_kind}
 use Rattle.vx_base.specs.DTypes.{dtype_meaning, field_kinds, kinds_of as dtype_kinds}
 use Rattle.vx_base.specs.Refusals.{Refusal, overflow, or_else}
-use Rattle.vx_base.specs.Kinds.{Kind, booleans, integers, texts, binaries, lists, fixed_lists, records, or_nullable}
+use Rattle.vx_base.specs.Kinds.{Kind, booleans, integers, texts, binaries, lists, fixed_lists, records, Kinds, no_kinds, kind, or_nullable}
 use Rattle.vx_tree.specs.Tree.{Tree, bools, primitive, constant, dictionary, fixed_list, list_view, structure, view_array, Trees, no_trees, tree}
 use Rattle.vx_tree.specs.Meaning.{kind_of, kinds_of, trees_from, nullable, is_texts}
 use Rattle.vx_tree.specs.Formed.{value_kind}
@@ -65,6 +66,26 @@ lists_countable k size n m none = few (ltb (n * size) (2 ^ 64)) refl none
     few : (b : Bool) → ltb (n * size) (2 ^ 64) ≡ b → (if b then plain_overflow k (n * size) else Some overflow) ≡ None → (n * size < 2 ^ 64) × (plain_overflow k (n * size) ≡ None)
     few true p h = (ltb-true (n * size) (2 ^ 64) p, h)
     few false p h = absurd (cc)
+
+-- fewer rows can be counted where more can
+mutual
+  pub plain_overflow-fewer : (k : Kind) (m n : ℕ) → m ≤ n → plain_overflow k n ≡ None → plain_overflow k m ≡ None
+  plain_overflow-fewer (booleans b) m n l h = refl
+  plain_overflow-fewer (integers t b) m n l h = refl
+  plain_overflow-fewer (texts b) m n l h = refl
+  plain_overflow-fewer (binaries b) m n l h = refl
+  plain_overflow-fewer (lists k b) m n l h = refl
+  plain_overflow-fewer (fixed_lists k size b) m n l h =
+      let both = lists_countable k size n b h in
+      let fewer : m * size ≤ n * size = mul-le-mul_right size l in
+      rw (lt-ltb (m * size) (2 ^ 64) (omega (arith, both.0, fewer))) (plain_overflow-fewer k (m * size) (n * size) fewer both.1)
+  plain_overflow-fewer (records names ks b) m n l h = fields_overflow-fewer ks m n l h
+
+  fields_overflow-fewer : (ks : Kinds) (m n : ℕ) → m ≤ n → fields_overflow ks n ≡ None → fields_overflow ks m ≡ None
+  fields_overflow-fewer no_kinds m n l h = refl
+  fields_overflow-fewer (kind k ks) m n l h =
+      let both = or_none (plain_overflow k n) (fields_overflow ks n) h in
+      rw (plain_overflow-fewer k m n l both.0) (fields_overflow-fewer ks m n l both.1)
 
 -- and so can those of each column
 pub columns_countable : (ts : List Tree) (n : ℕ) → fields_overflow (kinds_of (trees_from ts)) n ≡ None → All (λ t. plain_overflow (kind_of t) n ≡ None) ts

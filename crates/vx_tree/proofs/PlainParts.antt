@@ -1,6 +1,6 @@
 -- Values that are lists or records, in plain layout.
-use Rattle.std.proofs.Common.{ℕ, zero, suc, ◌+◌, ◌*◌, ◌-◌, ◌<◌, ◌≤◌, ◌≡◌, Bool, true, false, List, [], ◌∷◌, ◌++◌, length, map, take, drop, replicate, get_or, Option, Some, None, refl, sym, ◌∙◌, ap, subst, zero-add, inl, inr, arith}
-use Rattle.std.specs.Prelude.{◌↔◌, IsTrue, slice_index, slice_index_or, if◌then◌else◌}
+use Rattle.std.proofs.Common.{ℕ, zero, suc, ◌+◌, ◌*◌, ◌-◌, ◌<◌, ◌≤◌, ◌≡◌, Bool, true, false, List, [], ◌∷◌, ◌++◌, length, map, take, drop, replicate, get_or, Option, Some, None, refl, sym, ◌∙◌, ap, subst, zero-add, arith}
+use Rattle.std.specs.Prelude.{slice_index, slice_index_or}
 use Rattle.std.specs.List.{All, flat_map, range_with_len}
 use Rattle.std.proofs.lemmas.Grind.{flat_map-append}
 use Rattle.std.proofs.lemmas.List.Elements.{All-nil, All-append}
@@ -11,19 +11,14 @@ use Rattle.std.proofs.lemmas.List.Folds.{length-flat_map-take}
 use Rattle.vx_base.specs.declared.scalar_value.ScalarValue.{ScalarValue}
 use Rattle.vx_base.specs.declared.scalar_value.ScalarValue.TheVariants as value
 use Rattle.vx_base.specs.declared.dtypes.DType.{DType}
-use Rattle.vx_base.specs.declared.errors.VortexError.{VortexError}
 use Rattle.vx_base.proofs.Defaults.{take_push}
 use Rattle.vx_base.proofs.StructKinds.{from_place}
 use Rattle.vx_base.specs.DTypes.{dtype_meaning, kinds_of as dtype_kinds}
-use Rattle.vx_base.specs.Defaults.{is_even}
-use Rattle.vx_tree.specs.Faults.{take_overflow}
-use Rattle.vx_tree.specs.Fitting.{AllFormed}
-use Rattle.vx_tree.specs.Canonical.{IsCanonical, plain_overflow, canonical_fault}
-use Rattle.vx_base.specs.Kinds.{Kind, lists, fixed_lists, records, kind, Fits, AllFit, FieldsFit, is_nullable_kind, row_count}
-use Rattle.vx_base.specs.Refusals.{Refusal, IsMemoryOr, or_else}
-use Rattle.vx_base.specs.Rows.{Row, null, boolean, whole, bytes, text, items, record_of, Rows, no_rows, row, Fields, no_fields, field, is_present, count_in, list_from, rows_from}
+use Rattle.vx_base.specs.Kinds.{Kind, Kinds, no_kinds, lists, fixed_lists, records, kind, Fits, AllFit, FieldsFit, is_nullable_kind, row_count}
+use Rattle.vx_base.specs.Refusals.{Refusal, or_else}
+use Rattle.vx_base.specs.Rows.{Row, null, boolean, whole, bytes, text, items, record_of, Rows, no_rows, row, Fields, no_fields, field, count_in, list_from, rows_from}
 use Rattle.vx_base.specs.ValueRows.{value_row, option_row, named, all_named, fields_named, row_under, unnamed}
-use Rattle.vx_tree.specs.Tree.{Tree, constant, list_view, fixed_list, structure, Valid}
+use Rattle.vx_tree.specs.Tree.{Tree, list_view, fixed_list, structure, Valid}
 use Rattle.vx_tree.specs.Meaning.{tree_len, kinds_of, row_at, fields_at, rows_range, trees_from, is_texts}
 use Rattle.vx_tree.specs.Formed.{ValidFits, WellFormed, AllLen, IsStruct, column_count, value_kind}
 use Rattle.vx_tree.specs.Plain.{ArePlain}
@@ -31,10 +26,8 @@ use Rattle.vx_tree.specs.Joined.{IsCountsOf}
 use Rattle.vx_tree.specs.RowParts.{field_at, field_in, items_in, items_or_nulls}
 use Rattle.vx_tree.specs.Extents.{extents_of, rows_extent, fields_extents, extent, list_extent, fixed_list_extent, struct_extent}
 use Rattle.vx_tree.specs.PlainValues.{ArePlainValues, ArePlainRows, ArePlainFields, AreSpread, FieldsFitNamed, FitsNamed, FitsIfThere, fields_fault, list_places, list_sizes, rows_fault, values_valid, long_values, buffers_overflow}
-use Rattle.vx_tree.proofs.PlainKinds.{take_overflow-plain}
-use Rattle.vx_tree.proofs.Dictionaries.{memory_only}
 use Rattle.vx_tree.proofs.JoinedListViews.{counts_of-are}
-use Rattle.vx_tree.proofs.RowNames.{rows_fault-named}
+use Rattle.vx_tree.proofs.RowNames.{from_field}
 use Rattle.vx_tree.proofs.PlainTexts.{long_rows}
 use Rattle.vx_tree.proofs.PlainValues.{values_valid-nullable, values_valid-plain, values_valid-fits, row_of_value}
 
@@ -122,12 +115,12 @@ rows_at_place k h f g rs qs e same i l fits = listed (f (get_or rs i null)) (len
         let first : g start ≡ h x = ap g {x = start} {y = start + 0} (omega arith) ∙ each 0 (omega arith) in
         λ n. row (first n) (listed xs (suc start) (λ j m. ap g {x = suc start + j} {y = start + suc j} (omega arith) ∙ each (suc j) (omega arith)) n)
 
-fit_each : (P Q : Row → Type 0) (f : Row → List Row) → ((r : Row) → P r → All Q (f r)) → (rs : List Row) → All P rs → All Q (flat_map f rs)
+pub fit_each : (P Q : Row → Type 0) (f : Row → List Row) → ((r : Row) → P r → All Q (f r)) → (rs : List Row) → All P rs → All Q (flat_map f rs)
 fit_each P Q f h [] all = All-nil Q
 fit_each P Q f h (r ∷ rs) all = All-append Q (f r) (flat_map f rs) (h r (all 0 r (omega arith))) (fit_each P Q f h rs (λ i d l. all (suc i) d (omega arith)))
 
 -- as many of each
-sized_before : (f : Row → List Row) (n : ℕ) (rs : List Row) (i : ℕ) → All (λ r. length (f r) ≡ n) rs → i ≤ length rs → length (flat_map f (take i rs)) ≡ i * n
+pub sized_before : (f : Row → List Row) (n : ℕ) (rs : List Row) (i : ℕ) → All (λ r. length (f r) ≡ n) rs → i ≤ length rs → length (flat_map f (take i rs)) ≡ i * n
 sized_before f n rs zero all l = omega arith
 sized_before f n [] (suc i) all l = absurd (omega arith)
 sized_before f n (r ∷ rs) (suc i) all l =
@@ -137,7 +130,7 @@ sized_before f n (r ∷ rs) (suc i) all l =
 
 -- ---- what fits
 
-fits_named : (k : Kind) (r : Row) → Fits k (named k r) → FitsNamed k r
+pub fits_named : (k : Kind) (r : Row) → Fits k (named k r) → FitsNamed k r
 fits_named k null h = tt
 fits_named k (boolean b) h = h
 fits_named k (whole z) h = h
@@ -164,7 +157,7 @@ named_there k (Some (value.Text bs)) h = h
 named_there k (Some (value.List rs)) h = h
 named_there k (Some (value.Record rs)) h = h
 
-all_named_rows : (k : Kind) (vs : List (Option ScalarValue)) → All (FitsIfThere k) vs → All (FitsNamed k) (map option_row vs)
+pub all_named_rows : (k : Kind) (vs : List (Option ScalarValue)) → All (FitsIfThere k) vs → All (FitsNamed k) (map option_row vs)
 all_named_rows k vs all = λ i d l.
     let inside : i < length vs = rw (length-map vs option_row) at l in
     subst (FitsNamed k) (sym (get_or-map option_row vs i None d inside)) (there_named k (get_or vs i None) (all i None inside))
@@ -179,7 +172,7 @@ rows_fit k no_rows h i d l = absurd (omega arith)
 rows_fit k (row r rs) h zero d l = h.0
 rows_fit k (row r rs) h (suc i) d l = rows_fit k rs h.1 i d (omega arith)
 
-items_fit : (k : Kind) (rs : Rows) → AllFit k (all_named k rs) → All (FitsNamed k) (list_from rs)
+pub items_fit : (k : Kind) (rs : Rows) → AllFit k (all_named k rs) → All (FitsNamed k) (list_from rs)
 items_fit k rs h = λ i d l. fits_named k (get_or (list_from rs) i d) (rows_fit k rs h i d l)
 
 list_items_fit : (k : Kind) (m : Bool) (r : Row) → FitsNamed (lists k m) r → All (FitsNamed k) (items_in r)
@@ -191,12 +184,12 @@ list_items_fit k m (text bs) h = absurd h
 list_items_fit k m (items rs) h = items_fit k rs h
 list_items_fit k m (record_of fs) h = absurd h
 
-nulls_fit : (k : Kind) (n : ℕ) → All (FitsNamed k) (replicate n null)
+pub nulls_fit : (k : Kind) (n : ℕ) → All (FitsNamed k) (replicate n null)
 nulls_fit k zero i d l = absurd (omega arith)
 nulls_fit k (suc n) zero d l = tt
 nulls_fit k (suc n) (suc i) d l = nulls_fit k n i d (omega arith)
 
-fixed_items_fit : (k : Kind) (size : ℕ) (m : Bool) (r : Row) → FitsNamed (fixed_lists k size m) r → All (FitsNamed k) (items_or_nulls size r)
+pub fixed_items_fit : (k : Kind) (size : ℕ) (m : Bool) (r : Row) → FitsNamed (fixed_lists k size m) r → All (FitsNamed k) (items_or_nulls size r)
 fixed_items_fit k size m null h = nulls_fit k size
 fixed_items_fit k size m (boolean b) h = absurd h
 fixed_items_fit k size m (whole z) h = absurd h
@@ -209,7 +202,7 @@ counted : (k : Kind) (rs : Rows) → row_count (all_named k rs) ≡ length (list
 counted k no_rows = refl
 counted k (row r rs) = omega (arith, counted k rs)
 
-fixed_items_count : (k : Kind) (size : ℕ) (m : Bool) (r : Row) → FitsNamed (fixed_lists k size m) r → length (items_or_nulls size r) ≡ size
+pub fixed_items_count : (k : Kind) (size : ℕ) (m : Bool) (r : Row) → FitsNamed (fixed_lists k size m) r → length (items_or_nulls size r) ≡ size
 fixed_items_count k size m null h = length-replicate {A = Row} size null
 fixed_items_count k size m (boolean b) h = absurd h
 fixed_items_count k size m (whole z) h = absurd h
@@ -217,6 +210,13 @@ fixed_items_count k size m (bytes bs) h = absurd h
 fixed_items_count k size m (text bs) h = absurd h
 fixed_items_count k size m (items rs) h = sym (counted k rs) ∙ h.0
 fixed_items_count k size m (record_of fs) h = absurd h
+
+-- lists that fit have the size, and a null has as many rows
+pub sized_length : (k : Kind) (size : ℕ) (m : Bool) (rs : List Row) → All (FitsNamed (fixed_lists k size m)) rs → length (flat_map (items_or_nulls size) rs) ≡ length rs * size
+sized_length k size m rs all =
+    let whole : take (length rs) rs ≡ rs = take_all (length rs) rs (omega arith) in
+    ap (λ xs. length (flat_map (items_or_nulls size) xs)) (sym whole)
+    ∙ sized_before (items_or_nulls size) size rs (length rs) (λ i d l. fixed_items_count k size m (get_or rs i d) (all i d l)) (omega arith)
 
 pub list_rows_fit : (k : Kind) (m : Bool) (vs ws : List (Option ScalarValue)) → map option_row ws ≡ flat_map items_in (map option_row vs) → All (FitsIfThere (lists k m)) vs → All (FitsIfThere k) ws
 list_rows_fit k m vs ws e all =
@@ -341,10 +341,7 @@ all_sized k size m vs all = λ i d l. fixed_items_count k size m (get_or (map op
 fixed_count : (e : Tree) (k : Kind) (size : ℕ) (m : Bool) (vs ws : List (Option ScalarValue)) → map option_row ws ≡ flat_map (items_or_nulls size) (map option_row vs) → All (FitsIfThere (fixed_lists k size m)) vs → ArePlainValues k ws e
     → tree_len e ≡ length vs * size
 fixed_count e k size m vs ws same all elements =
-    let rs = map option_row vs in
-    let whole : take (length rs) rs ≡ rs = take_all (length rs) rs (omega arith) in
-    elements.len ∙ sym (length-map ws option_row) ∙ ap length same ∙ ap (λ xs. length (flat_map (items_or_nulls size) xs)) (sym whole) ∙ sized_before (items_or_nulls size) size rs (length rs) (all_sized k size m vs all) (omega arith)
-    ∙ ap (λ n. n * size) (length-map vs option_row)
+    elements.len ∙ sym (length-map ws option_row) ∙ ap length same ∙ sized_length k size m (map option_row vs) (all_named_rows (fixed_lists k size m) vs all) ∙ ap (λ n. n * size) (length-map vs option_row)
 
 pub fixed_lists_formed : (e : Tree) (k : Kind) (size n : ℕ) (m : Bool) (v : Valid) (vs ws : List (Option ScalarValue)) → v ≡ values_valid m vs → n ≡ length vs → map option_row ws ≡ flat_map (items_or_nulls size) (map option_row vs)
     → All (FitsIfThere (fixed_lists k size m)) vs → ArePlainValues k ws e → WellFormed (fixed_list e size v n)
@@ -377,25 +374,35 @@ fixed_lists_made t e k size n m v vs ws valid long same all elements a =
 
 -- ---- records
 
-field_fits : (names : List (List ℕ)) (ds : List DType) (fs : Fields) (c : ℕ) (d : DType) → FieldsFit names (dtype_kinds ds) (fields_named names (dtype_kinds ds) fs) → c < length ds → FitsNamed (dtype_meaning (slice_index_or ds c d)) (field_at c fs)
-field_fits names [] fs c d h l = absurd (omega arith)
-field_fits [] (e ∷ ds) no_fields c d h l = absurd h
-field_fits [] (e ∷ ds) (field m r fs) c d h l = absurd h
-field_fits (n ∷ names) (e ∷ ds) no_fields c d h l = absurd h
-field_fits (n ∷ names) (e ∷ ds) (field m r fs) zero d h l = fits_named (dtype_meaning e) r h.1
-field_fits (n ∷ names) (e ∷ ds) (field m r fs) (suc c) d h l = field_fits names ds fs c d h.2 (omega arith)
+fields_fit : (names : List (List ℕ)) (ks js : Kinds) (j : Kind) (c : ℕ) (fs : Fields) → FieldsFit names ks (fields_named names ks fs) → from_field c ks ≡ kind j js → FitsNamed j (field_at c fs)
+fields_fit [] no_kinds js j zero fs h e = absurd (cc)
+fields_fit [] no_kinds js j (suc c) fs h e = absurd (cc)
+fields_fit [] (kind k ks) js j c no_fields h e = absurd h
+fields_fit [] (kind k ks) js j c (field m r fs) h e = absurd h
+fields_fit (n ∷ names) no_kinds js j c no_fields h e = absurd h
+fields_fit (n ∷ names) no_kinds js j c (field m r fs) h e = absurd h
+fields_fit (n ∷ names) (kind k ks) js j c no_fields h e = absurd h
+fields_fit (n ∷ names) (kind k ks) js j zero (field m r fs) h e = let same : k ≡ j = cc in subst (λ x. FitsNamed x r) same (fits_named k r h.1)
+fields_fit (n ∷ names) (kind k ks) js j (suc c) (field m r fs) h e = fields_fit names ks js j c fs h.2 e
 
-record_field_fits : (names : List (List ℕ)) (ds : List DType) (m : Bool) (r : Row) (c : ℕ) (d : DType) → FitsNamed (records names (dtype_kinds ds) m) r → c < length ds → FitsNamed (dtype_meaning (slice_index_or ds c d)) (field_in c r)
-record_field_fits names ds m null c d h l = tt
-record_field_fits names ds m (boolean b) c d h l = absurd h
-record_field_fits names ds m (whole z) c d h l = absurd h
-record_field_fits names ds m (bytes bs) c d h l = absurd h
-record_field_fits names ds m (text bs) c d h l = absurd h
-record_field_fits names ds m (items rs) c d h l = absurd h
-record_field_fits names ds m (record_of fs) c d h l = field_fits names ds fs c d h l
+pub field_fits : (names : List (List ℕ)) (ks js : Kinds) (m : Bool) (j : Kind) (c : ℕ) (r : Row) → FitsNamed (records names ks m) r → from_field c ks ≡ kind j js → FitsNamed j (field_in c r)
+field_fits names ks js m j c null h e = tt
+field_fits names ks js m j c (boolean b) h e = absurd h
+field_fits names ks js m j c (whole z) h e = absurd h
+field_fits names ks js m j c (bytes bs) h e = absurd h
+field_fits names ks js m j c (text bs) h e = absurd h
+field_fits names ks js m j c (items qs) h e = absurd h
+field_fits names ks js m j c (record_of fs) h e = fields_fit names ks js j c fs h e
+
+kinds_from_field : (ds : List DType) (c : ℕ) (d : DType) → c < length ds → from_field c (dtype_kinds ds) ≡ kind (dtype_meaning (slice_index_or ds c d)) (dtype_kinds (drop (suc c) ds))
+kinds_from_field [] c d l = absurd (omega arith)
+kinds_from_field (e ∷ ds) zero d l = refl
+kinds_from_field (e ∷ ds) (suc c) d l = kinds_from_field ds c d (omega arith)
 
 pub record_fields_fit : (names : List (List ℕ)) (ds : List DType) (m : Bool) (vs : List (Option ScalarValue)) → All (FitsIfThere (records names (dtype_kinds ds) m)) vs → FieldsFitNamed ds (map option_row vs)
-record_fields_fit names ds m vs all c d l = λ i r q. record_field_fits names ds m (get_or (map option_row vs) i r) c d (all_named_rows (records names (dtype_kinds ds) m) vs all i r q) l
+record_fields_fit names ds m vs all c d l = λ i r q.
+    let ks = dtype_kinds ds in
+    field_fits names ks (dtype_kinds (drop (suc c) ds)) m (dtype_meaning (slice_index_or ds c d)) c (get_or (map option_row vs) i r) (all_named_rows (records names ks m) vs all i r q) (kinds_from_field ds c d l)
 
 -- the values of a field fit its data type
 pub field_values_fit : (ds : List DType) (c : ℕ) (d : DType) (vs ws : List (Option ScalarValue)) → FieldsFitNamed ds (map option_row vs) → c < length ds → d ≡ slice_index_or ds c d → map option_row ws ≡ map (field_in c) (map option_row vs)
@@ -530,39 +537,3 @@ pub fields_fault-next : (ds : List DType) (i : ℕ) (d : DType) (rs qs : List Ro
     → rows_fault (dtype_meaning d) qs ≡ None → fields_fault (dtype_kinds (drop (i + 1) ds)) (i + 1) rs ≡ all
 fields_fault-next ds i d rs qs all h inside here same none =
     sym (fields_fault-from ds i d rs inside here ∙ ap (λ (f : Option Refusal). or_else f (fields_fault (dtype_kinds (drop (i + 1) ds)) (i + 1) rs)) (ap (rows_fault (dtype_meaning d)) (sym same) ∙ none)) ∙ h
-
-first_refused : (a b : Option Refusal) (e : VortexError) → IsMemoryOr a e → IsMemoryOr (or_else a b) e
-first_refused a b e (inl memory) = inl memory
-first_refused None b e (inr same) = inl (memory_only None e refl (inr same))
-first_refused (Some r) b e (inr same) = inr same
-
--- ---- one value
-
-pub one_row_fault : (k : Kind) (v : Option ScalarValue) (r : Row) → row_under k v ≡ r → is_even k ≡ true → rows_fault k (map option_row (v ∷ [])) ≡ rows_fault k (r ∷ [])
-one_row_fault k v r e even = sym (rows_fault-named k (map option_row (v ∷ [])) even) ∙ ap (λ x. rows_fault k (x ∷ [])) e
-
--- ---- one value, over and over
-
-pub present : (r : Row) (b : Bool) → b ≡ false → (IsTrue b ↔ (r ≡ null)) → is_present r ≡ true
-present null b e h = sym e ∙ h.1 refl
-present (boolean x) b e h = refl
-present (whole z) b e h = refl
-present (bytes bs) b e h = refl
-present (text bs) b e h = refl
-present (items rs) b e h = refl
-present (record_of fs) b e h = refl
-
--- the faults of the row by itself, then of all of them
-pub constant_fault-present : (t : Tree) (k : Kind) (r : Row) (n : ℕ) → t ≡ constant k r n → is_present r ≡ true → or_else (rows_fault k (r ∷ [])) (plain_overflow k n) ≡ canonical_fault t
-constant_fault-present t k r n e here =
-    ap (λ b. or_else (if b then rows_fault k (r ∷ []) else None) (plain_overflow k n)) (sym here) ∙ ap canonical_fault (sym e)
-
-pub constant_refused : (t : Tree) (k : Kind) (r : Row) (n : ℕ) (e : VortexError) → t ≡ constant k r n → is_present r ≡ true → IsMemoryOr (rows_fault k (r ∷ [])) e → IsMemoryOr (canonical_fault t) e
-constant_refused t k r n e same here refused =
-    subst (λ f. IsMemoryOr f e) (constant_fault-present t k r n same here) (first_refused (rows_fault k (r ∷ [])) (plain_overflow k n) e refused)
-
--- the row taken so often needs as many elements as so many rows of its kind
-pub constant_counted : (t a : Tree) (k : Kind) (r : Row) (n : ℕ) (f : Option Refusal) → t ≡ constant k r n → is_present r ≡ true → rows_fault k (r ∷ []) ≡ None → IsCanonical (constant k r 1) a → AllFormed a
-    → take_overflow a n ≡ f → canonical_fault t ≡ f
-constant_counted t a k r n f e here none x formed counts =
-    sym (constant_fault-present t k r n e here) ∙ ap (λ g. or_else g (plain_overflow k n)) none ∙ ap (λ j. plain_overflow j n) (sym x.same.kind) ∙ sym (take_overflow-plain a formed x.plain n) ∙ counts

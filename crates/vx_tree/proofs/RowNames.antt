@@ -1,17 +1,16 @@
 -- Rows, the names of their kind, and rows of null.
-use Rattle.std.proofs.Common.{ℕ, zero, suc, ◌+◌, ◌*◌, ◌^◌, ◌≡◌, Bool, true, false, cond, List, [], ◌∷◌, ◌++◌, length, map, replicate, Some, refl, sym, ◌∙◌, ap, arith}
-use Rattle.std.specs.Prelude.{◌&&◌, count_by, nat_lt, if◌then◌else◌}
+use Rattle.std.proofs.Common.{ℕ, zero, suc, ◌*◌, ◌^◌, ◌≡◌, Bool, true, false, List, [], ◌∷◌, ◌++◌, length, map, replicate, Some, refl, sym, ◌∙◌, ap}
+use Rattle.std.specs.Prelude.{◌&&◌, nat_lt, if◌then◌else◌}
 use Rattle.std.specs.List.{flat_map}
-use Rattle.std.proofs.lemmas.List.{length-map, map-append, replicate-append-replicate}
-use Rattle.std.proofs.lemmas.List.Folds.{sum_by-replicate}
+use Rattle.std.proofs.lemmas.List.{length-map, map-append}
 use Rattle.vx_base.specs.Defaults.{is_even, even_fields}
 use Rattle.vx_base.specs.Kinds.{Kind, booleans, integers, texts, binaries, lists, fixed_lists, records, Kinds, no_kinds, kind, or_nullable}
 use Rattle.vx_base.specs.Refusals.{overflow, or_else}
 use Rattle.vx_base.specs.Rows.{Row, null, boolean, whole, bytes, text, items, record_of, Rows, no_rows, row, Fields, no_fields, field, list_from}
 use Rattle.vx_base.specs.ValueRows.{named, all_named, fields_named}
-use Rattle.vx_tree.specs.RowParts.{field_at, field_in, is_long_row, items_in, items_or_nulls}
-use Rattle.vx_tree.specs.Extents.{rows_extent, fields_extents, extent, view_extent, list_extent, fixed_list_extent, struct_extent}
-use Rattle.vx_tree.specs.PlainValues.{fields_fault, rows_fault}
+use Rattle.vx_tree.specs.RowParts.{field_at, field_in, items_in, items_or_nulls}
+use Rattle.vx_tree.specs.Extents.{rows_extent, fields_extents, extent, list_extent, fixed_list_extent, struct_extent}
+use Rattle.vx_tree.specs.PlainValues.{fields_fault, kept_fault, kept_fields_fault, rows_fault}
 
 both_true : (a b : Bool) → (a && b) ≡ true → (a ≡ true) × (b ≡ true)
 both_true true b h = (refl, h)
@@ -58,13 +57,22 @@ fixed_items_named k size m (text bs) = nulls_named k size
 fixed_items_named k size m (items rs) = list_named k rs
 fixed_items_named k size m (record_of fs) = nulls_named k size
 
+sized_items_named : (k : Kind) (size : ℕ) (m : Bool) (r : Row) → items_in (named (fixed_lists k size m) r) ≡ map (named k) (items_in r)
+sized_items_named k size m null = refl
+sized_items_named k size m (boolean b) = refl
+sized_items_named k size m (whole z) = refl
+sized_items_named k size m (bytes bs) = refl
+sized_items_named k size m (text bs) = refl
+sized_items_named k size m (items rs) = list_named k rs
+sized_items_named k size m (record_of fs) = refl
+
 -- the kinds from place c on
-abbrev from_field : ℕ → Kinds → Kinds
+abbrev pub from_field : ℕ → Kinds → Kinds
 from_field zero ks = ks
 from_field (suc c) no_kinds = no_kinds
 from_field (suc c) (kind k ks) = from_field c ks
 
-next_field : (c : ℕ) (ks js : Kinds) (j : Kind) → from_field c ks ≡ kind j js → from_field (suc c) ks ≡ js
+pub next_field : (c : ℕ) (ks js : Kinds) (j : Kind) → from_field c ks ≡ kind j js → from_field (suc c) ks ≡ js
 next_field zero no_kinds js j e = cc
 next_field zero (kind k ks) js j e = cc
 next_field (suc c) no_kinds js j e = cc
@@ -141,6 +149,24 @@ mutual
       λ i. or_else (here i) (fields_fault-named names ks js m (suc c) rs h (next_field c ks js j e) i)
 
 mutual
+  pub kept_fault-named : (k : Kind) (rs : List Row) → is_even k ≡ true → kept_fault k (map (named k) rs) ≡ kept_fault k rs
+  kept_fault-named (booleans n) rs h = refl
+  kept_fault-named (integers t n) rs h = refl
+  kept_fault-named (texts n) rs h = ap (kept_fault (texts n)) (long_named (texts n) rs (named_text n))
+  kept_fault-named (binaries n) rs h = ap (kept_fault (binaries n)) (long_named (binaries n) rs (named_binary n))
+  kept_fault-named (lists k n) rs h = rows_fault-named (lists k n) rs h
+  kept_fault-named (fixed_lists k size n) rs h =
+      ap (kept_fault k) (flat_named k (fixed_lists k size n) items_in (sized_items_named k size n) rs) ∙ kept_fault-named k (flat_map items_in rs) h
+  kept_fault-named (records names ks n) rs h = kept_fields_fault-named names ks ks n 0 rs h refl
+
+  kept_fields_fault-named : (names : List (List ℕ)) (ks js : Kinds) (m : Bool) (c : ℕ) (rs : List Row) → even_fields names ks ≡ true → from_field c ks ≡ js
+      → kept_fields_fault js c (map (named (records names ks m)) rs) ≡ kept_fields_fault js c rs
+  kept_fields_fault-named names ks no_kinds m c rs h e = refl
+  kept_fields_fault-named names ks (kind j js) m c rs h e =
+      let here = ap (kept_fault j) (field_each names ks js m j c rs h e) ∙ kept_fault-named j (map (field_in c) rs) (even_rest names j ks c js j h e) in
+      λ i. or_else (here i) (kept_fields_fault-named names ks js m (suc c) rs h (next_field c ks js j e) i)
+
+mutual
   pub rows_extent-named : (k : Kind) (rs : List Row) → is_even k ≡ true → rows_extent k (map (named k) rs) ≡ rows_extent k rs
   rows_extent-named (booleans n) rs h = refl
   rows_extent-named (integers t n) rs h = refl
@@ -159,40 +185,6 @@ mutual
   fields_extents-named names ks (kind j js) m c rs h e =
       let here = ap (rows_extent j) (field_each names ks js m j c rs h e) ∙ rows_extent-named j (map (field_in c) rs) (even_rest names j ks c js j h e) in
       λ i. extent (here i) (fields_extents-named names ks js m (suc c) rs h (next_field c ks js j e) i)
-
--- ---- rows of null have no parts
-
-none_long : (n : ℕ) → count_by is_long_row (replicate n null) ≡ 0
-none_long n = sum_by-replicate (λ y. cond (is_long_row y) 1 0) n null ∙ omega arith
-
-no_items : (n : ℕ) → flat_map items_in (replicate n null) ≡ []
-no_items zero = refl
-no_items (suc n) = no_items n
-
-sized_nulls : (size n : ℕ) → flat_map (items_or_nulls size) (replicate n null) ≡ replicate (n * size) null
-sized_nulls size zero = ap (λ m. replicate m null) {x = 0} {y = 0 * size} (omega arith)
-sized_nulls size (suc n) =
-    ap (λ rs. replicate size null ++ rs) (sized_nulls size n) ∙ replicate-append-replicate size (n * size) null ∙ ap (λ m. replicate m null) {x = size + n * size} {y = suc n * size} (omega arith)
-
-nulls_at : (c n : ℕ) → map (field_in c) (replicate n null) ≡ replicate n null
-nulls_at c zero = refl
-nulls_at c (suc n) = ap (λ rs. null ∷ rs) (nulls_at c n)
-
-mutual
-  pub rows_extent-nulls : (k : Kind) (n : ℕ) → rows_extent k (replicate n null) ≡ rows_extent k []
-  rows_extent-nulls (booleans m) n = refl
-  rows_extent-nulls (integers t m) n = refl
-  rows_extent-nulls (texts m) n = ap view_extent (none_long n)
-  rows_extent-nulls (binaries m) n = ap view_extent (none_long n)
-  rows_extent-nulls (lists k m) n = ap (λ rs. list_extent (length rs) (rows_extent k rs)) (no_items n)
-  rows_extent-nulls (fixed_lists k size m) n = ap (λ rs. fixed_list_extent (rows_extent k rs)) (sized_nulls size n) ∙ ap fixed_list_extent (rows_extent-nulls k (n * size))
-  rows_extent-nulls (records names ks m) n = ap struct_extent (fields_extents-nulls ks 0 n)
-
-  fields_extents-nulls : (ks : Kinds) (c n : ℕ) → fields_extents ks c (replicate n null) ≡ fields_extents ks c []
-  fields_extents-nulls no_kinds c n = refl
-  fields_extents-nulls (kind k ks) c n =
-      let here = ap (rows_extent k) (nulls_at c n) ∙ rows_extent-nulls k n in
-      λ i. extent (here i) (fields_extents-nulls ks (suc c) n i)
 
 -- whether null may stand makes no difference
 pub rows_extent-or_nullable : (b : Bool) (k : Kind) (rs : List Row) → rows_extent (or_nullable b k) rs ≡ rows_extent k rs

@@ -1,8 +1,10 @@
 -- The same rows in plain layout.
-use Rattle.std.specs.Prelude.{◌≡◌, ◌<◌, ◌*◌, ◌^◌, ℕ, false, List, [], ◌∷◌, length, Option, Some, None, nat_lt, slice_index}
+use Rattle.std.specs.Prelude.{◌≡◌, ◌<◌, ◌*◌, ◌^◌, ℕ, suc, false, List, [], ◌∷◌, length, map, Option, Some, None, nat_lt, slice_index}
 use Rattle.std.specs.Prelude.{if◌then◌else◌}
 use Rattle.std.specs.List.{AllZip}
-use Rattle.vx_base.specs.Rows.{Row, null, is_present}
+use Rattle.vx_base.specs.declared.dtypes.DType.{DType}
+use Rattle.vx_base.specs.DTypes.{dtype_meaning}
+use Rattle.vx_base.specs.Rows.{Row, null}
 use Rattle.vx_base.specs.Refusals.{Refusal, overflow, or_else}
 use Rattle.vx_base.specs.Kinds.{Kind, fixed_lists, records, Kinds, no_kinds, kind}
 use Rattle.vx_tree.specs.Tree.{Tree, bools, primitive, constant, dictionary, fixed_list, list_view, structure}
@@ -13,8 +15,9 @@ use Rattle.vx_tree.specs.Flags.{is_flagged, kept_flag}
 use Rattle.vx_tree.specs.Formed.{ValidFits}
 use Rattle.vx_tree.specs.Plain.{IsPlain, ArePlain, IsPlainValid}
 use Rattle.vx_tree.specs.Columns.{AreRowsAt}
-use Rattle.vx_tree.specs.PlainValues.{rows_fault}
-use Rattle.vx_tree.specs.Extents.{Extent, extent_of, extents_of}
+use Rattle.vx_tree.specs.PlainValues.{kept_fault}
+use Rattle.vx_tree.specs.Extents.{Extent, extent_of, extents_of, rows_extent}
+use Rattle.vx_tree.specs.RowParts.{field_in}
 
 -- the same rows, of the same kind
 pub record HasRowsOf (t r : Tree) : Type 0 where
@@ -79,13 +82,9 @@ abbrev mutual
   fields_overflow no_kinds n = None
   fields_overflow (kind k ks) n = or_else (plain_overflow k n) (fields_overflow ks n)
 
--- a row by itself, where it is there
-abbrev pub value_fault : Kind → Row → Option Refusal
-value_fault k r = if is_present r then rows_fault k (r ∷ []) else None
-
--- a row, n times: the row by itself, then all of them
+-- a row, n times: the elements of n rows cannot be counted, or what the row keeps, once
 abbrev pub constant_fault : Kind → Row → ℕ → Option Refusal
-constant_fault k r n = or_else (value_fault k r) (plain_overflow k n)
+constant_fault k r n = or_else (plain_overflow k n) (kept_fault k (r ∷ []))
 
 -- the first fault of the parts; taking the values of a dictionary by its codes needs elements for each code
 abbrev mutual
@@ -119,6 +118,13 @@ pub record IsBlankPart (k : Kind) (x : Extent) (n : ℕ) (r : Tree) : Type 0 whe
   pub kind : kind_of r ≡ k
   pub plain : IsPlain r
   pub extent : extent_of r ≡ x
+
+-- no rows in plain layout for each field of rows from place c on, of the kind of a data type, with what its rows keep
+abbrev pub AreKeptFields : ℕ → List DType → List Row → List Tree → Type 0
+AreKeptFields c [] rs [] = Unit {0}
+AreKeptFields c (d ∷ ds) rs (t ∷ ts) =
+    IsBlankPart (dtype_meaning d) (rows_extent (dtype_meaning d) (map (field_in c) rs)) 0 t × AreKeptFields (suc c) ds rs ts
+AreKeptFields c _ rs _ = ⊥
 
 -- n rows in plain layout for each array, of its kind and its extent
 abbrev pub AreBlankParts : List Tree → ℕ → List Tree → Type 0

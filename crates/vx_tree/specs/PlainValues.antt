@@ -1,7 +1,7 @@
 -- Values, one a row, in plain layout.
 use Rattle.std.specs.Prelude.{◌≡◌, ◌<◌, ◌≤◌, ◌+◌, ◌*◌, ◌^◌, ℕ, suc, ℤ, pos, Bool, true, false, List, [], ◌∷◌, length}
 use Rattle.std.specs.Prelude.{map, take, count_by, Option, Some, None, is_some, slice_index_or, nat_lt, if◌then◌else◌}
-use Rattle.std.specs.List.{All, flat_map, range_with_len}
+use Rattle.std.specs.List.{All, filter, flat_map, range_with_len}
 use Rattle.vx_base.specs.declared.dtypes.DType.{DType}
 use Rattle.vx_base.specs.DTypes.{dtype_meaning}
 use Rattle.vx_base.specs.declared.scalar_value.ScalarValue.{ScalarValue}
@@ -94,6 +94,22 @@ abbrev mutual
   fields_fault no_kinds c rs = None
   fields_fault (kind k ks) c rs = or_else (rows_fault k (map (field_in c) rs)) (fields_fault ks (suc c) rs)
 
+-- what rows of a kind keep in plain layout, however often they stand: the elements of their lists cannot be made plain, or their long
+-- texts cannot be numbered
+abbrev mutual
+  pub kept_fault : Kind → List Row → Option Refusal
+  kept_fault (texts m) rs = buffers_overflow (count_by is_long_row rs)
+  kept_fault (binaries m) rs = buffers_overflow (count_by is_long_row rs)
+  kept_fault (lists k m) rs = rows_fault k (flat_map items_in rs)
+  kept_fault (fixed_lists k size m) rs = kept_fault k (flat_map items_in rs)
+  kept_fault (records names ks m) rs = kept_fields_fault ks 0 rs
+  kept_fault _ rs = None
+
+  -- of the fields from place c on
+  pub kept_fields_fault : Kinds → ℕ → List Row → Option Refusal
+  kept_fields_fault no_kinds c rs = None
+  kept_fields_fault (kind k ks) c rs = or_else (kept_fault k (map (field_in c) rs)) (kept_fields_fault ks (suc c) rs)
+
 -- where each list begins among the rows of all of them
 abbrev pub list_places : List Row → List ℕ
 list_places rs = map (λ i. length (flat_map items_in (take i rs))) (range_with_len 0 (length rs))
@@ -131,3 +147,9 @@ pub record AreSpread (rs qs : List Row) (os ns : List ℕ) : Type 0 where
   pub items : qs ≡ flat_map items_in rs
   pub places : os ≡ list_places rs
   pub sizes : ns ≡ list_sizes rs
+
+-- of values those that are there, each once, behind one that is none, and the place of each value among these
+pub record AreGathered (vs ws : List (Option ScalarValue)) (ps : List ℕ) : Type 0 where
+  pub few : ws ≡ None ∷ filter is_some vs
+  pub within : All (λ p. p < length ws) ps
+  pub values : map (λ p. slice_index_or ws p None) ps ≡ vs

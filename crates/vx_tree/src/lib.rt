@@ -10,6 +10,7 @@ mod filter;
 mod indices;
 mod into_array;
 mod join;
+mod kept_parts;
 pub mod laws;
 mod layouts;
 mod mask;

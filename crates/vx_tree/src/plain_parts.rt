@@ -1,21 +1,23 @@
 // Values that are lists or records, one a row, in plain layout: one recursion through data types.
 
-ghost use Rattle.std.specs.Prelude.{◌≡◌, ◌<◌, ◌*◌, ◌^◌, ◌++◌, [], length, map, replicate, IfOk};
-ghost use Rattle.std.specs.List.{All, flat_map};
+ghost use Rattle.std.specs.Prelude.{◌≡◌, ◌<◌, ◌*◌, ◌^◌, ◌++◌, [], ◌∷◌, None, length, map, is_some, replicate, slice_index_or, IfOk};
+ghost use Rattle.std.specs.List.{All, filter, flat_map};
 ghost use Rattle.vx_base.specs.DTypes.{dtype_meaning, field_kinds, field_names, is_nullable, kinds_of};
 ghost use Rattle.vx_base.specs.Kinds.{fixed_lists, lists, records};
 ghost use Rattle.vx_base.specs.Refusals.{Gives, Refuses};
 ghost use Rattle.vx_base.specs.Rows.{null};
 ghost use Rattle.vx_base.specs.ValueRows.{option_row};
 ghost use Rattle.vx_tree.specs.RowParts.{field_in, items_in, items_or_nulls};
-ghost use Rattle.vx_tree.specs.PlainValues.{ArePlainFields, ArePlainValues, AreSpread, FieldsFitNamed, FitsIfThere};
+ghost use Rattle.vx_tree.specs.Canonical.{plain_overflow};
+ghost use Rattle.vx_tree.specs.PlainValues.{AreGathered, ArePlainFields, ArePlainValues, AreSpread, FieldsFitNamed, FitsIfThere};
 ghost use Rattle.vx_tree.specs.PlainValues.{fields_fault, rows_fault};
 
 use crate::array::ArrayRef;
 use crate::layouts::list_view::counts_array;
+use crate::plain_rows::is_countable;
 use crate::plain_values::{plain_numbers, plain_texts, plain_truths, validity_of_values};
 use std::alloc::Global;
-use vx_base::{DType, Nullability, ScalarValue, StructFields, VortexError};
+use vx_base::{DType, Nullability, ScalarValue, Selection, StructFields, VortexError};
 
 // Values of a data type.
 #[cycle(plain_values)]
@@ -34,6 +36,9 @@ pub(crate) fn plain_values(
         DType::Utf8(_) | DType::Binary(_) => plain_texts(alloc, dtype, values),
         DType::List(items, nullability) => plain_lists(alloc, items, *nullability, values),
         DType::FixedSizeList(items, size, nullability) => {
+            if !is_countable(dtype, values.len()) {
+                return Err(VortexError::Overflow);
+            }
             plain_fixed_lists(alloc, items, *size, *nullability, values)
         }
         DType::Struct(fields, nullability) => plain_records(alloc, fields, *nullability, values),
@@ -62,9 +67,41 @@ fn plain_lists(
     Ok(ArrayRef::list_view(alloc, elements, offsets, sizes, validity, false)?)
 }
 
-// Lists of one size: a null has so many rows of null.
+// Lists of one size: a null has so many rows of null. These are made of zeroes where no list is
+// there. Where some are, they are made once, and the lists are taken as often as they stand. Asks
+// that all elements can be counted.
 #[cycle(plain_values)]
 fn plain_fixed_lists(
+    alloc: Global,
+    items: &DType,
+    size: u32,
+    nullability: Nullability,
+    values: &[Option<ScalarValue>],
+) -> Result<ArrayRef, VortexError>
+    requires fit { All (FitsIfThere (fixed_lists (dtype_meaning items.now) size (is_nullable nullability))) values.now }
+    requires countable { plain_overflow (fixed_lists (dtype_meaning items.now) size (is_nullable nullability)) (length values.now) ≡ None }
+    ensures made { IfOk result (ArePlainValues (fixed_lists (dtype_meaning items.now) size (is_nullable nullability)) values.now) }
+    ensures refuses { Refuses result (rows_fault
+        (fixed_lists (dtype_meaning items.now) size (is_nullable nullability)) (map option_row values.now)) }
+{
+    let present = count_present(values);
+    if present == values.len() {
+        return fixed_lists_by_item(alloc, items, size, nullability, values);
+    }
+    if present == 0 {
+        let none = fixed_lists_by_item(alloc, items, size, nullability, &[])?;
+        return Ok(none.missing_rows(alloc, values.len())?);
+    }
+    let mut places = Vec::with_capacity(alloc, values.len())?;
+    let gathered = gather_values(alloc, values, &mut places)?;
+    let lists = fixed_lists_by_item(alloc, items, size, nullability, &gathered)?;
+    lists.known();
+    Ok(lists.select_within(alloc, &Selection::at_positions(&places))?)
+}
+
+// Lists of one size, the rows of each written out.
+#[cycle(plain_values)]
+fn fixed_lists_by_item(
     alloc: Global,
     items: &DType,
     size: u32,
@@ -125,6 +162,57 @@ fn plain_fields(
     Ok(columns)
 }
 
+// How many values are there.
+fn count_present(values: &[Option<ScalarValue>]) -> usize
+    ensures { result ≡ length (filter is_some values.now) }
+{
+    let mut count = 0;
+    for i in 0..values.len() {
+        if values[i].is_some() {
+            count += 1;
+        }
+    }
+    count
+}
+
+// The values that are there, each once, behind one that is none. The place of each value among
+// these is added.
+fn gather_values(
+    alloc: Global,
+    values: &[Option<ScalarValue>],
+    places: &mut Vec<usize>,
+) -> Result<Vec<Option<ScalarValue>>, VortexError>
+    requires no_places { places.old.items ≡ [] }
+    ensures { Gives result (λ gathered. AreGathered values.now gathered.items places.new.items) }
+{
+    let mut gathered = vec![in alloc; None]?;
+    for value in values {
+        let place = gather_value(alloc, value, &mut gathered)?;
+        places.push(place)?;
+    }
+    Ok(gathered)
+}
+
+// The place of a value among these, to which it is added where it is there. The first is none.
+fn gather_value(
+    alloc: Global,
+    value: &Option<ScalarValue>,
+    gathered: &mut Vec<Option<ScalarValue>>,
+) -> Result<usize, VortexError>
+    requires some { 0 < length gathered.old.items }
+    requires none { slice_index_or gathered.old.items 0 None ≡ None }
+    ensures added { IfOk result (λ _. gathered.new.items ≡ gathered.old.items ++ filter is_some (value.now ∷ [])) }
+    ensures within { IfOk result (λ place. place < length gathered.new.items) }
+    ensures place { Gives result (λ place. slice_index_or gathered.new.items place None ≡ value.now) }
+{
+    if value.is_none() {
+        return Ok(0);
+    }
+    let place = gathered.len();
+    gathered.push(share(alloc, value)?)?;
+    Ok(place)
+}
+
 // The rows of lists, one list after another; a null has none. The place and the length of each are
 // added to these.
 fn spread_lists(
@@ -143,6 +231,20 @@ fn spread_lists(
         places.push(start)?;
         add_items(alloc, value, &mut rows)?;
         sizes.push(rows.len() - start)?;
+    }
+    Ok(rows)
+}
+
+// The rows of lists, one list after another; a null has none.
+pub(crate) fn items_of(
+    alloc: Global,
+    values: &[Option<ScalarValue>],
+) -> Result<Vec<Option<ScalarValue>>, VortexError>
+    ensures { Gives result (λ rows. map option_row rows.items ≡ flat_map items_in (map option_row values.now)) }
+{
+    let mut rows = Vec::new(alloc);
+    for value in values {
+        add_items(alloc, value, &mut rows)?;
     }
     Ok(rows)
 }
@@ -219,7 +321,7 @@ fn add_nulls(count: usize, out: &mut Vec<Option<ScalarValue>>) -> Result<(), Vor
 }
 
 // The field at a place of each record, shared; a null has a null there.
-fn fields_at(
+pub(crate) fn fields_at(
     alloc: Global,
     values: &[Option<ScalarValue>],
     place: usize,

@@ -1,22 +1,24 @@
 // Rows in plain layout, of which only the validity is given.
 
-ghost use Rattle.std.specs.Prelude.{◌≡◌, ◌<◌, ℕ, [], None, Some, true, false, if◌then◌else◌};
+ghost use Rattle.std.specs.Prelude.{◌≡◌, ◌<◌, ℕ, [], None, Some, true, false, replicate, if◌then◌else◌};
 ghost use Rattle.std.specs.List.{All};
-ghost use Rattle.vx_base.specs.DTypes.{dtype_meaning, kinds_of};
+ghost use Rattle.vx_base.specs.DTypes.{dtype_meaning, is_nullable, kinds_of};
 ghost use Rattle.vx_base.specs.Kinds.{is_nullable_kind, or_nullable};
 ghost use Rattle.vx_base.specs.Refusals.{Gives, overflow};
+ghost use Rattle.vx_tree.specs.Tree.{all_invalid, non_nullable};
 ghost use Rattle.vx_tree.specs.Meaning.{kind_of, is_valid_at, nullable, trees_from};
 ghost use Rattle.vx_tree.specs.Shapes.{state_of, tree_state, taken_state};
 ghost use Rattle.vx_tree.specs.Formed.{ValidFits};
 ghost use Rattle.vx_tree.specs.Plain.{IsPlain, ArePlain, IsPlainValid};
 ghost use Rattle.vx_tree.specs.Parts.{valid_of};
+ghost use Rattle.vx_tree.specs.PlainValues.{ArePlainValues};
 ghost use Rattle.vx_tree.specs.Extents.{extent_of, rows_extent};
 ghost use Rattle.vx_tree.specs.Canonical.{IsBlank, IsBlankPart, AreBlankParts, IsPlainNulls, plain_overflow, fields_overflow};
 
 use crate::array::{ArrayRef, Layout, Validity};
 use crate::plain_parts::plain_values;
 use std::alloc::Global;
-use vx_base::{BitBuffer, DType, VortexError, zero_numbers};
+use vx_base::{BitBuffer, DType, Nullability, VortexError, zero_numbers};
 
 impl ArrayRef {
     // Rows of this validity in plain layout, made of zeroes: lists have no elements and texts no
@@ -64,7 +66,7 @@ impl ArrayRef {
     // it may in this, and that the elements can be counted.
     #[cycle(blank)]
     #[tactic(auto, using(crate::proofs::Blanks::blanks))]
-    fn blank_like(
+    pub(crate) fn blank_like(
         &self,
         alloc: Global,
         len: usize,
@@ -110,9 +112,23 @@ impl ArrayRef {
         }
     }
 
+    // So many rows of no value, like this array of none, made of zeroes. Asks for one row at least,
+    // and that the elements can be counted.
+    #[tactic(auto, using(crate::proofs::Blanks::missing))]
+    pub(crate) fn missing_rows(&self, alloc: Global, len: usize) -> Result<ArrayRef, VortexError>
+        requires none { ArePlainValues (kind_of self.now) [] self.now }
+        requires some { 0 < len }
+        requires countable { plain_overflow (kind_of self.now) len ≡ None }
+        ensures { Gives result (ArePlainValues (kind_of self.now) (replicate len None)) }
+    {
+        self.known();
+        let validity = missing_validity(self.dtype().nullability());
+        self.blank_like(alloc, len, validity)
+    }
+
     // The same, null where null may stand.
     #[cycle(blank)]
-    fn blank_part(&self, alloc: Global, len: usize) -> Result<ArrayRef, VortexError>
+    pub(crate) fn blank_part(&self, alloc: Global, len: usize) -> Result<ArrayRef, VortexError>
         requires plain { IsPlain self.now }
         requires countable { plain_overflow (kind_of self.now) len ≡ None }
         ensures { Gives result (IsBlankPart (kind_of self.now) (extent_of self.now) len) }
@@ -142,6 +158,16 @@ impl ArrayRef {
             made.push(column.blank_part(alloc, len)?)?;
         }
         Ok(made)
+    }
+}
+
+// The validity of rows of no value.
+pub(crate) fn missing_validity(nullability: Nullability) -> Validity
+    ensures { valid_of result ≡ (if is_nullable nullability then all_invalid else non_nullable) }
+{
+    match nullability {
+        Nullability::NonNullable => Validity::NonNullable,
+        Nullability::Nullable => Validity::AllInvalid,
     }
 }
 

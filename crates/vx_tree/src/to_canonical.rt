@@ -21,7 +21,7 @@ impl ArrayRef {
     /// elements and the buffers of its values, also if it has no values. Lists that a constant or
     /// a dictionary becomes have the flag false. An array that is plain already is shared. Refuses
     /// by the first fault of the parts in their order, the values of a dictionary first: a
-    /// constant with `Overflow` where its row, unless that is null, or else all of its rows need
+    /// constant with `Overflow` where all of its rows, or the elements of a list in its row, need
     /// more elements of lists of one size than can be counted, or its row more than 4294967296
     /// buffers in one layout; a dictionary with `Overflow` where the rows of its codes need too
     /// many elements. Of the values 7, 9 and the codes 1, null, 0, 1 it makes the numbers 9, null,

@@ -23,6 +23,7 @@ mod many_values;
 mod masks;
 mod no_values;
 mod null_indices;
+mod null_lists;
 mod plain_constants;
 mod records;
 mod runs;

@@ -14,11 +14,13 @@ ghost use Rattle.vx_tree.specs.Meaning.{tree_len, kind_of, row_at, is_valid_at, 
 ghost use Rattle.vx_tree.specs.Shapes.{state_of, row_state};
 ghost use Rattle.vx_tree.specs.Formed.{ValidFits};
 ghost use Rattle.vx_tree.specs.Parts.{valid_of};
-ghost use Rattle.vx_tree.specs.PlainValues.{rows_fault};
-ghost use Rattle.vx_tree.specs.Canonical.{IsCanonical, IsCanonicalAt, canonical_fault, plain_overflow};
+ghost use Rattle.vx_tree.specs.PlainValues.{kept_fault};
+ghost use Rattle.vx_tree.specs.Canonical.{IsCanonical, IsCanonicalAt, canonical_fault, constant_fault, plain_overflow};
+ghost use Rattle.vx_tree.specs.Plain.{IsPlainValid};
 ghost use Rattle.vx_tree.specs.Operations.{IsSlice, IsSelected, IsNulled, IsNulls, AreBelow};
 
 use crate::array::{ArrayRef, Layout, Validity};
+use crate::kept_parts::kept_parts;
 use crate::plain_parts::plain_values;
 use crate::plain_rows::is_countable;
 use std::alloc::Global;
@@ -117,7 +119,8 @@ impl ArrayRef {
         constant_or_null(alloc, scalar, len, nulls)
     }
 
-    // The one row in plain layout, taken as often as it stands; rows of null are made at once.
+    // The one row in plain layout, taken as often as it stands. Rows of null are made at once, and
+    // where no row stands there is but what the one keeps.
     #[tactic(auto, using(crate::proofs::Blanks::null_rows))]
     pub(crate) fn canonical_constant(&self, alloc: Global) -> Result<ArrayRef, VortexError>
         requires { is_constant self.now ≡ true }
@@ -127,14 +130,18 @@ impl ArrayRef {
         let Layout::Constant { scalar, len } = self.layout() else {
             unreachable!();
         };
+        let dtype = scalar.dtype();
         if scalar.is_null() {
-            return null_rows(alloc, scalar.dtype(), *len);
+            return null_rows(alloc, dtype, *len);
         }
-        let row = plain_row(alloc, scalar)?;
-        row.known();
-        if !row.can_select(*len) {
+        if !is_countable(dtype, *len) {
             return Err(VortexError::Overflow);
         }
+        if *len == 0 {
+            return no_row(alloc, scalar);
+        }
+        let row = one_row(alloc, scalar)?;
+        row.known();
         Ok(row.select_within(alloc, &Selection::repeated(0, *len))?)
     }
 
@@ -197,12 +204,22 @@ fn constant_or_null(
 }
 
 // The one row in plain layout.
-fn plain_row(alloc: Global, scalar: &Scalar) -> Result<ArrayRef, VortexError>
+fn one_row(alloc: Global, scalar: &Scalar) -> Result<ArrayRef, VortexError>
     ensures ok { IfOk result (IsCanonical (constant scalar.now.kind scalar.now.row 1)) }
-    ensures refuses { Refuses result (rows_fault scalar.now.kind (scalar.now.row ∷ [])) }
+    ensures refuses { Refuses result (constant_fault scalar.now.kind scalar.now.row 1) }
 {
     let dtype = scalar.dtype();
     plain_values(alloc, dtype, std::slice::from_ref(scalar.value()))
+}
+
+// No row in plain layout, with the elements and the buffers that the one row keeps.
+fn no_row(alloc: Global, scalar: &Scalar) -> Result<ArrayRef, VortexError>
+    ensures ok { IfOk result (IsCanonical (constant scalar.now.kind scalar.now.row 0)) }
+    ensures refuses { Refuses result (kept_fault scalar.now.kind (scalar.now.row ∷ [])) }
+{
+    let dtype = scalar.dtype();
+    let kept = kept_parts(alloc, dtype, std::slice::from_ref(scalar.value()))?;
+    Ok(kept.blank_like(alloc, 0, scalar_validity(scalar))?)
 }
 
 // Rows of null of a data type in plain layout.
@@ -224,6 +241,7 @@ pub(crate) fn scalar_validity(scalar: &Scalar) -> Validity
     ensures fits { (n : ℕ) → ValidFits (valid_of result) n }
     ensures bits { (i : ℕ) → is_valid_at (valid_of result) i ≡ is_present scalar.now.row }
     ensures nullable { nullable (valid_of result) ≡ is_nullable_kind scalar.now.kind }
+    ensures plain { IsPlainValid (valid_of result) }
 {
     let dtype = scalar.dtype();
     if !scalar.is_valid() {

@@ -12,7 +12,10 @@ abbrev pub decreases-plain_lists : goal.decreases-plain_lists
 decreases-plain_lists l = 4 * kind_depth (dtype_meaning l.items.now) + 1
 
 abbrev pub decreases-plain_fixed_lists : goal.decreases-plain_fixed_lists
-decreases-plain_fixed_lists l = 4 * kind_depth (dtype_meaning l.items.now) + 1
+decreases-plain_fixed_lists l = 4 * kind_depth (dtype_meaning l.items.now) + 2
+
+abbrev pub decreases-fixed_lists_by_item : goal.decreases-fixed_lists_by_item
+decreases-fixed_lists_by_item l = 4 * kind_depth (dtype_meaning l.items.now) + 1
 
 abbrev pub decreases-plain_records : goal.decreases-plain_records
 decreases-plain_records l = 4 * kinds_depth (field_kinds l.fields.now) + 2

@@ -3,7 +3,7 @@ use Rattle.std.proofs.lemmas.Result.{err_from_is_err_and}
 use Rattle.vx_base.specs.DTypes.{dtype_meaning}
 use Rattle.vx_tree.specs.PlainValues.{rows_fault}
 use Rattle.vx_tree.proofs.Dictionaries.{memory_only}
-use Rattle.vx_tree.proofs.Blanks.{rows_fault-none}
+use Rattle.vx_tree.proofs.Kept.{rows_fault-none}
 use Rattle.vx_tree.proofs.array.ArrayRef.blank.Goals as goal
 
 pub returns-in_err-none : goal.returns-in_err-none

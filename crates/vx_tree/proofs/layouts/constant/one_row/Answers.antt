@@ -6,9 +6,9 @@ use Rattle.vx_base.specs.Refusals.{Refuses}
 use Rattle.vx_base.specs.ValueRows.{option_row}
 use Rattle.vx_base.proofs.Defaults.{dtype_even}
 use Rattle.vx_tree.specs.PlainValues.{ArePlainValues, rows_fault}
-use Rattle.vx_tree.proofs.PlainParts.{one_row_fault}
+use Rattle.vx_tree.proofs.CanonicalFaults.{one_row_fault}
 use Rattle.vx_tree.proofs.PlainValues.{one_canonical}
-use Rattle.vx_tree.proofs.layouts.constant.plain_row.Goals as goal
+use Rattle.vx_tree.proofs.layouts.constant.one_row.Goals as goal
 
 pub returns-clause-ok : goal.returns-clause-ok
 returns-clause-ok c =
@@ -27,4 +27,4 @@ returns-clause-refuses c =
     let even : is_even s.kind ≡ true = ap is_even (sym c.dtype-dtype.ensures.value) ∙ dtype_even c.dtype-dtype.result.now in
     let one : Refuses r (rows_fault (dtype_meaning c.dtype-dtype.result.now) (map option_row (v ∷ []))) = rw c.from_ref.ensures.value at c.plain_values.ensures.refuses in
     let whole : Refuses r (rows_fault s.kind (map option_row (v ∷ []))) = subst (λ k. Refuses r (rows_fault k (map option_row (v ∷ [])))) c.dtype-dtype.ensures.value one in
-    subst (Refuses r) (one_row_fault s.kind v s.row c.value.ensures even) whole
+    subst (Refuses r) (one_row_fault s.kind v s.row c.value.ensures c.dtype-dtype.ensures.fits even) whole
