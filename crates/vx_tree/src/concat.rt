@@ -16,8 +16,8 @@ ghost use Rattle.vx_tree.specs.Concatenated.{are_alike, concat_fault};
 mod numbers;
 
 use crate::array::ArrayRef;
+use crate::canonical_zeroes::is_countable;
 use crate::join::{all_formed, joined_len};
-use crate::plain_rows::is_countable;
 use std::alloc::Global;
 use vx_base::{DType, VortexError};
 

@@ -12,8 +12,8 @@ ghost use Rattle.vx_tree.specs.Extents.{rows_extent};
 ghost use Rattle.vx_tree.specs.PlainValues.{FieldsFitNamed, FitsIfThere, kept_fault, kept_fields_fault, rows_fault};
 
 use crate::array::ArrayRef;
-use crate::plain_parts::{fields_at, items_of, plain_values};
-use crate::plain_rows::missing_validity;
+use crate::canonical_nested::{fields_at, items_of, plain_values};
+use crate::canonical_zeroes::missing_validity;
 use std::alloc::Global;
 use vx_base::{DType, Nullability, ScalarValue, StructFields, VortexError};
 

@@ -2,6 +2,9 @@
 #![tactic(auto)]
 
 mod array;
+mod canonical_nested;
+mod canonical_values;
+mod canonical_zeroes;
 mod collect;
 mod concat;
 mod default_rows;
@@ -9,16 +12,13 @@ mod execute_scalar;
 mod filter;
 mod indices;
 mod into_array;
+mod is_plain;
 mod join;
 mod kept_parts;
 pub mod laws;
 mod layouts;
 mod mask;
-mod nulls;
-mod plain;
-mod plain_parts;
-mod plain_rows;
-mod plain_values;
+mod null_rows;
 mod read;
 pub mod row_laws;
 mod select;

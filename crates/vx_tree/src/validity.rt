@@ -17,7 +17,7 @@ mod bits;
 mod both;
 mod casts;
 mod compare;
-mod join;
+mod concat;
 mod laws;
 mod patch;
 mod patched_bits;

@@ -20,9 +20,9 @@ ghost use Rattle.vx_tree.specs.Plain.{IsPlainValid};
 ghost use Rattle.vx_tree.specs.Operations.{IsSlice, IsSelected, IsNulled, IsNulls, AreBelow};
 
 use crate::array::{ArrayRef, Layout, Validity};
+use crate::canonical_nested::plain_values;
+use crate::canonical_zeroes::is_countable;
 use crate::kept_parts::kept_parts;
-use crate::plain_parts::plain_values;
-use crate::plain_rows::is_countable;
 use std::alloc::Global;
 use vx_base::{DType, Mask, Scalar, ScalarValue, Selection, VortexError};
 

@@ -16,8 +16,8 @@ ghost use Rattle.vx_tree.specs.Canonical.{IsCanonical, IsCanonicalAt, canonical_
 ghost use Rattle.vx_tree.specs.Operations.{IsSlice, IsSelected, IsNulled, IsNulls, IsValidityOf, AreBelow};
 
 use crate::array::{ArrayRef, Layout, Validity};
+use crate::canonical_zeroes::is_countable;
 use crate::indices::to_position;
-use crate::plain_rows::is_countable;
 use crate::validity::constant_truth;
 use std::alloc::Global;
 use vx_base::{ScalarValue, Selection, VortexError};

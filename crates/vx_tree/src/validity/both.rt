@@ -12,7 +12,7 @@ ghost use Rattle.vx_tree.specs.Operations.{IsValidNulled};
 ghost use Rattle.vx_tree.specs.Validities.{pair_of, both_pairs, both_states, and_fault, kept_array, IsAndOf};
 
 use crate::array::{ArrayRef, Validity};
-use crate::validity::join::bits_of_mask;
+use crate::validity::concat::bits_of_mask;
 use crate::validity::{constant_truth, told_by};
 use std::alloc::Global;
 use vx_base::VortexError;

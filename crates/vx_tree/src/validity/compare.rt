@@ -12,7 +12,7 @@ ghost use Rattle.vx_tree.specs.Faults.{valid_type_fault};
 ghost use Rattle.vx_tree.specs.Validities.{full_valid, valid_from};
 
 use crate::array::{ArrayRef, Validity};
-use crate::validity::join::bits_of_mask;
+use crate::validity::concat::bits_of_mask;
 use crate::validity::told_by;
 use std::alloc::Global;
 use vx_base::{Mask, Nullability, VortexError};
