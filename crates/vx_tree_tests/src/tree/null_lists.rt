@@ -56,7 +56,10 @@ fn list(alloc: Global, values: Vec<Option<ScalarValue>>) -> Result<ScalarValue, 
 
 // A pair of numbers.
 fn pair(alloc: Global, first: i128, second: i128) -> Result<Option<ScalarValue>, VortexError> {
-    let values = vec![in alloc; Some(ScalarValue::Int(first)), Some(ScalarValue::Int(second))]?;
+    let values = vec![in alloc;
+        Some(ScalarValue::Int(first)),
+        Some(ScalarValue::Int(second)),
+    ]?;
     Ok(Some(list(alloc, values)?))
 }
 
@@ -90,7 +93,11 @@ fn a_record_of_a_null_list(rt: HostRuntime) {
     assert_eq!(rt; elements.len(), 6442450944);
     assert!(rt; array.is_valid(rt.alloc(), 2).expect(&rt, "read"));
     assert!(rt; !columns[0].is_valid(rt.alloc(), 2).expect(&rt, "read"));
-    assert!(rt; !elements.is_valid(rt.alloc(), 6442450943).expect(&rt, "read"));
+    assert!(rt;
+        !elements
+            .is_valid(rt.alloc(), 6442450943)
+            .expect(&rt, "read")
+    );
 }
 
 // A list of two null lists, five times.
@@ -105,7 +112,11 @@ fn a_list_of_null_lists(rt: HostRuntime) {
     let Layout::ListView { elements, .. } = array.layout() else {
         panic!(rt; "no list view");
     };
-    let Layout::FixedSizeList { elements: items, .. } = elements.layout() else {
+    let Layout::FixedSizeList {
+        elements: items,
+        ..
+    } = elements.layout()
+    else {
         panic!(rt; "no lists of one size");
     };
     assert!(rt; array.len() == 5 && elements.len() == 2 && items.len() == 4294967296);
@@ -125,16 +136,58 @@ fn null_lists_among_others(rt: HostRuntime) {
     let Layout::ListView { elements, .. } = array.layout() else {
         panic!(rt; "no list view");
     };
-    let Layout::FixedSizeList { elements: items, .. } = elements.layout() else {
+    let Layout::FixedSizeList {
+        elements: items,
+        ..
+    } = elements.layout()
+    else {
         panic!(rt; "no lists of one size");
     };
     assert!(rt; array.len() == 2 && elements.len() == 5 && items.len() == 10);
     let valid = [false, true, false, true, false];
     for i in 0..5 {
-        assert_eq!(rt; elements.is_valid(rt.alloc(), i).expect(&rt, "read"), valid[i]);
+        assert_eq!(rt;
+            elements.is_valid(rt.alloc(), i).expect(&rt, "read"),
+            valid[i]
+        );
     }
     assert!(rt; number(&rt, items, 2) == Some(7) && number(&rt, items, 3) == Some(8));
     assert!(rt; number(&rt, items, 6) == Some(9) && number(&rt, items, 7) == Some(10));
+}
+
+// So many values that are null.
+fn nulls(alloc: Global, count: usize) -> Result<Vec<Option<ScalarValue>>, VortexError> {
+    let mut values = Vec::new(alloc);
+    for _i in 0..count {
+        values.push(None)?;
+    }
+    Ok(values)
+}
+
+// A list of 4096 null lists and one list of 4096 null records without fields.
+fn one_among_nulls(alloc: Global) -> Result<ArrayRef, VortexError> {
+    let dtype = lists(alloc, fixed(alloc, empty_records(alloc)?, 4096)?)?;
+    let mut values = nulls(alloc, 4096)?;
+    values.push(Some(list(alloc, nulls(alloc, 4096)?)?))?;
+    plain(alloc, dtype, list(alloc, values)?, 1)
+}
+
+#[test]
+fn many_null_lists_and_another(rt: HostRuntime) {
+    let array = one_among_nulls(rt.alloc()).expect(&rt, "made");
+    let Layout::ListView { elements, .. } = array.layout() else {
+        panic!(rt; "no list view");
+    };
+    let Layout::FixedSizeList {
+        elements: items,
+        ..
+    } = elements.layout()
+    else {
+        panic!(rt; "no lists of one size");
+    };
+    assert!(rt; elements.len() == 4097 && items.len() == 16781312);
+    assert!(rt; !elements.is_valid(rt.alloc(), 4095).expect(&rt, "read"));
+    assert!(rt; elements.is_valid(rt.alloc(), 4096).expect(&rt, "read"));
 }
 
 // Pairs of lists that are null, whose items cannot be counted, and that row.
@@ -167,5 +220,8 @@ fn no_list_of_pairs(alloc: Global) -> Result<ArrayRef, VortexError> {
 
 #[test]
 fn elements_that_cannot_be_counted(rt: HostRuntime) {
-    assert_eq!(rt; no_list_of_pairs(rt.alloc()).err(), Some(VortexError::Overflow));
+    assert_eq!(rt;
+        no_list_of_pairs(rt.alloc()).err(),
+        Some(VortexError::Overflow)
+    );
 }
