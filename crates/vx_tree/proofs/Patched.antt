@@ -1,6 +1,6 @@
 -- Booleans that are overwritten at positions.
 use Rattle.std.proofs.Common.{ℕ, zero, suc, ◌+◌, ◌-◌, ◌<◌, ◌≤◌, ◌≡◌, Bool, true, false, List, [], ◌∷◌, ◌++◌, length, map, take, replicate, get_or, set, Option, Some, None, refl, sym, ◌∙◌, ap, subst, zero-add, arith, length-set}
-use Rattle.std.specs.Prelude.{IsSome, ℤ, pos, negsuc, ◌≤ℤ◌, nat_lt, unsigned_abs, slice_index, if◌then◌else◌}
+use Rattle.std.specs.Prelude.{IsSome, ℤ, pos, negsuc, ◌≤ℤ◌, nat_lt, unsigned_abs, if◌then◌else◌}
 use Rattle.std.specs.List.{range_with_len}
 use Rattle.std.proofs.lemmas.Bool.{ltb-true, ltb-false}
 use Rattle.std.proofs.lemmas.Int.{ints}

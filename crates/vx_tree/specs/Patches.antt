@@ -1,5 +1,5 @@
 -- Booleans that are overwritten at positions.
-use Rattle.std.specs.Prelude.{◌≡◌, ◌-◌, ◌&&◌, ℕ, pos, negsuc, Bool, true, false, List, [], ◌∷◌, length, map, Option, Some}
+use Rattle.std.specs.Prelude.{◌≡◌, ◌-◌, ◌&&◌, ℕ, pos, negsuc, Bool, true, false, List, [], ◌∷◌, map, Option, Some}
 use Rattle.std.specs.Prelude.{None, nat_lt, slice_set, if◌then◌else◌}
 use Rattle.std.specs.List.{range_with_len}
 use Rattle.vx_base.specs.Kinds.{is_plain_integers}

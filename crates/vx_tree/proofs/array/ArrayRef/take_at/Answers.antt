@@ -1,5 +1,5 @@
 use Rattle.std.proofs.Common.{◌∙◌, ap, length, subst, sym}
-use Rattle.vx_tree.specs.Parts.{tree_of, valid_of}
+use Rattle.vx_tree.specs.Parts.{valid_of}
 use Rattle.vx_tree.specs.Formed.{ValidFits}
 use Rattle.vx_tree.specs.Operations.{IsSelected}
 use Rattle.vx_tree.proofs.Taken.{taken_at}

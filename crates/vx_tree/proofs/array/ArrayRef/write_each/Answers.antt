@@ -1,5 +1,4 @@
-use Rattle.std.proofs.Common.{◌≡◌, ◌<◌, length, to_z, of_z, arith}
-use Rattle.std.specs.Int.{w128}
+use Rattle.std.proofs.Common.{◌≡◌, ◌<◌, length, arith}
 use Rattle.std.proofs.lemmas.Int.{ints}
 use Rattle.vx_base.specs.Kinds.{integer_type}
 use Rattle.vx_base.proofs.NumberBytes.{number_passed}
