@@ -61,6 +61,24 @@ static uint32_t to_arrow(struct codrask_fault *fault) {
     return number;
 }
 
+static uint32_t run(struct codrask_fault *fault) {
+    static const uint8_t none[16];
+    struct codrask_step steps[3];
+    struct codrask_column column = {made.nodes, made.count};
+    struct codrask_columns results = CODRASK_NO_COLUMNS;
+    struct codrask_run_fault told;
+    size_t both[] = {0, 1}, wanted[] = {3, 0, 1};
+    for (size_t i = 0; i < 3; i++)
+        steps[i] = (struct codrask_step){.arrays = both, .names = (const struct codrask_bytes *)none, .name = none};
+    steps[0].kind = CODRASK_CANONICAL;
+    steps[1].kind = CODRASK_CONCAT, steps[1].array_count = 2;
+    steps[2].kind = CODRASK_SLICE, steps[2].array = 2, steps[2].end = made.nodes[0].length;
+    uint32_t number = codrask_run(&column, 1, steps, 3, wanted, 3, &results, &told);
+    *fault = (struct codrask_fault){told.number, told.node, told.place};
+    codrask_columns_free(&results);
+    return number;
+}
+
 /* Makes a call with one request for memory refused, or with none. */
 static uint32_t try_call(call *made_call, long fail_at, struct codrask_fault *fault) {
     left = fail_at, held = tried = 0, counting = true;
@@ -93,6 +111,7 @@ int main(void) {
             made.nodes[random_below(made.count)].length++;
         gives_back(check, seed) ? passed++ : failed++;
         gives_back(to_arrow, seed) ? passed++ : failed++;
+        gives_back(run, seed) ? passed++ : failed++;
         let_go(&made);
     }
     printf("%zu passed, %zu failed\n", passed, failed);
