@@ -1,41 +1,10 @@
 /* Steps by hand: what they make, and one of each fault. The last line is 'N passed, M failed'. */
-#include "codrask.h"
+#include "by_hand.h"
 
 #include <stdio.h>
 #include <string.h>
 
 static int passed, failed;
-static const uint8_t none[16];
-
-#define COUNT(array) (sizeof(array) / sizeof *(array))
-#define SLICE(array) (const uint8_t *)(array), sizeof(array)
-
-static struct codrask_node node(uint32_t kind, uint32_t validity, size_t length) {
-    struct codrask_node n = {.kind = kind, .validity = validity, .length = length};
-    n.bytes = none;
-    n.views = (const struct codrask_view *)none;
-    n.buffers = (const struct codrask_bytes *)none;
-    return n;
-}
-
-static struct codrask_node numbers(uint32_t kind, size_t length, const void *bytes, size_t count) {
-    struct codrask_node n = node(kind, CODRASK_NON_NULLABLE, length);
-    n.bytes = bytes;
-    n.byte_count = count;
-    return n;
-}
-
-static struct codrask_node truths(size_t length, const uint8_t *bits) {
-    return numbers(CODRASK_BOOL, length, bits, (length + 7) / 8);
-}
-
-static struct codrask_step step(uint32_t kind, size_t array) {
-    struct codrask_step s = {.kind = kind, .array = array};
-    s.arrays = (const size_t *)none;
-    s.names = (const struct codrask_bytes *)none;
-    s.name = none;
-    return s;
-}
 
 static void tell(const char *what, int good) {
     good ? passed++ : failed++;

@@ -1,9 +1,10 @@
 -- A run: what is read one after another, what is written of it, and why it is refused.
-use Rattle.std.proofs.Common.{◌≡◌, ◌+◌, ◌≤◌, ◌<◌, ℕ, zero, suc, List, [], ◌∷◌, ◌++◌, length, map, take, get_or, refl, sym, ◌∙◌, ap, subst, inl, inr, arith, rules}
+use Rattle.std.proofs.Common.{◌≡◌, ◌+◌, ◌≤◌, ◌<◌, ℕ, zero, suc, List, [], ◌∷◌, ◌++◌, length, map, take, get_or, refl, sym, ◌∙◌, ap, subst, inl, inr, arith, rules, Bor}
 use Rattle.std.specs.Prelude.{Option, Some, None, Result, Ok, Err, slice_get, slice_index_or, nat_lt, IsSomeAnd, if◌then◌else◌}
 use Rattle.std.specs.List.{AllZip}
 use Rattle.std.specs.Option.{option_map}
 use Rattle.std.specs.Global.{Vec}
+use Rattle.std.specs.Slice.{IsItemAt}
 use Rattle.std.proofs.lemmas.List.{map-append, length-map, take_more}
 use Rattle.std.proofs.lemmas.Option.{slice_get-get_or, slice_get_within, get_or_from_slice_get}
 use Rattle.vx_base.specs.declared.errors.VortexError.{VortexError}
@@ -29,10 +30,10 @@ use Rattle.vx_c.specs.Answers.{IsFormFault, IsTableFault}
 use Rattle.vx_c.specs.Steps.{IsStepOf, step_form_fault}
 use Rattle.vx_c.specs.Unflagged.{unflagged, node_count}
 use Rattle.vx_c.specs.Written.{IsWritten, node_of}
-use Rattle.vx_c.specs.Runs.{column_in, AreColumns, AreSteps, IsReadBack, IsMadeOf, IsMade, IsNoColumn, IsNoTable, IsRunError, IsToldOf}
+use Rattle.vx_c.specs.Runs.{column_in, AreColumns, AreSteps, IsReadBack, IsMadeOf, IsMade, IsNoColumn, IsNoTable, result_fault, IsRunError, IsToldOf}
 use Rattle.vx_c.specs.Runs.{AreColumnsOr, AreStepsOr, IsRanOr, AreTablesOr, told_of_run}
 use Rattle.vx_c.specs.declared.faults.CodraskRunFault.{CodraskRunFault}
-use Rattle.vx_c.proofs.Unflagged.{unflagged-rows, kept_count}
+use Rattle.vx_c.proofs.Unflagged.{unflagged-rows, kept_count, kept_plain}
 use Rattle.vx_c.proofs.Meant.{form_refused}
 use Rattle.vx_c.proofs.WrittenTables.{tables-column}
 
@@ -69,13 +70,13 @@ no_column tables i other columns node e inside before fault =
 -- ---- steps
 
 pub steps_read : (steps : List CodraskStep) (i : ℕ) (other : CodraskStep) (read made : List Step) (s : Step) → i < length steps
-    → AreSteps (take i steps) read → IsStepOf (get_or steps i other) s → made ≡ read ++ s ∷ [] → AreSteps (take (i + 1) steps) made
+    → AllZip IsStepOf (take i steps) read → IsStepOf (get_or steps i other) s → made ≡ read ++ s ∷ [] → AllZip IsStepOf (take (i + 1) steps) made
 steps_read steps i other read made s inside before here pushed = taken_more IsStepOf steps i other read made s inside before here pushed
 
-pub no_step : (steps : List CodraskStep) (i : ℕ) (other : CodraskStep) (read : List Step) (e : NodeError) → i < length steps
-    → AreSteps (take i steps) read → IsFormFault e (step_form_fault (get_or steps i other)) → AreStepsOr steps (error.Form i e)
-no_step steps i other read e inside before fault =
-    inr ((read, before), there (λ c. IsFormFault e (step_form_fault c)) steps i other inside fault)
+pub no_step : (steps : List CodraskStep) (i : ℕ) (other : CodraskStep) (read : List Step) (e : NodeError) → i < length steps → length steps ≤ MAX_STEPS
+    → AllZip IsStepOf (take i steps) read → IsFormFault e (step_form_fault (get_or steps i other)) → AreStepsOr steps (error.Form i e)
+no_step steps i other read e inside few before fault =
+    inr (few, (read, before), there (λ c. IsFormFault e (step_form_fault c)) steps i other inside fault)
 
 pub many_steps : (steps : List CodraskStep) → MAX_STEPS < length steps → AreStepsOr steps (error.Form MAX_STEPS TooManySteps)
 many_steps steps many = inl (many, refl, refl)
@@ -91,9 +92,17 @@ tables_read results wanted i other tables made t inside before here pushed =
     taken_more (IsMadeOf results) wanted i other (map read tables) (map read made) (read t) inside before here
     (ap (map read) pushed ∙ map-append read tables (t ∷ []))
 
-pub no_table : (results : List Tree) (wanted : List ℕ) (i other : ℕ) (e : NodeError) → i < length wanted → IsNoTable results (get_or wanted i other) e
-    → AreTablesOr results wanted (error.Result i e)
-no_table results wanted i other e inside fault = there (λ w. IsNoTable results w e) wanted i other inside fault
+pub no_table : (results : List Tree) (wanted : List ℕ) (i other : ℕ) (tables : List WrittenTable) (e : NodeError) → i < length wanted
+    → AllZip (IsMadeOf results) (take i wanted) (map (λ (w : WrittenTable). column_of (map node_of w.nodes.items)) tables)
+    → IsNoTable results (get_or wanted i other) e → AreTablesOr results wanted (error.Result i e)
+no_table results wanted i other tables e inside before fault =
+    ((map (λ (w : WrittenTable). column_of (map node_of w.nodes.items)) tables, before), there (λ w. IsNoTable results w e) wanted i other inside fault)
+
+-- what `get` lends stands there
+pub lent_there : (results : List Tree) (w : ℕ) (lent : Option (Bor Tree)) (a : Bor Tree) → IsItemAt results w lent → lent ≡ Some a → slice_get results w ≡ Some a.now
+lent_there results w lent a item is =
+    let here : IsItemAt results w (Some a) = subst (IsItemAt results w) is item in
+    slice_get-get_or results w a.now here.3.0 ∙ ap Some (sym here.1)
 
 array_there : (results : List Tree) (w : ℕ) (a : Tree) → slice_get results w ≡ Some a → array_at results w ≡ a
 array_there results w a is = get_or_from_slice_get results w a (bools [] non_nullable) is
@@ -108,17 +117,20 @@ no_array results w len none = inl (inr (ap (λ o. option_map refused (or_else o 
     past : position_fault (length results) w ≡ Some (out_of_bounds w)
     past = let long = outside results w none in search (rules, arith, long)
 
-pub not_plain : (results : List Tree) (w : ℕ) (a : Tree) (v : VortexError) → slice_get results w ≡ Some a → IsMemoryOr (canonical_fault a) v
-    → IsNoTable results w (Refused v)
-not_plain results w a v is fault =
-    inl (subst (λ o. IsFormFault (Refused v) (option_map refused o)) (sym same) (form_refused (canonical_fault a) v fault))
+-- the fault of an array that stands there is that of making it plain
+fault_there : (results : List Tree) (w : ℕ) (a : Tree) → slice_get results w ≡ Some a → result_fault results w ≡ canonical_fault a
+fault_there results w a is =
+    ap (λ o. or_else o (canonical_fault (array_at results w))) stands ∙ ap canonical_fault (array_there results w a is)
   where
     inside : w < length results
     inside = slice_get_within results w a is
     stands : position_fault (length results) w ≡ None
     stands = search (rules, arith, inside)
-    same : or_else (position_fault (length results) w) (canonical_fault (array_at results w)) ≡ canonical_fault a
-    same = ap (λ o. or_else o (canonical_fault (array_at results w))) stands ∙ ap canonical_fault (array_there results w a is)
+
+pub not_plain : (results : List Tree) (w : ℕ) (a : Tree) (v : VortexError) → slice_get results w ≡ Some a → IsMemoryOr (canonical_fault a) v
+    → IsNoTable results w (Refused v)
+not_plain results w a v is fault =
+    inl (subst (λ o. IsFormFault (Refused v) (option_map refused o)) (sym (fault_there results w a is)) (form_refused (canonical_fault a) v fault))
 
 pub no_memory : (results : List Tree) (w : ℕ) → IsNoTable results w (Refused Memory)
 no_memory results w = inl (inl refl)
@@ -127,10 +139,10 @@ no_memory results w = inl (inl refl)
 written_alone : (c : Tree) (nodes : List WrittenNode) → IsWritten [] (unflagged c ∷ []) nodes → length nodes ≡ node_count c
 written_alone c nodes written = let same = ap length written.put in omega (arith, same, written.len, kept_count c)
 
-pub too_long : (results : List Tree) (w : ℕ) (a c : Tree) (nodes : List WrittenNode) → slice_get results w ≡ Some a → IsCanonical a c
+pub too_long : (results : List Tree) (w : ℕ) (a c : Tree) (nodes : List WrittenNode) → slice_get results w ≡ Some a → canonical_fault a ≡ None → IsCanonical a c
     → IsWritten [] (unflagged c ∷ []) nodes → MAX_NODES < length nodes → IsNoTable results w TooManyNodes
-too_long results w a c nodes is canonical written long =
-    inr (refl, c, subst (λ x. IsCanonical x c) (sym (array_there results w a is)) canonical, omega (arith, long, written_alone c nodes written))
+too_long results w a c nodes is none canonical written long =
+    inr (refl, fault_there results w a is ∙ none, (c, subst (λ x. IsCanonical x c) (sym (array_there results w a is)) canonical, omega (arith, long, written_alone c nodes written)))
 
 rows_both : (t r s : Tree) → HasRowsOf t r → HasRowsOf r s → HasRowsOf t s
 rows_both t r s first second = record {
@@ -139,15 +151,15 @@ rows_both t r s first second = record {
   rows = λ i inside. second.rows i (omega (arith, inside, first.len)) ∙ first.rows i inside;
 }
 
-pub table_made : (results : List Tree) (w : ℕ) (a c : Tree) (nodes made : List WrittenNode) → slice_get results w ≡ Some a → IsCanonical a c
+pub table_made : (results : List Tree) (w : ℕ) (a c : Tree) (nodes made : List WrittenNode) → slice_get results w ≡ Some a → canonical_fault a ≡ None → IsCanonical a c
     → IsWritten [] (unflagged c ∷ []) nodes → length nodes ≤ MAX_NODES → made ≡ nodes → IsMadeOf results w (column_of (map node_of made))
-table_made results w a c nodes made is canonical written short kept =
+table_made results w a c nodes made is none canonical written short kept =
     let counted : length (map node_of written.more) ≤ MAX_NODES = omega (arith, length-map written.more node_of, ap length written.put, short) in
     let read : column_of (map node_of made) ≡ Ok (unflagged c) =
     ap (λ ws. column_of (map node_of ws)) (kept ∙ written.put) ∙ tables-column (map node_of written.more) (unflagged c) written.tables counted in
     let rows : HasRowsOf (array_at results w) (unflagged c) =
     subst (λ x. HasRowsOf x (unflagged c)) (sym (array_there results w a is)) (rows_both a c (unflagged c) canonical.same (unflagged-rows c)) in
-    (slice_get_within results w a is, subst (IsReadBack (array_at results w)) (sym read) rows)
+    (fault_there results w a is ∙ none, subst (IsReadBack (array_at results w)) (sym read) (rows, kept_plain c canonical.plain))
 
 -- ---- the whole run
 

@@ -10,6 +10,7 @@ use Rattle.vx_tree.specs.Tree.{Tree, bools, primitive, constant, dictionary, fix
 use Rattle.vx_tree.specs.Tree.{Valid, non_nullable, all_valid, all_invalid, by_array}
 use Rattle.vx_tree.specs.Meaning.{tree_len, kind_of, kinds_of, row_at, fields_at, is_valid_at, nullable, picked, rows_range, is_texts, value_row, trees_from}
 use Rattle.vx_tree.specs.Canonical.{HasRowsOf}
+use Rattle.vx_tree.specs.Plain.{IsPlain, ArePlain, IsPlainValid}
 use Rattle.vx_c.specs.Unflagged.{unflagged, unflagged_trees, unflagged_valid, node_count, trees_count, valid_count, nodes_of}
 
 pub kept_len : (t : Tree) → tree_len (unflagged t) ≡ tree_len t
@@ -68,6 +69,29 @@ mutual
 
 pub unflagged-rows : (t : Tree) → HasRowsOf t (unflagged t)
 unflagged-rows t = record { len = kept_len t; kind = kept_kind t; rows = λ i inside j. kept_row t j i }
+
+-- ---- plain layouts
+
+mutual
+  pub kept_plain : (t : Tree) → IsPlain t → IsPlain (unflagged t)
+  kept_plain (bools bits v) plain = kept_plain_valid v plain
+  kept_plain (primitive t bs v) plain = kept_plain_valid v plain
+  kept_plain (constant k r n) plain = absurd plain
+  kept_plain (dictionary c v f) plain = absurd plain
+  kept_plain (fixed_list e k v n) plain = (kept_plain e plain.0, kept_plain_valid v plain.1)
+  kept_plain (list_view e o s v f) plain = (kept_plain e plain.0, kept_plain o plain.1, kept_plain s plain.2, kept_plain_valid v plain.3)
+  kept_plain (structure ns ts v n) plain = (kept_plain_trees ts plain.0, kept_plain_valid v plain.1)
+  kept_plain (view_array vs bs k v) plain = kept_plain_valid v plain
+
+  kept_plain_trees : (ts : Trees) → ArePlain ts → ArePlain (unflagged_trees ts)
+  kept_plain_trees no_trees plain = tt
+  kept_plain_trees (tree t ts) plain = (kept_plain t plain.0, kept_plain_trees ts plain.1)
+
+  kept_plain_valid : (v : Valid) → IsPlainValid v → IsPlainValid (unflagged_valid v)
+  kept_plain_valid non_nullable plain = tt
+  kept_plain_valid all_valid plain = tt
+  kept_plain_valid all_invalid plain = tt
+  kept_plain_valid (by_array t) plain = kept_plain t plain
 
 -- ---- columns
 

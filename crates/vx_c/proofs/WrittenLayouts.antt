@@ -140,9 +140,13 @@ count_none : (count size len : ℕ) → count ≡ len * size → count < 2 ^ 64 
 count_none count zero len is short = let none : count ≡ 0 = omega (arith, is) in search (rules, arith, none)
 count_none count (suc k) len is short = let fits : len * suc k < 2 ^ 64 = omega (arith, is, short) in search (rules, arith, fits, is)
 
-pub fixed_written : (e : Tree) (k n : ℕ) (v : Valid) (old mid new : List WrittenNode) → WellFormed (fixed_list e k v n) → tree_len e < 2 ^ 64
+parent_of : (k : NodeKind) (size m n : ℕ) (names : List (List ℕ)) (v : Valid) (old mid : List WrittenNode) → m ≡ n → IsParent k size m names v old mid
+    → IsParent k size n names v old mid
+parent_of k size m n names v old mid same parent = subst (λ len. IsParent k size len names v old mid) same parent
+
+fixed_parts : (e : Tree) (k n : ℕ) (v : Valid) (old mid new : List WrittenNode) → WellFormed (fixed_list e k v n) → tree_len e < 2 ^ 64
     → IsParent FixedSizeList k n [] v old mid → IsWritten mid (unflagged e ∷ []) new → IsWritten old (unflagged (fixed_list e k v n) ∷ []) new
-fixed_written e k n v old mid new formed short parent parts =
+fixed_parts e k n v old mid new formed short parent parts =
     let u = unflagged_valid v in
     let w = parent.node in
     let t : Tree = fixed_list (unflagged e) k u n in
@@ -155,6 +159,12 @@ fixed_written e k n v old mid new formed short parent parts =
     parts-written w FixedSizeList v old mid new (unflagged e ∷ []) t (known_as w FixedSizeList parent.kind) parent.validity parent.put parts
     (λ others. made_by (fixed_list_fault (unflagged e) w.size u w.length) (fixed_list (unflagged e) w.size u w.length) t others none same)
     (sym parent.len_is) (let all = count-valid u (unflagged e ∷ []) in omega (arith, all))
+
+pub fixed_written : (a e : Tree) (k n m : ℕ) (v : Valid) (old mid new : List WrittenNode) → a ≡ fixed_list e k v n → WellFormed (fixed_list e k v n) → tree_len e < 2 ^ 64
+    → m ≡ tree_len a → IsParent FixedSizeList k m [] v old mid → IsWritten mid (unflagged e ∷ []) new → IsWritten old (unflagged a ∷ []) new
+fixed_written a e k n m v old mid new is formed short rows parent parts =
+    subst (λ t. IsWritten old (unflagged t ∷ []) new) (sym is)
+    (fixed_parts e k n v old mid new formed short (parent_of FixedSizeList k m n [] v old mid (rows ∙ ap tree_len is) parent) parts)
 
 -- ---- list views
 
@@ -199,10 +209,10 @@ lists_none e o s v f formed short =
     (or_else-second (count_type_fault b) (or_else (valid_type_fault u) (or_else (sizes_len_fault a b) (valid_len_fault u (tree_len a)))) None (counts_none s formed.1.sizes) types) in
     or_else-second (list_parts_fault a b u) (list_rows_fault (tree_len (unflagged e)) a b) None parts (kept_rows e o s ∙ rows_none e o s f formed.1 short)
 
-pub lists_written : (e o s : Tree) (v : Valid) (f : Bool) (n size : ℕ) (names : List (List ℕ)) (old m1 m2 m3 new : List WrittenNode) → WellFormed (list_view e o s v f)
-    → tree_len e < 2 ^ 64 → n ≡ tree_len o → IsParent ListView size n names v old m1 → IsWritten m1 (unflagged e ∷ []) m2 → IsWritten m2 (unflagged o ∷ []) m3
+lists_parts : (e o s : Tree) (v : Valid) (f : Bool) (n : ℕ) (old m1 m2 m3 new : List WrittenNode) → WellFormed (list_view e o s v f)
+    → tree_len e < 2 ^ 64 → n ≡ tree_len o → IsParent ListView 0 n [] v old m1 → IsWritten m1 (unflagged e ∷ []) m2 → IsWritten m2 (unflagged o ∷ []) m3
     → IsWritten m3 (unflagged s ∷ []) new → IsWritten old (unflagged (list_view e o s v f) ∷ []) new
-lists_written e o s v f n size names old m1 m2 m3 new formed short rows parent first second third =
+lists_parts e o s v f n old m1 m2 m3 new formed short rows parent first second third =
     let u = unflagged_valid v in
     let w = parent.node in
     let t : Tree = list_view (unflagged e) (unflagged o) (unflagged s) u false in
@@ -212,6 +222,13 @@ lists_written e o s v f n size names old m1 m2 m3 new formed short rows parent f
     parts-written w ListView v old m1 new us t (known_as w ListView parent.kind) parent.validity parent.put parts
     (λ others. made_by (list_view_fault (unflagged e) (unflagged o) (unflagged s) u) t t others (lists_none e o s v f formed short) refl)
     (kept_len o ∙ sym rows ∙ sym parent.len_is) (let all = count-valid u us in omega (arith, all))
+
+pub lists_written : (a e o s : Tree) (v : Valid) (f : Bool) (m : ℕ) (old m1 m2 m3 new : List WrittenNode) → a ≡ list_view e o s v f → WellFormed (list_view e o s v f)
+    → tree_len e < 2 ^ 64 → m ≡ tree_len a → IsParent ListView 0 m [] v old m1 → IsWritten m1 (unflagged e ∷ []) m2 → IsWritten m2 (unflagged o ∷ []) m3
+    → IsWritten m3 (unflagged s ∷ []) new → IsWritten old (unflagged a ∷ []) new
+lists_written a e o s v f m old m1 m2 m3 new is formed short rows parent first second third =
+    subst (λ t. IsWritten old (unflagged t ∷ []) new) (sym is)
+    (lists_parts e o s v f m old m1 m2 m3 new formed short (rows ∙ ap tree_len is) parent first second third)
 
 -- ---- records
 
@@ -266,10 +283,10 @@ records-read n u cs others len none =
     many : nat_lt (length (cs ++ others)) (length (buffers_in n)) ≡ false
     many = let more = long cs others in search (rules, arith, more, len)
 
-pub structure_written : (names : List (List ℕ)) (cs : List Tree) (v : Valid) (n size : ℕ) (old mid new : List WrittenNode) → WellFormed (structure names (trees_from cs) v n)
-    → names_fault names ≡ None → IsParent Struct size n names v old mid → IsWritten mid (map unflagged cs) new
+structure_parts : (names : List (List ℕ)) (cs : List Tree) (v : Valid) (n : ℕ) (old mid new : List WrittenNode) → WellFormed (structure names (trees_from cs) v n)
+    → names_fault names ≡ None → IsParent Struct 0 n names v old mid → IsWritten mid (map unflagged cs) new
     → IsWritten old (unflagged (structure names (trees_from cs) v n) ∷ []) new
-structure_written names cs v n size old mid new formed named parent parts =
+structure_parts names cs v n old mid new formed named parent parts =
     let u = unflagged_valid v in
     let w = parent.node in
     let us = map unflagged cs in
@@ -287,6 +304,14 @@ structure_written names cs v n size old mid new formed named parent parts =
     parts-written w Struct v old mid new us t (known_as w Struct parent.kind) parent.validity parent.put parts
     (λ others. records-read (node_of w) u us others count none ∙ ap (λ x. Ok (x, others)) same)
     (sym parent.len_is) (all_counted ∙ ap suc (count-valid u us))
+
+pub structure_written : (a : Tree) (names : List (List ℕ)) (cs lent : List Tree) (v : Valid) (n m : ℕ) (old mid new : List WrittenNode) → a ≡ structure names (trees_from cs) v n
+    → WellFormed (structure names (trees_from cs) v n) → names_fault names ≡ None → m ≡ tree_len a → IsParent Struct 0 m names v old mid → lent ≡ cs
+    → IsWritten mid (map unflagged lent) new → IsWritten old (unflagged a ∷ []) new
+structure_written a names cs lent v n m old mid new is formed named rows parent same parts =
+    subst (λ t. IsWritten old (unflagged t ∷ []) new) (sym is)
+    (structure_parts names cs v n old mid new formed named (parent_of Struct 0 m n names v old mid (rows ∙ ap tree_len is) parent)
+    (subst (λ ts. IsWritten mid (map unflagged ts) new) same parts))
 
 -- ---- texts and byte lists
 

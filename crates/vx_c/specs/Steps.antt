@@ -35,10 +35,6 @@ MeansStep (Some WithColumn) c s = s ≡ step.WithColumn c.array c.name.now c.oth
 MeansStep (Some RemoveColumn) c s = s ≡ step.RemoveColumn c.array c.name.now
 MeansStep (Some PushValidity) c s = (remove : Bool) × (flag_numbered c.mode ≡ Some remove) × (s ≡ step.PushValidity c.array remove)
 
--- the step that C means
-abbrev pub IsStepOf : CodraskStep → Step → Type 0
-IsStepOf c s = MeansStep (step_numbered c.kind) c s
-
 -- ---- why it is none
 
 -- a mode that is not there
@@ -58,3 +54,9 @@ form_fault (Some _) c = None
 
 abbrev pub step_form_fault : CodraskStep → Option NodeFault
 step_form_fault c = form_fault (step_numbered c.kind) c
+
+-- ---- both
+
+-- the step that C means, which has no fault
+abbrev pub IsStepOf : CodraskStep → Step → Type 0
+IsStepOf c s = MeansStep (step_numbered c.kind) c s × (step_form_fault c ≡ None)

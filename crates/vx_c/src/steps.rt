@@ -5,7 +5,7 @@ ghost use Rattle.vx_base.specs.Refusals.{Refuses};
 ghost use Rattle.vx_c.specs.Tables.{utf8_fault, names_fault};
 ghost use Rattle.vx_c.specs.Answers.{IsFormFault};
 ghost use Rattle.vx_c.specs.StepKinds.{step_numbered, mode_numbered, flag_numbered};
-ghost use Rattle.vx_c.specs.Steps.{form_fault, MeansStep, IsStepOf};
+ghost use Rattle.vx_c.specs.Steps.{form_fault, step_form_fault, MeansStep, IsStepOf};
 
 use crate::faults::NodeError;
 use crate::layouts::name_of;
@@ -116,8 +116,7 @@ fn flag_numbered(number: u32) -> Option<bool>
 // The step that C means. Refuses `UnknownKind`, then as its parts are refused.
 pub(crate) fn step_of(alloc: Global, step: &CodraskStep<'_>) -> Result<Step, NodeError>
     ensures ok { IfOk result (IsStepOf step.now) }
-    ensures err { IfErr result (λ e. IsFormFault e (form_fault (step_numbered step.now.kind) step.now)) }
-    ensures sound { IfOk result (λ _. form_fault (step_numbered step.now.kind) step.now ≡ None) }
+    ensures err { IfErr result (λ e. IsFormFault e (step_form_fault step.now)) }
 {
     let kind = StepKind::numbered(step.kind).ok_or(NodeError::UnknownKind)?;
     step_of_kind(alloc, kind, step)
