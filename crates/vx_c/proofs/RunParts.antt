@@ -114,6 +114,7 @@ no_array results w len none = inl (inr (ap (λ o. option_map refused (or_else o 
     outside [] i is = omega arith
     outside (x ∷ xs) zero is = absurd (cc)
     outside (x ∷ xs) (suc i) is = omega (arith, outside xs i is)
+
     past : position_fault (length results) w ≡ Some (out_of_bounds w)
     past = let long = outside results w none in search (rules, arith, long)
 
@@ -124,6 +125,7 @@ fault_there results w a is =
   where
     inside : w < length results
     inside = slice_get_within results w a is
+
     stands : position_fault (length results) w ≡ None
     stands = search (rules, arith, inside)
 

@@ -81,6 +81,7 @@ masked_none t n kind len = or_else-second (valid_type_fault (by_array t)) (valid
   where
     plain : valid_type_fault (by_array t) ≡ None
     plain = ap (λ k. if is_plain_booleans k then None else Some mismatched_types) kind
+
     long : valid_len_fault (by_array t) n ≡ None
     long = search (rules, arith, len)
 
@@ -116,6 +117,7 @@ whole_none t bs n exact = rest
     divided I16 h = omega (arith, h)
     divided I32 h = omega (arith, h)
     divided I64 h = omega (arith, h)
+
     rest : whole_fault t bs ≡ None
     rest = ap (λ r. if r == 0 then None else Some length_mismatch) (divided t exact)
 
@@ -243,6 +245,7 @@ lens_none n m (c ∷ cs) all same =
   where
     len : tree_len (unflagged c) ≡ m
     len = kept_len c ∙ all.0 ∙ sym same
+
     one : length_fault m (tree_len (unflagged c)) ≡ None
     one = search (rules, arith, len)
 
@@ -262,6 +265,7 @@ struct_none names cs v n m formed same =
   where
     len : length (map unflagged cs) ≡ length names
     len = length-unflagged cs ∙ sym (column_count-from cs) ∙ sym formed.1.named
+
     one : length_fault (length names) (length (map unflagged cs)) ≡ None
     one = search (rules, arith, len)
 
@@ -280,6 +284,7 @@ records-read n u cs others len none =
     long : (xs ys : List Tree) → length xs ≤ length (xs ++ ys)
     long [] ys = omega arith
     long (x ∷ xs) ys = omega (arith, long xs ys)
+
     many : nat_lt (length (cs ++ others)) (length (buffers_in n)) ≡ false
     many = let more = long cs others in search (rules, arith, more, len)
 

@@ -42,6 +42,7 @@ tables-column ns t is short = fits
   where
     read : only (arrays_from 0 ns) ≡ Ok t
     read = ap (λ ms. only (arrays_from 0 ms)) (sym (append_none ns)) ∙ ap only (is 0 [] [] refl)
+
     fits : column_of ns ≡ Ok t
     fits = search (rules, arith, short, read)
 

@@ -17,7 +17,9 @@ fn lend_buffers(buffers: WrittenBuffers) -> &'static [CodraskBytes<'static>]
         mut room,
     } = buffers;
     while let Some(block) = blocks.pop() {
-        room.push_reserved(CodraskBytes { bytes: block.leak() });
+        room.push_reserved(CodraskBytes {
+            bytes: block.leak(),
+        });
     }
     room.reverse();
     room.leak()

@@ -113,11 +113,7 @@ fn tables_of(
 
 // The table of the array at a position, in plain layouts.
 #[tactic(auto, using(crate::proofs::RunParts::table_parts))]
-fn table_of(
-    alloc: Global,
-    results: &[ArrayRef],
-    position: usize,
-) -> Result<WrittenTable, NodeError>
+fn table_of(alloc: Global, results: &[ArrayRef], position: usize) -> Result<WrittenTable, NodeError>
     ensures ok { IfOk result (λ table. IsMadeOf results.now position (column_of (map node_of table.nodes.items))) }
     ensures err { IfErr result (IsNoTable results.now position) }
 {

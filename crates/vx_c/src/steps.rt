@@ -125,11 +125,7 @@ pub(crate) fn step_of(alloc: Global, step: &CodraskStep<'_>) -> Result<Step, Nod
 // The step of a kind. Refuses `BadMode` where the kind has no such mode, then `NotUtf8` at the first
 // name that is no text.
 #[tactic(auto, using(crate::proofs::Meant::meant))]
-fn step_of_kind(
-    alloc: Global,
-    kind: StepKind,
-    step: &CodraskStep<'_>,
-) -> Result<Step, NodeError>
+fn step_of_kind(alloc: Global, kind: StepKind, step: &CodraskStep<'_>) -> Result<Step, NodeError>
     ensures ok { IfOk result (MeansStep (Some kind) step.now) }
     ensures err { IfErr result (λ e. IsFormFault e (form_fault (Some kind) step.now)) }
     ensures sound { IfOk result (λ _. form_fault (Some kind) step.now ≡ None) }
@@ -185,10 +181,7 @@ fn field_name(alloc: Global, bytes: &[u8], place: usize) -> Result<FieldName, Vo
 }
 
 // Copies of the names that buffers hold. Refuses `NotUtf8` at the first that is not.
-fn field_names(
-    alloc: Global,
-    buffers: &[CodraskBytes<'_>],
-) -> Result<Vec<FieldName>, VortexError>
+fn field_names(alloc: Global, buffers: &[CodraskBytes<'_>]) -> Result<Vec<FieldName>, VortexError>
     ensures ok { IfOk result (λ names. names.items ≡ map (λ b. b.bytes.now) buffers.now) }
     ensures refuses { Refuses result (names_fault (map (λ b. b.bytes.now) buffers.now)) }
 {

@@ -53,7 +53,14 @@ pub(crate) fn write(
             validity,
             ..
         } => {
-            put_lists(alloc, NodeKind::FixedSizeList, *size, length, validity, nodes)?;
+            put_lists(
+                alloc,
+                NodeKind::FixedSizeList,
+                *size,
+                length,
+                validity,
+                nodes,
+            )?;
             Ok(write(alloc, elements, nodes)?)
         }
         Layout::ListView {

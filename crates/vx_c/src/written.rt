@@ -61,10 +61,7 @@ impl WrittenBuffers {
 
 impl WrittenTable {
     // A table of these nodes. Fails only for want of memory.
-    pub(crate) fn of(
-        alloc: Global,
-        nodes: Vec<WrittenNode>,
-    ) -> Result<WrittenTable, VortexError>
+    pub(crate) fn of(alloc: Global, nodes: Vec<WrittenNode>) -> Result<WrittenTable, VortexError>
         ensures { Gives result (λ t. t.nodes.items ≡ nodes.items) }
     {
         let room = Vec::with_capacity(alloc, nodes.len())?;
