@@ -1,20 +1,19 @@
 -- A run: what is read one after another, what is written of it, and why it is refused.
 use Rattle.std.proofs.Common.{◌≡◌, ◌+◌, ◌≤◌, ◌<◌, ℕ, zero, suc, List, [], ◌∷◌, ◌++◌, length, map, take, get_or, refl, sym, ◌∙◌, ap, subst, inl, inr, arith, rules, Bor}
-use Rattle.std.specs.Prelude.{Option, Some, None, Result, Ok, Err, slice_get, slice_index_or, nat_lt, IsSomeAnd, if◌then◌else◌}
+use Rattle.std.specs.Prelude.{Option, Some, None, Result, Ok, slice_get, IsSomeAnd}
 use Rattle.std.specs.List.{AllZip}
 use Rattle.std.specs.Option.{option_map}
-use Rattle.std.specs.Global.{Vec}
 use Rattle.std.specs.Slice.{IsItemAt}
 use Rattle.std.proofs.lemmas.List.{map-append, length-map, take_more}
 use Rattle.std.proofs.lemmas.Option.{slice_get-get_or, slice_get_within, get_or_from_slice_get}
 use Rattle.vx_base.specs.declared.errors.VortexError.{VortexError}
 use Rattle.vx_base.specs.declared.errors.VortexError.TheVariants.{Memory, OutOfBounds}
-use Rattle.vx_base.specs.Refusals.{Refusal, out_of_bounds, IsMemoryOr, or_else}
+use Rattle.vx_base.specs.Refusals.{out_of_bounds, IsMemoryOr, or_else}
 use Rattle.vx_tree.specs.Tree.{Tree, bools, non_nullable}
 use Rattle.vx_tree.specs.Canonical.{HasRowsOf, IsCanonical, canonical_fault}
 use Rattle.vx_tree.specs.Faults.{position_fault}
 use Rattle.vx_run.specs.declared.steps.Step.{Step}
-use Rattle.vx_run.specs.Steps.{array_at, HasRun, IsStop}
+use Rattle.vx_run.specs.Steps.{array_at, HasRun}
 use Rattle.vx_c.specs.declared.faults.NodeError.{NodeError}
 use Rattle.vx_c.specs.declared.faults.NodeError.TheVariants.{TooManyNodes, TooManySteps, Refused}
 use Rattle.vx_c.specs.declared.faults.RunError.{RunError}
@@ -30,7 +29,7 @@ use Rattle.vx_c.specs.Answers.{IsFormFault, IsTableFault}
 use Rattle.vx_c.specs.Steps.{IsStepOf, step_form_fault}
 use Rattle.vx_c.specs.Unflagged.{unflagged, node_count}
 use Rattle.vx_c.specs.Written.{IsWritten, node_of}
-use Rattle.vx_c.specs.Runs.{column_in, AreColumns, AreSteps, IsReadBack, IsMadeOf, IsMade, IsNoColumn, IsNoTable, result_fault, IsRunError, IsToldOf}
+use Rattle.vx_c.specs.Runs.{column_in, AreColumns, AreSteps, IsReadBack, IsMadeOf, IsMade, IsNoTable, result_fault, IsRunError, IsToldOf}
 use Rattle.vx_c.specs.Runs.{AreColumnsOr, AreStepsOr, IsRanOr, AreTablesOr, told_of_run}
 use Rattle.vx_c.specs.declared.faults.CodraskRunFault.{CodraskRunFault}
 use Rattle.vx_c.proofs.Unflagged.{unflagged-rows, kept_count, kept_plain}

@@ -1,6 +1,6 @@
 -- The table that is written of an array of each layout: reading it again finds no fault.
 use Rattle.std.proofs.Common.{◌≡◌, ◌+◌, ◌*◌, ◌^◌, ◌%◌, ◌≤◌, ◌<◌, ◌==◌, ℕ, zero, suc, Bool, true, false, List, [], ◌∷◌, ◌++◌, length, map, take, drop, replicate, get_or, refl, sym, ◌∙◌, ap, subst, arith, rules, zero-add, inl, inr}
-use Rattle.std.specs.Prelude.{Option, Some, None, Ok, Err, nat_lt, nat_le, pos, slice_index_or, unwrap_or, if◌then◌else◌}
+use Rattle.std.specs.Prelude.{Some, None, Ok, Err, nat_lt, pos, slice_index_or, unwrap_or, if◌then◌else◌}
 use Rattle.std.specs.Bool.{beq}
 use Rattle.std.specs.Global.{Vec}
 use Rattle.std.specs.List.{range_with_len}
@@ -12,8 +12,8 @@ use Rattle.vx_base.specs.declared.ptypes.PType.TheVariants.{U8, U16, U32, U64, I
 use Rattle.vx_base.specs.Bits.{bool_at, unpacked}
 use Rattle.vx_base.specs.Integers.{numbers, byte_width}
 use Rattle.vx_base.specs.Kinds.{Kind, booleans, texts, binaries, is_nullable_kind, is_plain_integers, is_plain_booleans}
-use Rattle.vx_base.specs.Refusals.{Refusal, mismatched_types, nullability_mismatch, length_mismatch, or_else, first_fault}
-use Rattle.vx_base.specs.Rows.{Row, whole, count_in, number_in}
+use Rattle.vx_base.specs.Refusals.{mismatched_types, nullability_mismatch, length_mismatch, or_else, first_fault}
+use Rattle.vx_base.specs.Rows.{count_in, number_in}
 use Rattle.vx_base.proofs.FirstFaults.{or_else-none, or_else-second, first_fault-of_none}
 use Rattle.vx_views.specs.Emptied.{valid_view, emptied_views}
 use Rattle.vx_views.specs.Faulty.{views_fault}
@@ -25,9 +25,9 @@ use Rattle.vx_lists.specs.Structs.Faults.{column_lens_fault, columns_fault, stru
 use Rattle.vx_text.specs.Texts.{array_of_views}
 use Rattle.vx_text.specs.TextFaults.{view_array_fault, parts_fault, value_type_fault, nullability_fault, is_values}
 use Rattle.vx_tree.specs.Faults.{length_fault, valid_type_fault, valid_len_fault, validity_fault}
-use Rattle.vx_tree.specs.Formed.{WellFormed, ValidFits, IsMask, IsCounts, IsListView, IsStruct, AllLen, column_count, value_kind}
+use Rattle.vx_tree.specs.Formed.{WellFormed, ValidFits, IsCounts, IsListView, AllLen, column_count, value_kind}
 use Rattle.vx_tree.specs.Meaning.{tree_len, kind_of, row_at, is_valid_at, nullable, is_texts, valid_mask, trees_from}
-use Rattle.vx_tree.specs.Tree.{Tree, bools, primitive, fixed_list, list_view, structure, view_array, Trees, no_trees, tree}
+use Rattle.vx_tree.specs.Tree.{Tree, bools, primitive, fixed_list, list_view, structure, view_array}
 use Rattle.vx_tree.specs.Tree.{Valid, non_nullable, all_valid, all_invalid, by_array}
 use Rattle.vx_c.specs.declared.table.CodraskBytes.{CodraskBytes}
 use Rattle.vx_c.specs.declared.table.CodraskNode.{CodraskNode}
@@ -36,7 +36,7 @@ use Rattle.vx_c.specs.declared.table.NodeKind.TheVariants.{Bool as bool_kind, Nu
 use Rattle.vx_c.specs.declared.written.WrittenNode.{WrittenNode}
 use Rattle.vx_c.specs.NodeKinds.{kind_numbered, kind_number}
 use Rattle.vx_c.specs.Tables.{unless, layout_made, records_made, views_made, buffers_in, views_in, view_bytes, bits_fault, names_fault, missing_nodes}
-use Rattle.vx_c.specs.Unflagged.{unflagged, unflagged_trees, unflagged_valid, node_count, trees_count, valid_count, nodes_of}
+use Rattle.vx_c.specs.Unflagged.{unflagged, unflagged_trees, unflagged_valid, trees_count, valid_count, nodes_of}
 use Rattle.vx_c.specs.Written.{IsWritten, IsPut, IsParent, IsBitsNode, node_of, valid_number, valid_trees, view_kind}
 use Rattle.vx_c.proofs.LayoutParts.{made_by}
 use Rattle.vx_c.proofs.Names.{columns_taken, values_faultless}

@@ -1,7 +1,7 @@
 -- Tables that follow one another.
-use Rattle.std.proofs.Common.{◌≡◌, ◌+◌, ◌≤◌, ◌<◌, ℕ, suc, List, [], ◌∷◌, ◌++◌, length, map, refl, sym, ◌∙◌, ap, subst, arith, rules, append_assoc, length-append, zero-add}
+use Rattle.std.proofs.Common.{◌≡◌, ◌+◌, ◌≤◌, suc, List, [], ◌∷◌, ◌++◌, length, map, refl, sym, ◌∙◌, ap, subst, arith, rules, append_assoc, length-append, zero-add}
 use Rattle.std.specs.Prelude.{Some, Ok}
-use Rattle.std.proofs.lemmas.List.{map-append, length-map}
+use Rattle.std.proofs.lemmas.List.{map-append}
 use Rattle.vx_tree.specs.Tree.{Tree, Valid, non_nullable, all_valid, all_invalid, by_array}
 use Rattle.vx_tree.specs.Meaning.{tree_len}
 use Rattle.vx_c.specs.declared.table.CodraskNode.{CodraskNode}

@@ -1,10 +1,10 @@
 -- What a run writes, and why it is refused.
-use Rattle.std.specs.Prelude.{◌≡◌, ◌<◌, ◌≤◌, ◌⊎◌, ℕ, List, length, map, take, Option, Some, None, Result, Ok, Err, MatchResult, IsSomeAnd, slice_get}
+use Rattle.std.specs.Prelude.{◌≡◌, ◌<◌, ◌≤◌, ◌⊎◌, ℕ, List, length, map, take, Option, Some, None, Result, Ok, Err, IsSomeAnd, slice_get}
 use Rattle.std.specs.List.{AllZip}
 use Rattle.std.specs.Option.{option_map}
 use Rattle.vx_base.specs.declared.errors.VortexError.{VortexError}
 use Rattle.vx_base.specs.declared.errors.VortexError.TheVariants.{Memory}
-use Rattle.vx_base.specs.Refusals.{Refusal, IsMemoryOr, or_else, error_number}
+use Rattle.vx_base.specs.Refusals.{Refusal, or_else, error_number}
 use Rattle.vx_tree.specs.Tree.{Tree}
 use Rattle.vx_tree.specs.Canonical.{HasRowsOf, IsCanonical, canonical_fault}
 use Rattle.vx_tree.specs.Faults.{position_fault}
@@ -12,7 +12,7 @@ use Rattle.vx_tree.specs.Plain.{IsPlain}
 use Rattle.vx_run.specs.declared.steps.Step.{Step}
 use Rattle.vx_run.specs.Steps.{array_at, HasRun, IsStop}
 use Rattle.vx_c.specs.declared.faults.NodeError.{NodeError}
-use Rattle.vx_c.specs.declared.faults.NodeError.TheVariants.{TooManyNodes, Refused}
+use Rattle.vx_c.specs.declared.faults.NodeError.TheVariants.{TooManyNodes}
 use Rattle.vx_c.specs.declared.faults.RunError.{RunError}
 use Rattle.vx_c.specs.declared.faults.RunError.TheVariants as error
 use Rattle.vx_c.specs.declared.faults.CodraskRunFault.{CodraskRunFault}

@@ -1,4 +1,3 @@
-use Rattle.std.proofs.Common.{map}
 use Rattle.vx_c.proofs.SameNodes.{lent_places}
 use Rattle.vx_c.proofs.lending.lend_node.Goals as goal
 
