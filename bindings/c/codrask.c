@@ -440,13 +440,38 @@ uint32_t codrask_check_arrow(const struct ArrowSchema *schema, const struct Arro
     return error;
 }
 
+static const struct codrask_column no_column = {0};
+const struct codrask_columns CODRASK_NO_COLUMNS = {&no_column, 0};
+
+/* Gives back a block that codrask_run wrote: an empty slice has none. */
+static void give_back(const void *block, size_t count) {
+    if (count)
+        free((void *)block);
+}
+
+void codrask_columns_free(struct codrask_columns *made) {
+    for (size_t c = 0; c < made->count; c++) {
+        for (size_t i = 0; i < made->columns[c].count; i++) {
+            const struct codrask_node *n = &made->columns[c].nodes[i];
+            for (size_t b = 0; b < n->buffer_count; b++)
+                give_back(n->buffers[b].bytes, n->buffers[b].count);
+            give_back(n->buffers, n->buffer_count);
+            give_back(n->views, n->view_count);
+            give_back(n->bytes, n->byte_count);
+        }
+        give_back(made->columns[c].nodes, made->columns[c].count);
+    }
+    give_back(made->columns, made->count);
+    *made = CODRASK_NO_COLUMNS;
+}
+
 const char *codrask_fault_name(uint32_t number) {
     static const char *const names[] = {
         "", "Memory", "MismatchedTypes", "LengthMismatch", "NullabilityMismatch", "OutOfBounds", "Negative", "Overflow",
         "NotImplemented", "HasNulls", "UnknownField", "EmptyInput", "DifferingDtypes", "NotUtf8", "BadBuffer", "BadStart",
         "BadEnd", "BadPrefix", "LimitTooLarge", "ValueTooLong", "LengthsNotExact", "FallingOffsets", "PatchOutOfRange",
         "DegenerateElements"};
-    static const char *const own[] = {"UnknownKind", "BadValidity", "MissingNodes", "NotOneArray", "TooManyNodes"};
+    static const char *const own[] = {"UnknownKind", "BadValidity", "MissingNodes", "NotOneArray", "TooManyNodes", "BadMode", "TooManySteps"};
     if (number < sizeof names / sizeof *names)
         return names[number];
     if (number == CODRASK_BAD_ARROW)

@@ -95,6 +95,8 @@ enum codrask_number {
     CODRASK_MISSING_NODES = 34,  /* the nodes that follow are fewer arrays than the node has parts */
     CODRASK_NOT_ONE_ARRAY = 35,  /* the nodes are no array, or several */
     CODRASK_TOO_MANY_NODES = 36, /* more than 4096 */
+    CODRASK_BAD_MODE = 37,       /* of a step: its kind has no such mode */
+    CODRASK_TOO_MANY_STEPS = 38, /* more than 1024 */
     CODRASK_BAD_ARROW = 64,      /* of Arrow: not a schema and an array that are read here, or a column that is not written */
     CODRASK_NOT_END_TO_END = 65  /* of codrask_to_arrow: lists that offsets alone cannot tell */
 };
@@ -105,6 +107,90 @@ uint32_t codrask_version(void);
 /* Answers 0 where the nodes are a column, else the number of the first fault, which is then told in *fault: the nodes are
  * read from the last to the first. CODRASK_MEMORY may come in place of any answer. Nothing is kept and nothing changed. */
 uint32_t codrask_check(const struct codrask_node *nodes, size_t node_count, struct codrask_fault *fault);
+
+/* ---- steps ---- */
+
+/* The nodes of a column. */
+struct codrask_column {
+    const struct codrask_node *nodes;
+    size_t count;
+};
+
+/* What a step appends to the list of arrays. */
+enum codrask_step_kind {
+    CODRASK_SLICE = 0,          /* array, start, end: the rows from start up to end */
+    CODRASK_TAKE = 1,           /* array, other: the rows at the indices that another array of integers holds */
+    CODRASK_FILTER = 2,         /* array, other: the rows at which another array of truth values is true */
+    CODRASK_MASK = 3,           /* array, other: the rows, null where another array of truth values is false */
+    CODRASK_CONCAT = 4,         /* arrays: the rows of several arrays */
+    CODRASK_CANONICAL = 5,      /* array: the rows in plain layout */
+    CODRASK_REBUILD = 6,        /* array, mode: lists, laid out anew */
+    CODRASK_NARROW = 7,         /* array: numbers in the narrowest type that has them */
+    CODRASK_PROJECT = 8,        /* array, names: the columns of these names */
+    CODRASK_WITH_COLUMN = 9,    /* array, name, other: records with one column more */
+    CODRASK_REMOVE_COLUMN = 10, /* array, name: records without a column */
+    CODRASK_PUSH_VALIDITY = 11  /* array, mode: the nulls of records in their columns; mode 1 where no record is null any more */
+};
+
+/* The modes of CODRASK_REBUILD. */
+enum codrask_rebuild_mode {
+    CODRASK_ZERO_COPY_TO_LIST = 0,
+    CODRASK_TRIM_ELEMENTS = 1,
+    CODRASK_MAKE_EXACT = 2,
+    CODRASK_OVERLAP_COMPRESSION = 3
+};
+
+/* A step. An array is named by its position: the columns, then what each step before appended. What the kind does not use is
+ * not looked at; no pointer is null. */
+struct codrask_step {
+    uint32_t kind;
+    uint32_t mode;
+    size_t array;
+    size_t other;
+    size_t start;
+    size_t end;
+    const size_t *arrays;
+    size_t array_count;
+    const struct codrask_bytes *names;
+    size_t name_count;
+    const uint8_t *name;
+    size_t name_size;
+};
+
+/* Columns that a call wrote. */
+struct codrask_columns {
+    const struct codrask_column *columns;
+    size_t count;
+};
+
+/* Which part of a run has a fault. */
+enum codrask_part {
+    CODRASK_NO_PART = 0,
+    CODRASK_IN_TABLE = 1,
+    CODRASK_IN_STEP = 2,
+    CODRASK_IN_RESULT = 3
+};
+
+/* Why a run is refused. */
+struct codrask_run_fault {
+    uint32_t number; /* 0 where it is not, 1 where memory was refused */
+    uint32_t part;
+    size_t which; /* the table, the step or the result, counted from 0 */
+    size_t node;  /* the node of the table, else 0 */
+    size_t place; /* the row that has it, or the position that lies past a length; else 0 */
+};
+
+/* Runs steps on columns, and writes the arrays at the wanted positions, in plain layouts: neither a dictionary nor a constant.
+ * Answers 0 where that is done; *made is then the caller's, to be given back by codrask_columns_free. Else the number of the
+ * first fault, which *fault tells; *made is then as it was. On the way in *made is CODRASK_NO_COLUMNS. */
+uint32_t codrask_run(const struct codrask_column *columns, size_t column_count, const struct codrask_step *steps, size_t step_count,
+                     const size_t *wanted, size_t wanted_count, struct codrask_columns *made, struct codrask_run_fault *fault);
+
+/* No columns. A pointer is never null, also where nothing is there. */
+extern const struct codrask_columns CODRASK_NO_COLUMNS;
+
+/* Gives back what codrask_run wrote. */
+void codrask_columns_free(struct codrask_columns *made);
 
 /* The name of a number, as "OutOfBounds"; "" of a number that names nothing. */
 const char *codrask_fault_name(uint32_t number);

@@ -1,28 +1,10 @@
 /* Tables by hand: a row of the README, and one of each fault. The last line is 'N passed, M failed'. */
-#include "codrask.h"
+#include "by_hand.h"
 
 #include <stdio.h>
 #include <string.h>
 
 static int passed, failed;
-static const uint8_t none[16];
-
-#define SLICE(array) (const uint8_t *)(array), sizeof(array)
-
-static struct codrask_node node(uint32_t kind, uint32_t validity, size_t length) {
-    struct codrask_node n = {.kind = kind, .validity = validity, .length = length};
-    n.bytes = none;
-    n.views = (const struct codrask_view *)none;
-    n.buffers = (const struct codrask_bytes *)none;
-    return n;
-}
-
-static struct codrask_node numbers(uint32_t kind, size_t length, const void *bytes, size_t count) {
-    struct codrask_node n = node(kind, CODRASK_NON_NULLABLE, length);
-    n.bytes = bytes;
-    n.byte_count = count;
-    return n;
-}
 
 static void expect(const char *what, const struct codrask_node *nodes, size_t count, uint32_t number, size_t at, size_t place) {
     struct codrask_fault fault = {99, 99, 99};

@@ -1,5 +1,6 @@
 /* Each allocation of a call fails in turn: the call answers Memory, or as it does with ample memory, and every block is
  * given back. Linked with --wrap of malloc, calloc, realloc and free. The last line is 'N passed, M failed'. */
+#include "by_hand.h"
 #include "tables.h"
 
 #include <stdio.h>
@@ -61,6 +62,57 @@ static uint32_t to_arrow(struct codrask_fault *fault) {
     return number;
 }
 
+static uint32_t run(struct codrask_fault *fault) {
+    struct codrask_column column = {made.nodes, made.count};
+    struct codrask_columns results = CODRASK_NO_COLUMNS;
+    struct codrask_run_fault told;
+    size_t both[] = {0, 1}, wanted[] = {3, 0, 1};
+    struct codrask_step steps[] = {step(CODRASK_CANONICAL, 0), step(CODRASK_CONCAT, 0), step(CODRASK_SLICE, 2)};
+    steps[1].arrays = both, steps[1].array_count = 2;
+    steps[2].end = made.nodes[0].length;
+    uint32_t number = codrask_run(&column, 1, steps, 3, wanted, 3, &results, &told);
+    *fault = (struct codrask_fault){told.number, told.node, told.place};
+    codrask_columns_free(&results);
+    return number;
+}
+
+/* One step of each kind, on records, lists, numbers and truth values; what each gives is written. */
+static uint32_t run_each_kind(struct codrask_fault *fault) {
+    static const int32_t offsets[] = {2, 0, 1}, sizes[] = {2, 1, 2}, picks[] = {1, 0};
+    static const int64_t elements[] = {1, 2, 3, 4};
+    static const uint8_t bits[] = {2};
+    static const struct codrask_bytes names[] = {{(const uint8_t *)"a", 1}, {(const uint8_t *)"b", 1}};
+    static const size_t twice[] = {2, 2};
+    struct codrask_node records[] = {node(CODRASK_STRUCT, CODRASK_BY_ARRAY, 2), truths(2, bits), numbers(CODRASK_I32, 2, SLICE(picks)), truths(2, bits)};
+    struct codrask_node lists[] = {node(CODRASK_LIST_VIEW, 0, 3), numbers(CODRASK_I64, 4, SLICE(elements)), numbers(CODRASK_I32, 3, SLICE(offsets)),
+                                   numbers(CODRASK_I32, 3, SLICE(sizes))};
+    struct codrask_node whole = numbers(CODRASK_I32, 2, SLICE(picks)), mask = truths(2, bits);
+    struct codrask_column columns[] = {{records, 4}, {lists, 4}, {&whole, 1}, {&mask, 1}};
+    struct codrask_step steps[] = {step(CODRASK_SLICE, 1), step(CODRASK_TAKE, 0), step(CODRASK_FILTER, 0), step(CODRASK_MASK, 2), step(CODRASK_CONCAT, 0),
+                                   step(CODRASK_CANONICAL, 0), step(CODRASK_REBUILD, 1), step(CODRASK_NARROW, 2), step(CODRASK_PROJECT, 0),
+                                   step(CODRASK_WITH_COLUMN, 0), step(CODRASK_REMOVE_COLUMN, 0), step(CODRASK_PUSH_VALIDITY, 0)};
+    size_t wanted[COUNT(steps)];
+    struct codrask_columns results = CODRASK_NO_COLUMNS;
+    struct codrask_run_fault told;
+    records[0].buffers = names, records[0].buffer_count = 2;
+    steps[0].end = 2;
+    steps[1].other = 2;
+    steps[2].other = steps[3].other = 3;
+    steps[4].arrays = twice, steps[4].array_count = 2;
+    steps[8].names = names + 1, steps[8].name_count = 1;
+    steps[9].name = (const uint8_t *)"c", steps[9].name_size = 1, steps[9].other = 2;
+    steps[10].name = names[0].bytes, steps[10].name_size = 1;
+    steps[11].mode = 1;
+    for (size_t i = 0; i < COUNT(steps); i++)
+        wanted[i] = COUNT(columns) + i;
+    uint32_t number = codrask_run(columns, COUNT(columns), steps, COUNT(steps), wanted, COUNT(wanted), &results, &told);
+    *fault = (struct codrask_fault){told.number, told.node, told.place};
+    if (number == 0 && results.count != COUNT(wanted))
+        abort();
+    codrask_columns_free(&results);
+    return number;
+}
+
 /* Makes a call with one request for memory refused, or with none. */
 static uint32_t try_call(call *made_call, long fail_at, struct codrask_fault *fault) {
     left = fail_at, held = tried = 0, counting = true;
@@ -86,6 +138,9 @@ static bool gives_back(call *made_call, uint64_t seed) {
 
 int main(void) {
     size_t passed = 0, failed = 0;
+    struct codrask_fault fault;
+    run_each_kind(&fault) == 0 ? passed++ : failed++;
+    gives_back(run_each_kind, 0) ? passed++ : failed++;
     for (uint64_t seed = 1; seed <= 200; seed++) {
         state = seed;
         put_column(&made, 1 + random_below(12), 0);
@@ -93,6 +148,7 @@ int main(void) {
             made.nodes[random_below(made.count)].length++;
         gives_back(check, seed) ? passed++ : failed++;
         gives_back(to_arrow, seed) ? passed++ : failed++;
+        gives_back(run, seed) ? passed++ : failed++;
         let_go(&made);
     }
     printf("%zu passed, %zu failed\n", passed, failed);

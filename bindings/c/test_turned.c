@@ -1,14 +1,43 @@
-/* Random columns pass. With one byte or one number of each turned, a table has a fault, or it is a column of which every
- * row is read without a bad access: run it under the address sanitizer. The last line is 'N passed, M failed'. */
+/* Random columns pass, and a run writes them again in plain layouts, with the same rows. With one byte or one number of each
+ * turned, a table has a fault, and a run tells the same, or it is a column of which every row is read without a bad access: run
+ * it under the address sanitizer. The last line is 'N passed, M failed'. */
 #include "reader.h"
 #include "turned.h"
 
 #include <stdio.h>
 
+static size_t passed, failed;
+
+static void tell(const char *what, uint64_t seed, bool good) {
+    good ? passed++ : failed++;
+    if (!good)
+        printf("seed %llu: %s\n", (unsigned long long)seed, what);
+}
+
+/* A run of no step writes the column again: the same rows, or the same fault. */
+static void write_again(uint64_t seed, const struct codrask_fault *fault) {
+    static const struct codrask_step none;
+    struct codrask_column column = {made.nodes, made.count};
+    struct codrask_columns written = CODRASK_NO_COLUMNS;
+    struct codrask_run_fault told;
+    size_t wanted = 0;
+    uint32_t number = codrask_run(&column, 1, &none, 0, &wanted, 1, &written, &told);
+    if (fault->number) {
+        tell("the fault of a run is another one", seed, number == fault->number && told.part == CODRASK_IN_TABLE && told.which == 0
+                                                            && told.node == fault->node && told.place == fault->place);
+        return;
+    }
+    struct codrask_fault other;
+    bool good = number == 0 && written.count == 1 && codrask_check(written.columns[0].nodes, written.columns[0].count, &other) == 0;
+    tell("a column is not written again", seed, good && read_all(written.columns[0].nodes) == read_all(made.nodes));
+    codrask_columns_free(&written);
+}
+
 int main(void) {
-    size_t passed = 0, failed = 0, faults = 0, kinds[65] = {0};
-    for (state = 1; passed + failed < 2000;) {
+    size_t tables = 0, faults = 0, kinds[65] = {0};
+    for (state = 1; tables < 1000;) {
         uint64_t seed = state + 1;
+        tables++;
         struct codrask_fault fault;
         state = seed;
         put_column(&made, 1 + random_below(12), 0);
@@ -18,6 +47,7 @@ int main(void) {
         } else {
             passed++;
             read_all(made.nodes);
+            write_again(seed, &fault);
             turn();
             uint32_t number = codrask_check(made.nodes, made.count, &fault);
             if (number) {
@@ -26,6 +56,8 @@ int main(void) {
             } else if (made.nodes[0].length < 1000000) {
                 read_all(made.nodes);
             }
+            if (made.nodes[0].length < 1000000)
+                write_again(seed, &fault);
             passed++;
         }
         let_go(&made);

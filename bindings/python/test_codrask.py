@@ -3,7 +3,7 @@
 import array
 import traceback
 
-from codrask import Column, Refused, fault_name, version
+from codrask import Column, Refused, Step, Stopped, fault_name, run, version
 
 
 def i32(*numbers):
@@ -96,6 +96,51 @@ def test_arrow_refused():
             assert refusal.name == name, refusal
         else:
             raise AssertionError(name)
+
+
+def test_steps():
+    codes = Column.numbers("u8", b"\1\0\0\1", Column.bools(b"\r", 4))
+    named = Column.dictionary(codes, Column.numbers("i64", array.array("q", [7, 9])))
+    assert named.run([Step.slice(0, 1, 4)]).to_pylist() == [None, 7, 9]
+    mask = Column.bools(b"\x05", 4)
+    assert run([named, mask], [Step.filter(0, 1)])[0].to_pylist() == [9, 7]
+    assert run([named, mask], [Step.mask(0, 1)])[0].to_pylist() == [9, None, 7, None]
+    assert run([named, i32(3, 0)], [Step.take(0, 1), Step.concat([0, 2])])[0].to_pylist() == [9, None, 7, 9, 9, 9]
+    assert [c.to_pylist() for c in run([named, i32(5)], [], [1, 0])] == [[5], [9, None, 7, 9]]
+    wide = Column.numbers("i64", array.array("q", [1, -2]))
+    assert wide.run([Step.narrow(0)])._nodes[0].kind == 5
+
+
+def test_steps_on_lists():
+    lists = Column.list_views(Column.numbers("i64", array.array("q", [1, 2, 3, 4])), i32(2, 0, 1), i32(2, 1, 2))
+    rebuilt = lists.run([Step.rebuild(0)])
+    assert rebuilt.to_pylist() == [[3, 4], [1], [2, 3]]
+    assert there_and_back(rebuilt, True) == [[3, 4], [1], [2, 3]]
+
+
+def test_steps_on_records():
+    records = Column.records({"a": i32(1, 2), "b": Column.bools(b"\1", 2)}, 2, Column.bools(b"\2", 2))
+    assert records.run([Step.project(0, ["b"])]).to_pylist() == [None, {"b": False}]
+    assert records.run([Step.remove_column(0, "b")]).to_pylist() == [None, {"a": 2}]
+    assert run([records, i32(5, 6)], [Step.with_column(0, "c", 1)])[0].to_pylist() == [None, {"a": 2, "b": False, "c": 6}]
+    assert records.run([Step.push_validity(0, True)]).to_pylist() == [{"a": None, "b": None}, {"a": 2, "b": False}]
+
+
+def stopped(columns, steps, wanted=None):
+    try:
+        run(columns, steps, wanted)
+    except Stopped as e:
+        return e.name, e.column, e.step, e.result, e.node, e.row
+    return None
+
+
+def test_stopped():
+    three = i32(7, 8, 9)
+    assert stopped([three], [Step.canonical(0), Step.slice(1, 1, 4)]) == ("OutOfBounds", None, 1, None, 0, 4)
+    assert stopped([three, Column.numbers("i32", b"abc")], []) == ("LengthMismatch", 1, None, None, 0, 0)
+    assert stopped([three], [Step.remove_column(0, b"\xff")]) == ("NotUtf8", None, 0, None, 0, 0)
+    assert stopped([three], [Step.canonical(0)], [5]) == ("OutOfBounds", None, None, 0, 0, 5)
+    assert stopped([three], [Step.canonical(0)] * 1025)[:3] == ("TooManySteps", None, 1024)
 
 
 def test_names():

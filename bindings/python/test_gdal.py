@@ -2,13 +2,14 @@
 GDAL reads what is written of them. It runs where GDAL 3.6 or later is installed (Debian: python3-gdal). The last line is
 'N passed, M failed'."""
 
+import array
 import ctypes
 import traceback
 
 import numpy
 from osgeo import gdal, gdal_array, ogr
 
-from codrask import Column, Refused
+from codrask import Column, Refused, Step, run
 
 gdal.UseExceptions()
 
@@ -157,6 +158,20 @@ def test_written_fields():
     read = read_by_gdal(batch.whole())
     for name in FIELDS:
         assert read[name] == rows_of(name), (name, read[name])
+
+
+def test_cut_and_rebuilt():
+    batch = Batch(list(FIELDS))
+    picks = Column.numbers("i32", array.array("i", [2, 0]))
+    steps = [
+        Step.project(0, ["whole", "text"]),
+        Step.take(1, 2),
+        Step.rebuild(4),
+        Step.take(3, 2),
+        Step.with_column(6, "wholes", 5),
+    ]
+    [picked] = run([batch.whole(), batch.column("wholes"), picks], steps)
+    assert read_by_gdal(picked) == {"whole": [-3, 7], "text": [LONG, "abc"], "wholes": [[1, 2, 3], [3, 4]]}
 
 
 def test_offset_that_falls():

@@ -163,6 +163,13 @@ class Column:
             raise Refused(fault.number, fault.node, fault.place)
         return made
 
+    def run(self, steps):
+        """What the last of these steps makes of this column, which is array 0; the array of step `i` is `i + 1`. Raises
+        `Stopped` where this is no column or a step is refused."""
+        from .steps import run
+
+        return run([self], steps)[0]
+
     def to_pylist(self):
         """The rows, null as None. The column is checked first: only what has passed is read."""
         if not self._checked:

@@ -32,6 +32,41 @@ class Table(ctypes.Structure):
     _fields_ = [("nodes", ctypes.POINTER(Node)), ("count", ctypes.c_size_t), ("memory", ctypes.c_void_p)]
 
 
+class Nodes(ctypes.Structure):
+    _fields_ = [("nodes", ctypes.POINTER(Node)), ("count", ctypes.c_size_t)]
+
+
+class Step(ctypes.Structure):
+    _fields_ = [
+        ("kind", ctypes.c_uint32),
+        ("mode", ctypes.c_uint32),
+        ("array", ctypes.c_size_t),
+        ("other", ctypes.c_size_t),
+        ("start", ctypes.c_size_t),
+        ("end", ctypes.c_size_t),
+        ("arrays", ctypes.POINTER(ctypes.c_size_t)),
+        ("array_count", ctypes.c_size_t),
+        ("names", ctypes.POINTER(Bytes)),
+        ("name_count", ctypes.c_size_t),
+        ("name", ctypes.c_void_p),
+        ("name_size", ctypes.c_size_t),
+    ]
+
+
+class Columns(ctypes.Structure):
+    _fields_ = [("columns", ctypes.POINTER(Nodes)), ("count", ctypes.c_size_t)]
+
+
+class RunFault(ctypes.Structure):
+    _fields_ = [
+        ("number", ctypes.c_uint32),
+        ("part", ctypes.c_uint32),
+        ("which", ctypes.c_size_t),
+        ("node", ctypes.c_size_t),
+        ("place", ctypes.c_size_t),
+    ]
+
+
 class ArrowSchema(ctypes.Structure):
     pass
 
@@ -82,6 +117,19 @@ def load():
         lib.codrask_version.argtypes = []
         lib.codrask_check.restype = ctypes.c_uint32
         lib.codrask_check.argtypes = [ctypes.POINTER(Node), ctypes.c_size_t, ctypes.POINTER(Fault)]
+        lib.codrask_run.restype = ctypes.c_uint32
+        lib.codrask_run.argtypes = [
+            ctypes.POINTER(Nodes),
+            ctypes.c_size_t,
+            ctypes.POINTER(Step),
+            ctypes.c_size_t,
+            ctypes.POINTER(ctypes.c_size_t),
+            ctypes.c_size_t,
+            ctypes.POINTER(Columns),
+            ctypes.POINTER(RunFault),
+        ]
+        lib.codrask_columns_free.restype = None
+        lib.codrask_columns_free.argtypes = [ctypes.POINTER(Columns)]
         lib.codrask_fault_name.restype = ctypes.c_char_p
         lib.codrask_fault_name.argtypes = [ctypes.c_uint32]
         lib.codrask_table_from_arrow.restype = ctypes.c_uint32

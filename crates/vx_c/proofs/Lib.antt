@@ -3,3 +3,12 @@ pub mod TableFaults
 pub mod LayoutParts
 pub mod Records
 pub mod Names
+pub mod Unflagged
+pub mod WrittenTables
+pub mod WrittenLayouts
+pub mod SameNodes
+pub mod Moved
+pub mod Sixteen
+pub mod RunParts
+pub mod Meant
+pub mod RunFaults

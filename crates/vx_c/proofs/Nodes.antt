@@ -11,7 +11,7 @@ use Rattle.vx_tree.proofs.Dictionaries.{memory_only}
 use Rattle.vx_c.specs.declared.table.CodraskNode.{CodraskNode}
 use Rattle.vx_c.specs.declared.table.NodeKind.{NodeKind}
 use Rattle.vx_c.specs.declared.faults.NodeError.{NodeError}
-use Rattle.vx_c.specs.declared.faults.NodeError.TheVariants.{UnknownKind, BadValidity, MissingNodes, NotOneArray, TooManyNodes, Refused}
+use Rattle.vx_c.specs.declared.faults.NodeError.TheVariants.{UnknownKind, BadValidity, MissingNodes, NotOneArray, TooManyNodes, BadMode, TooManySteps, Refused}
 use Rattle.vx_c.specs.NodeKinds.{kind_numbered}
 use Rattle.vx_c.specs.Tables.{NodeFault, unknown_kind, missing_nodes, refused, unless, put, layout_made, valid_of_number, valid_made, kind_made, node_made, fault_in, only}
 use Rattle.vx_c.specs.Answers.{fault_of, IsFaultOf}
@@ -34,6 +34,8 @@ memory_alone BadValidity none = absurd (cc)
 memory_alone MissingNodes none = absurd (cc)
 memory_alone NotOneArray none = absurd (cc)
 memory_alone TooManyNodes none = absurd (cc)
+memory_alone BadMode none = absurd (cc)
+memory_alone TooManySteps none = absurd (cc)
 memory_alone (Refused v) none = ap Refused (no_refusal v (refusal_of v) refl none)
 
 -- the refusal of a call as the error of a node

@@ -6,8 +6,8 @@ use Rattle.vx_base.specs.declared.errors.VortexError.TheVariants.{ValueTooLong, 
 use Rattle.vx_base.specs.Refusals.{Refusal, refusal_of, error_number}
 use Rattle.vx_c.specs.declared.faults.CodraskFault.{CodraskFault}
 use Rattle.vx_c.specs.declared.faults.NodeError.{NodeError}
-use Rattle.vx_c.specs.declared.faults.NodeError.TheVariants.{UnknownKind, BadValidity, MissingNodes, NotOneArray, TooManyNodes, Refused}
-use Rattle.vx_c.specs.Tables.{NodeFault, unknown_kind, bad_validity, missing_nodes, not_one_array, too_many_nodes, refused, fault_in}
+use Rattle.vx_c.specs.declared.faults.NodeError.TheVariants.{UnknownKind, BadValidity, MissingNodes, NotOneArray, TooManyNodes, BadMode, TooManySteps, Refused}
+use Rattle.vx_c.specs.Tables.{NodeFault, unknown_kind, bad_validity, missing_nodes, not_one_array, too_many_nodes, bad_mode, too_many_steps, refused, fault_in}
 
 -- the row or the position that an error names, else 0
 abbrev pub error_place : VortexError → ℕ
@@ -30,6 +30,8 @@ fault_of BadValidity = Some bad_validity
 fault_of MissingNodes = Some missing_nodes
 fault_of NotOneArray = Some not_one_array
 fault_of TooManyNodes = Some too_many_nodes
+fault_of BadMode = Some bad_mode
+fault_of TooManySteps = Some too_many_steps
 fault_of (Refused e) = option_map refused (refusal_of e)
 
 -- the number of an error, and its place
@@ -39,6 +41,8 @@ node_error_number BadValidity = 33
 node_error_number MissingNodes = 34
 node_error_number NotOneArray = 35
 node_error_number TooManyNodes = 36
+node_error_number BadMode = 37
+node_error_number TooManySteps = 38
 node_error_number (Refused e) = error_number e
 
 abbrev pub node_error_place : NodeError → ℕ
@@ -50,6 +54,10 @@ node_error_place _ = 0
 -- an error is want of memory, or the fault that stands
 abbrev pub IsFaultOf : {A : Type 0} → NodeError → Result A NodeFault → Type 0
 IsFaultOf e r = (e ≡ Refused Memory) ⊎ (fault_in r ≡ fault_of e)
+
+-- the same of a fault by itself
+abbrev pub IsFormFault : NodeError → Option NodeFault → Type 0
+IsFormFault e fault = (e ≡ Refused Memory) ⊎ (fault ≡ fault_of e)
 
 -- the same of a table: the fault with its node
 abbrev pub with_node : ℕ → Option NodeFault → Option (ℕ × NodeFault)

@@ -12,3 +12,21 @@ kinds =
 -- the kind of a number, if there is one
 abbrev pub kind_numbered : ℕ → Option NodeKind
 kind_numbered n = slice_get kinds n
+
+-- the number of a kind
+abbrev pub kind_number : NodeKind → ℕ
+kind_number Bool = 0
+kind_number (Number U8) = 1
+kind_number (Number U16) = 2
+kind_number (Number U32) = 3
+kind_number (Number U64) = 4
+kind_number (Number I8) = 5
+kind_number (Number I16) = 6
+kind_number (Number I32) = 7
+kind_number (Number I64) = 8
+kind_number Utf8 = 9
+kind_number Binary = 10
+kind_number Dictionary = 11
+kind_number FixedSizeList = 12
+kind_number ListView = 13
+kind_number Struct = 14

@@ -24,7 +24,7 @@ use Rattle.vx_c.specs.declared.table.NodeKind.TheVariants.{Bool, Number, Utf8, B
 use Rattle.vx_c.specs.declared.reading.TheConstants.{MAX_NODES}
 use Rattle.vx_c.specs.NodeKinds.{kind_numbered}
 
--- what is wrong with a node, or with the number of nodes
+-- what is wrong with a node or with a step, or with the number of nodes or of steps
 pub data NodeFault : Type 0 where
   -- no kind has the number
   unknown_kind : NodeFault
@@ -36,6 +36,10 @@ pub data NodeFault : Type 0 where
   not_one_array : NodeFault
   -- more nodes than a table may have
   too_many_nodes : NodeFault
+  -- no step of the kind has the mode
+  bad_mode : NodeFault
+  -- more steps than a run may have
+  too_many_steps : NodeFault
   -- the parts are refused
   refused : Refusal → NodeFault
 

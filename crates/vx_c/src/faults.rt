@@ -1,6 +1,8 @@
 // Why a table is refused, and how C is told.
 
-ghost use Rattle.std.specs.Prelude.{◌≡◌};
+ghost use Rattle.std.specs.Prelude.{◌≡◌, ◌<◌};
+ghost use Rattle.vx_c.specs.Runs.{told_of_run};
+ghost use Rattle.vx_c.specs.declared.faults.RunError.TheVariants.{Memory as memory};
 ghost use Rattle.vx_base.specs.declared.errors.VortexError.TheVariants.{Memory};
 ghost use Rattle.vx_c.specs.declared.faults.NodeError.TheVariants.{Refused};
 ghost use Rattle.vx_c.specs.Answers.{told_of, error_place, node_error_number, node_error_place};
@@ -21,7 +23,23 @@ pub struct CodraskFault {
     pub place: usize,
 }
 
-// Why a node is refused, or the table.
+/// Why a run is refused.
+#[repr(C)]
+#[derive(Clone, Copy, Debug, PartialEq, Eq)]
+pub struct CodraskRunFault {
+    /// The number of the fault, 0 where there is none, 1 where memory was refused.
+    pub number: u32,
+    /// Which part of the run has it: 0 none that can be told, 1 a table, 2 a step, 3 a result.
+    pub part: u32,
+    /// Which table, step or result, counted from 0.
+    pub which: usize,
+    /// The node of the table that has it, else 0.
+    pub node: usize,
+    /// The row that has it, or the position that lies past a length; else 0.
+    pub place: usize,
+}
+
+// Why a node or a step is refused, or a table or a list of steps.
 #[derive(Clone, Copy, Debug, PartialEq, Eq)]
 pub(crate) enum NodeError {
     // No kind has the number.
@@ -34,8 +52,27 @@ pub(crate) enum NodeError {
     NotOneArray,
     // There are more nodes than a table may have.
     TooManyNodes,
+    // No step of the kind has the mode.
+    BadMode,
+    // There are more steps than a run may have.
+    TooManySteps,
     // The parts are refused.
     Refused(VortexError),
+}
+
+// Why a run is refused.
+#[derive(Clone, Copy, Debug, PartialEq, Eq)]
+pub(crate) enum RunError {
+    // There was no memory for the lists of a run.
+    Memory,
+    // A table is no column: its fault, at a node.
+    Table(usize, usize, NodeError),
+    // A step is none.
+    Form(usize, NodeError),
+    // A step is refused by the arrays before it.
+    Step(usize, VortexError),
+    // An array that is asked for is refused.
+    Result(usize, NodeError),
 }
 
 impl NodeError {
@@ -49,6 +86,8 @@ impl NodeError {
             NodeError::MissingNodes => 34,
             NodeError::NotOneArray => 35,
             NodeError::TooManyNodes => 36,
+            NodeError::BadMode => 37,
+            NodeError::TooManySteps => 38,
             NodeError::Refused(error) => u32::from(error.number()),
         }
     }
@@ -98,6 +137,65 @@ pub(crate) fn told(read: Result<(), (usize, NodeError)>) -> CodraskFault
             node,
             place: error.place(),
         },
+    }
+}
+
+impl CodraskRunFault {
+    // That there is no fault.
+    pub(crate) fn none() -> CodraskRunFault
+        ensures { result.number ≡ 0 }
+    {
+        CodraskRunFault {
+            number: 0,
+            part: 0,
+            which: 0,
+            node: 0,
+            place: 0,
+        }
+    }
+}
+
+// What C is told of a run that is refused.
+#[tactic(auto, using(crate::proofs::RunFaults::told_some))]
+pub(crate) fn told_of_run(error: RunError) -> CodraskRunFault
+    ensures told { result ≡ told_of_run error }
+    ensures some { 0 < result.number }
+{
+    let (part, which, node) = match error {
+        RunError::Memory => (0, 0, 0),
+        RunError::Table(which, node, _) => (1, which, node),
+        RunError::Form(which, _) | RunError::Step(which, _) => (2, which, 0),
+        RunError::Result(which, _) => (3, which, 0),
+    };
+    let (number, place) = match error {
+        RunError::Memory => (1, 0),
+        RunError::Step(_, error) => (u32::from(error.number()), place_of(&error)),
+        RunError::Table(_, _, error) | RunError::Form(_, error) | RunError::Result(_, error) => {
+            (error.number(), error.place())
+        }
+    };
+    CodraskRunFault {
+        number,
+        part,
+        which,
+        node,
+        place,
+    }
+}
+
+impl From<AllocError> for RunError {
+    ghost from_gives = { λ _ error. error ≡ memory };
+
+    fn from(_error: AllocError) -> RunError {
+        RunError::Memory
+    }
+}
+
+impl<T: Drop> From<AllocFailed<T>> for RunError {
+    ghost from_gives = { λ _ error. error ≡ memory };
+
+    fn from(_error: AllocFailed<T>) -> RunError {
+        RunError::Memory
     }
 }
 

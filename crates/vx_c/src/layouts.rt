@@ -307,18 +307,18 @@ fn names_of(alloc: Global, buffers: &[CodraskBytes<'_>]) -> Result<FieldNames, V
 {
     let mut texts = Vec::with_capacity(alloc, buffers.len())?;
     for i in 0..buffers.len() {
-        texts.push(name_of(&buffers[i], i)?)?;
+        texts.push(name_of(buffers[i].bytes, i)?)?;
     }
     FieldNames::try_new(alloc, &texts)
 }
 
-// The name that a buffer holds. Refuses `NotUtf8` with its place.
+// The name that bytes hold. Refuses `NotUtf8` with its place.
 #[tactic(auto, using(crate::proofs::Names::utf8_good, crate::proofs::Names::utf8_bad))]
-fn name_of<'a>(buffer: &CodraskBytes<'a>, place: usize) -> Result<&'a str, VortexError>
-    ensures ok { IfOk result (λ text. text.now ≡ buffer.now.bytes.now) }
-    ensures tests { Tests result (utf8_fault buffer.now.bytes.now place) }
+pub(crate) fn name_of(bytes: &[u8], place: usize) -> Result<&str, VortexError>
+    ensures ok { IfOk result (λ text. text.now ≡ bytes.now) }
+    ensures tests { Tests result (utf8_fault bytes.now place) }
 {
-    match std::str::from_utf8(buffer.bytes) {
+    match std::str::from_utf8(bytes) {
         Ok(text) => Ok(text),
         Err(_) => Err(VortexError::NotUtf8 { row: place }),
     }

@@ -2,20 +2,28 @@
 //! proved. A call copies what it is given, and keeps nothing.
 #![tactic(auto)]
 
-ghost use Rattle.std.specs.Prelude.{◌≡◌};
+ghost use Rattle.std.specs.Prelude.{◌≡◌, ◌<◌};
 ghost use Rattle.vx_c.specs.Tables.{table_fault};
 ghost use Rattle.vx_c.specs.Answers.{IsAnswer};
+ghost use Rattle.vx_c.specs.Runs.{IsMade, IsToldOf};
 
 mod faults;
 mod layouts;
+mod lending;
 mod reading;
+mod running;
 mod stack;
+mod steps;
 mod table;
+mod writing;
+mod written;
 
-pub use crate::faults::CodraskFault;
-use crate::faults::told;
+use crate::faults::{told, told_of_run};
+pub use crate::faults::{CodraskFault, CodraskRunFault};
 use crate::reading::check;
-pub use crate::table::{CodraskBytes, CodraskNode, CodraskView};
+use crate::running::run_tables;
+pub use crate::steps::CodraskStep;
+pub use crate::table::{CodraskBytes, CodraskNode, CodraskTable, CodraskTables, CodraskView};
 use std::alloc::Global;
 
 /// The version of these calls and of the table.
@@ -40,4 +48,39 @@ pub extern "C" fn codrask_check(
 {
     *fault = told(check(alloc, nodes));
     fault.number
+}
+
+/// Runs steps on the columns of tables, and writes the tables of the arrays that are asked for, in
+/// plain layouts: the arrays are the columns, then one for each step. Answers 0 where that is done.
+/// `made` then has the tables, in blocks of `malloc` that are the caller's: each slice that is not
+/// empty is one. Else the answer is the number of the first fault, and `fault` says where it is: of
+/// the tables, then of the steps, then of the step that is refused, then of what is asked for. It
+/// is 1 where memory was refused. `made` is then as it was.
+#[tactic(auto, using(crate::proofs::RunParts::told_run))]
+#[unsafe(no_mangle)]
+pub extern "C" fn codrask_run(
+    alloc: Global,
+    tables: &[CodraskTable<'_>],
+    steps: &[CodraskStep<'_>],
+    wanted: &[usize],
+    made: &mut CodraskTables,
+    fault: &mut CodraskRunFault,
+) -> u32
+    ensures made { result ≡ 0 → IsMade tables.now steps.now wanted.now made.new.tables.now }
+    ensures fault { 0 < result → IsToldOf tables.now steps.now wanted.now fault.new }
+    ensures number { result ≡ fault.new.number }
+    ensures kept { 0 < result → made.new ≡ made.old }
+{
+    match run_tables(alloc, tables, steps, wanted) {
+        Ok(written) => {
+            *made = CodraskTables { tables: written };
+            *fault = CodraskRunFault::none();
+            0
+        }
+        Err(error) => {
+            let refusal = told_of_run(error);
+            *fault = refusal;
+            refusal.number
+        }
+    }
 }

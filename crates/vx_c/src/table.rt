@@ -1,7 +1,7 @@
 // A column as C hands it over: nodes, each before the nodes of its parts.
 
 ghost use Rattle.std.specs.Prelude.{◌≡◌};
-ghost use Rattle.vx_c.specs.NodeKinds.{kind_numbered};
+ghost use Rattle.vx_c.specs.NodeKinds.{kind_numbered, kind_number};
 
 use vx_base::PType;
 
@@ -41,6 +41,20 @@ pub struct CodraskNode<'a> {
     pub views: &'a [CodraskView],
     /// What the views refer to; of records, the names of the columns.
     pub buffers: &'a [CodraskBytes<'a>],
+}
+
+/// The nodes of a column.
+#[repr(C)]
+#[derive(Drop)]
+pub struct CodraskTable<'a> {
+    pub nodes: &'a [CodraskNode<'a>],
+}
+
+/// The tables that a call wrote, in blocks that are the caller's.
+#[repr(C)]
+#[derive(Drop)]
+pub struct CodraskTables {
+    pub tables: &'static [CodraskTable<'static>],
 }
 
 // What a node says that it is.
@@ -87,5 +101,28 @@ impl NodeKind {
             NodeKind::Struct,
         ];
         kinds.get(number as usize).copied()
+    }
+
+    // The number of this kind.
+    pub(crate) fn number(self) -> u32
+        ensures { result ≡ kind_number self }
+    {
+        match self {
+            NodeKind::Bool => 0,
+            NodeKind::Number(PType::U8) => 1,
+            NodeKind::Number(PType::U16) => 2,
+            NodeKind::Number(PType::U32) => 3,
+            NodeKind::Number(PType::U64) => 4,
+            NodeKind::Number(PType::I8) => 5,
+            NodeKind::Number(PType::I16) => 6,
+            NodeKind::Number(PType::I32) => 7,
+            NodeKind::Number(PType::I64) => 8,
+            NodeKind::Utf8 => 9,
+            NodeKind::Binary => 10,
+            NodeKind::Dictionary => 11,
+            NodeKind::FixedSizeList => 12,
+            NodeKind::ListView => 13,
+            NodeKind::Struct => 14,
+        }
     }
 }

@@ -1,0 +1,150 @@
+-- What a run writes, and why it is refused.
+use Rattle.std.specs.Prelude.{◌≡◌, ◌<◌, ◌≤◌, ◌⊎◌, ℕ, List, length, map, take, Option, Some, None, Result, Ok, Err, IsSomeAnd, slice_get}
+use Rattle.std.specs.List.{AllZip}
+use Rattle.std.specs.Option.{option_map}
+use Rattle.vx_base.specs.declared.errors.VortexError.{VortexError}
+use Rattle.vx_base.specs.declared.errors.VortexError.TheVariants.{Memory}
+use Rattle.vx_base.specs.Refusals.{Refusal, or_else, error_number}
+use Rattle.vx_tree.specs.Tree.{Tree}
+use Rattle.vx_tree.specs.Canonical.{HasRowsOf, IsCanonical, canonical_fault}
+use Rattle.vx_tree.specs.Faults.{position_fault}
+use Rattle.vx_tree.specs.Plain.{IsPlain}
+use Rattle.vx_run.specs.declared.steps.Step.{Step}
+use Rattle.vx_run.specs.Steps.{array_at, HasRun, IsStop}
+use Rattle.vx_c.specs.declared.faults.NodeError.{NodeError}
+use Rattle.vx_c.specs.declared.faults.NodeError.TheVariants.{TooManyNodes}
+use Rattle.vx_c.specs.declared.faults.RunError.{RunError}
+use Rattle.vx_c.specs.declared.faults.RunError.TheVariants as error
+use Rattle.vx_c.specs.declared.faults.CodraskRunFault.{CodraskRunFault}
+use Rattle.vx_c.specs.declared.reading.TheConstants.{MAX_NODES}
+use Rattle.vx_c.specs.declared.running.TheConstants.{MAX_STEPS}
+use Rattle.vx_c.specs.declared.steps.CodraskStep.{CodraskStep}
+use Rattle.vx_c.specs.declared.table.CodraskTable.{CodraskTable}
+use Rattle.vx_c.specs.Tables.{NodeFault, too_many_steps, refused, column_of}
+use Rattle.vx_c.specs.Answers.{IsFormFault, IsTableFault, error_place, node_error_number, node_error_place, fault_of}
+use Rattle.vx_c.specs.Steps.{IsStepOf, step_form_fault}
+use Rattle.vx_c.specs.Unflagged.{node_count}
+
+-- ---- what is run
+
+-- the column that a table is, or its first fault
+abbrev pub column_in : CodraskTable → Result Tree (ℕ × NodeFault)
+column_in table = column_of table.nodes.now
+
+-- each table is a column
+abbrev pub AreColumns : List CodraskTable → List Tree → Type 0
+AreColumns tables columns = map column_in tables ≡ map Ok columns
+
+-- the steps that C means, no more than a run may have
+abbrev pub AreSteps : List CodraskStep → List Step → Type 0
+AreSteps meant steps = (length meant ≤ MAX_STEPS) × AllZip IsStepOf meant steps
+
+-- ---- what is written
+
+-- a table that was read is a column in plain layouts, of as many rows as this array, of its kind, and each of them the same
+abbrev pub IsReadBack : Tree → Result Tree (ℕ × NodeFault) → Type 0
+IsReadBack t (Ok r) = HasRowsOf t r × IsPlain r
+IsReadBack t (Err f) = ⊥
+
+-- no array stands at a position, or it cannot be made plain
+abbrev pub result_fault : List Tree → ℕ → Option Refusal
+result_fault results w = or_else (position_fault (length results) w) (canonical_fault (array_at results w))
+
+-- the array at a position has no fault, and the table is read back as it
+abbrev pub IsMadeOf : List Tree → ℕ → Result Tree (ℕ × NodeFault) → Type 0
+IsMadeOf results w read = (result_fault results w ≡ None) × IsReadBack (array_at results w) read
+
+-- the tables are columns, the steps are run on them, and each table that is written, read again, is a column with the rows
+-- of the array that is asked for
+pub record IsMade (tables : List CodraskTable) (steps : List CodraskStep) (wanted : List ℕ) (made : List CodraskTable) : Type 0 where
+  pub columns : List Tree
+  pub are : AreColumns tables columns
+  pub taken : List Step
+  pub meant : AreSteps steps taken
+  pub results : List Tree
+  pub ran : HasRun taken columns results
+  pub written : AllZip (IsMadeOf results) wanted (map column_in made)
+
+-- ---- why a run is refused
+
+-- the tables up to one are columns, and that one has a fault at a node
+abbrev pub IsNoColumn : List CodraskTable → ℕ → ℕ × NodeError → Type 0
+IsNoColumn tables i fault =
+    ((columns : List Tree) × AreColumns (take i tables) columns) × IsSomeAnd (slice_get tables i) (λ table. IsTableFault fault (column_in table))
+
+-- there are too many steps; or there are not, those up to one are meant, and that one has a fault
+abbrev pub IsNoStep : List CodraskStep → ℕ → NodeError → Type 0
+IsNoStep steps i e =
+    ((MAX_STEPS < length steps) × (i ≡ MAX_STEPS) × (fault_of e ≡ Some too_many_steps))
+    ⊎ ((length steps ≤ MAX_STEPS) × ((taken : List Step) × AllZip IsStepOf (take i steps) taken)
+    × IsSomeAnd (slice_get steps i) (λ c. IsFormFault e (step_form_fault c)))
+
+-- the columns and the steps, which stop at one
+pub record IsStopped (tables : List CodraskTable) (steps : List CodraskStep) (i : ℕ) (e : VortexError) : Type 0 where
+  pub columns : List Tree
+  pub are : AreColumns tables columns
+  pub taken : List Step
+  pub meant : AreSteps steps taken
+  pub results : List Tree
+  pub ran : HasRun (take i taken) columns results
+  pub stops : IsStop taken i results e
+
+-- the array at a position has a fault, or it has none, and its table has too many nodes
+abbrev pub IsNoTable : List Tree → ℕ → NodeError → Type 0
+IsNoTable results w e =
+    IsFormFault e (option_map refused (result_fault results w))
+    ⊎ ((e ≡ TooManyNodes) × (result_fault results w ≡ None) × ((c : Tree) × IsCanonical (array_at results w) c × (MAX_NODES < node_count c)))
+
+-- the arrays that are asked for, up to one, are read back from their tables, and that one is refused
+abbrev pub IsNoResult : List Tree → List ℕ → ℕ → NodeError → Type 0
+IsNoResult results wanted i e =
+    ((read : List (Result Tree (ℕ × NodeFault))) × AllZip (IsMadeOf results) (take i wanted) read)
+    × IsSomeAnd (slice_get wanted i) (λ w. IsNoTable results w e)
+
+-- the run is done, and an array that is asked for is refused
+pub record IsNotMade (tables : List CodraskTable) (steps : List CodraskStep) (wanted : List ℕ) (i : ℕ) (e : NodeError) : Type 0 where
+  pub columns : List Tree
+  pub are : AreColumns tables columns
+  pub taken : List Step
+  pub meant : AreSteps steps taken
+  pub results : List Tree
+  pub ran : HasRun taken columns results
+  pub refused : IsNoResult results wanted i e
+
+-- why a run is refused
+abbrev pub IsRunError : List CodraskTable → List CodraskStep → List ℕ → RunError → Type 0
+IsRunError tables steps wanted error.Memory = Unit {0}
+IsRunError tables steps wanted (error.Table i node e) = IsNoColumn tables i (node, e)
+IsRunError tables steps wanted (error.Form i e) = ((columns : List Tree) × AreColumns tables columns) × IsNoStep steps i e
+IsRunError tables steps wanted (error.Step i e) = IsStopped tables steps i e
+IsRunError tables steps wanted (error.Result i e) = IsNotMade tables steps wanted i e
+
+-- the same of each part of a run by itself
+abbrev pub AreColumnsOr : List CodraskTable → RunError → Type 0
+AreColumnsOr tables (error.Table i node e) = IsNoColumn tables i (node, e)
+AreColumnsOr tables e = e ≡ error.Memory
+
+abbrev pub AreStepsOr : List CodraskStep → RunError → Type 0
+AreStepsOr steps (error.Form i e) = IsNoStep steps i e
+AreStepsOr steps e = e ≡ error.Memory
+
+abbrev pub IsRanOr : List Step → List Tree → RunError → Type 0
+IsRanOr steps columns (error.Step i e) = (results : List Tree) × HasRun (take i steps) columns results × IsStop steps i results e
+IsRanOr steps columns e = e ≡ error.Memory
+
+abbrev pub AreTablesOr : List Tree → List ℕ → RunError → Type 0
+AreTablesOr results wanted (error.Result i e) = IsNoResult results wanted i e
+AreTablesOr results wanted e = e ≡ error.Memory
+
+-- ---- what C is told
+
+abbrev pub told_of_run : RunError → CodraskRunFault
+told_of_run error.Memory = record { number = 1; part = 0; which = 0; node = 0; place = 0 }
+told_of_run (error.Table i node e) = record { number = node_error_number e; part = 1; which = i; node = node; place = node_error_place e }
+told_of_run (error.Form i e) = record { number = node_error_number e; part = 2; which = i; node = 0; place = node_error_place e }
+told_of_run (error.Step i e) = record { number = error_number e; part = 2; which = i; node = 0; place = error_place e }
+told_of_run (error.Result i e) = record { number = node_error_number e; part = 3; which = i; node = 0; place = node_error_place e }
+
+-- C is told of an error that stands
+abbrev pub IsToldOf : List CodraskTable → List CodraskStep → List ℕ → CodraskRunFault → Type 0
+IsToldOf tables steps wanted fault = (e : RunError) × IsRunError tables steps wanted e × (fault ≡ told_of_run e)
