@@ -58,7 +58,7 @@ static void rows_of_numbers(void) {
     uint8_t narrow[] = {7, 8, 9};
     s = step(CODRASK_NARROW, 0);
     n = result(columns, 2, &s, 1, 2);
-    tell("narrow", n && n->length == 3 && has(n, CODRASK_I8, SLICE(narrow)));
+    tell("narrow", n && n->length == 3 && has(n, CODRASK_U8, SLICE(narrow)));
     codrask_columns_free(&made);
     size_t twice[] = {0, 0};
     int32_t joined[] = {7, 8, 9, 7, 8, 9};

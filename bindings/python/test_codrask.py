@@ -108,7 +108,8 @@ def test_steps():
     assert run([named, i32(3, 0)], [Step.take(0, 1), Step.concat([0, 2])])[0].to_pylist() == [9, None, 7, 9, 9, 9]
     assert [c.to_pylist() for c in run([named, i32(5)], [], [1, 0])] == [[5], [9, None, 7, 9]]
     wide = Column.numbers("i64", array.array("q", [1, -2]))
-    assert wide.run([Step.narrow(0)])._nodes[0].kind == 5
+    narrow = wide.run([Step.narrow(0)])
+    assert narrow._nodes[0].kind == 5 and narrow.to_pylist() == [1, -2]
 
 
 def test_steps_on_lists():
