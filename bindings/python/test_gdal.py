@@ -198,6 +198,19 @@ def test_text_astray():
     assert refused(batch.column("text")) == ("BadBuffer", 0, 2)
 
 
+def test_numpy():
+    view = Column.numbers("i16", array.array("h", [1, -2, 300])).to_numpy()
+    assert view.dtype == numpy.int16 and view.tolist() == [1, -2, 300] and not view.flags.writeable
+    assert run([Column.numbers("u8", b"\7\x08\t")], [Step.slice(0, 1, 3)])[0].to_numpy().tolist() == [8, 9]
+    assert Column.numbers("u64", b"").to_numpy().tolist() == []
+    try:
+        Column.bools(b"\1", 1).to_numpy()
+    except TypeError:
+        pass
+    else:
+        raise AssertionError("truth values have no numpy array")
+
+
 passed = failed = 0
 for name, test in sorted(globals().items()):
     if name.startswith("test_"):

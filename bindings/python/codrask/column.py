@@ -178,6 +178,25 @@ class Column:
         assert left == len(self._nodes)
         return rows
 
+    def to_numpy(self):
+        """The integers of the column as a numpy array over its own bytes, with no copy; it cannot be written to, and keeps the column
+        alive. What lies at null rows is no part of the column. The column is checked first. TypeError where it has no integers."""
+        import numpy
+
+        if not self._checked:
+            self.check()
+        node = self._nodes[0]
+        if node.kind not in WIDTHS:
+            raise TypeError("only a column of integers has a numpy array")
+        kind = f"<{'u' if node.kind < NUMBERS['i8'] else 'i'}{WIDTHS[node.kind]}"
+        if not node.byte_count:
+            return numpy.empty(0, kind)
+        held = (ctypes.c_uint8 * node.byte_count).from_address(node.bytes)
+        held.column = self
+        view = numpy.frombuffer(held, kind)
+        view.flags.writeable = False
+        return view
+
 
 class Arrow:
     """An ArrowSchema and an ArrowArray, given back with this object where nobody took them over."""
