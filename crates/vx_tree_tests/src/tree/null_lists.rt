@@ -87,12 +87,15 @@ fn a_record_of_a_null_list(rt: HostRuntime) {
     let Layout::Struct { columns, .. } = array.layout() else {
         panic!(rt; "no records");
     };
-    let Layout::FixedSizeList { elements, .. } = columns[0].layout() else {
+    let Some(lists) = columns.first() else {
+        panic!(rt; "no column");
+    };
+    let Layout::FixedSizeList { elements, .. } = lists.layout() else {
         panic!(rt; "no lists of one size");
     };
     assert_eq!(rt; elements.len(), 6442450944);
     assert!(rt; array.is_valid(rt.alloc(), 2).expect(&rt, "read"));
-    assert!(rt; !columns[0].is_valid(rt.alloc(), 2).expect(&rt, "read"));
+    assert!(rt; !lists.is_valid(rt.alloc(), 2).expect(&rt, "read"));
     assert!(rt;
         !elements
             .is_valid(rt.alloc(), 6442450943)
