@@ -5,23 +5,11 @@ use Rattle.std.proofs.lemmas.Bool.{cases_eq, cases_Bool}
 use Rattle.std.proofs.lemmas.List.{get_or_append_left, get_or_at, get_or-map, length_push}
 use Rattle.vx_base.specs.Rows.{Row, null, is_present, list_in, count_in}
 use Rattle.vx_tree.specs.Tree.{Tree, Valid, bools, primitive, constant, dictionary, fixed_list, list_view, structure, view_array}
-use Rattle.vx_tree.specs.Formed.{WellFormed, IsConsecutive}
+use Rattle.vx_tree.specs.Formed.{IsConsecutive}
 use Rattle.vx_tree.specs.Meaning.{tree_len, row_at, rows, valid_mask, is_valid_at}
 use Rattle.vx_lists.specs.ListViews.Layout.{lists_at, list_at, StandsFor}
 use Rattle.vx_lists.specs.ListViews.{elements_of, offsets_of, sizes_of, validity_of, flag_of, with_flag, counts_in, mask_of, list_layout_of, list_rows, IsRebuilt}
 use Rattle.vx_uses.specs.Uses.{AreListOffsets}
-
--- ---- what a set flag says
-
-pub flagged_consecutive : (t : Tree) → WellFormed t → flag_of t ≡ true → IsConsecutive (offsets_of t) (sizes_of t)
-flagged_consecutive (list_view e o s v f) formed flag = formed.1.follows flag
-flagged_consecutive (bools bits v) formed flag = cc
-flagged_consecutive (primitive t bs v) formed flag = cc
-flagged_consecutive (constant k r n) formed flag = cc
-flagged_consecutive (dictionary c v f) formed flag = cc
-flagged_consecutive (fixed_list e k v n) formed flag = cc
-flagged_consecutive (structure ns ts v n) formed flag = cc
-flagged_consecutive (view_array vs bs k v) formed flag = cc
 
 -- a rebuilt list view is flagged
 pub rebuilt_flag : (t r : Tree) → (tree_len t ≡ 0 → r ≡ with_flag true t) → (flag_of t ≡ true → r ≡ t) → (tree_len t ≢ 0 → flag_of t ≡ false → IsRebuilt t r) → flag_of r ≡ true

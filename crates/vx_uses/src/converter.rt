@@ -1,14 +1,13 @@
 //! Columns of lists as a format of offsets alone stores them.
 
-ghost use Rattle.std.specs.Prelude.{◌≡◌, ◌<◌, ◌^◌, ◌∷◌, [], ◌++◌, map, sum, true, IfOk, IsOkUnless};
+ghost use Rattle.std.specs.Prelude.{◌≡◌, ◌∷◌, [], ◌++◌, map, sum, true, IfOk, IsOkUnless};
 ghost use Rattle.std.specs.List.{flat_map};
 ghost use Rattle.vx_base.specs.Refusals.{Refuses};
 ghost use Rattle.vx_base.specs.declared.errors.VortexError.TheVariants.{Memory};
-ghost use Rattle.vx_tree.specs.Formed.{IsConsecutive};
-ghost use Rattle.vx_tree.specs.Meaning.{tree_len, kind_of, rows};
+ghost use Rattle.vx_tree.specs.Meaning.{kind_of, rows};
 ghost use Rattle.vx_lists.specs.declared.list_view.rebuild.ListViewRebuildMode.TheVariants.{MakeZeroCopyToList};
 ghost use Rattle.vx_lists.specs.ListViews.Layout.{items_of, size_of, starts_from};
-ghost use Rattle.vx_lists.specs.ListViews.{elements_of, offsets_of, sizes_of, flag_of, list_rows};
+ghost use Rattle.vx_lists.specs.ListViews.{elements_of, flag_of, list_rows};
 ghost use Rattle.vx_lists.specs.ListViews.Faults.{rebuild_overflow, rebuild_fault};
 ghost use Rattle.vx_uses.specs.Uses.{AreListOffsets, AreListsOf};
 
@@ -53,16 +52,6 @@ pub fn lists_end_to_end(alloc: Global, lists: &ListViewArray) -> Result<ListColu
     Ok(ListColumn { offsets, elements })
 }
 
-// What a set flag says: each list ends where the next one starts. The elements can be counted.
-fn flagged_lists_lie_end_to_end(lists: &ListViewArray)
-    requires { flag_of lists.now ≡ true }
-    ensures consecutive { IsConsecutive (offsets_of lists.now) (sizes_of lists.now) }
-    ensures short { tree_len (elements_of lists.now) < 2 ^ 64 }
-{
-    lists.as_array().layout();
-    lists.elements().len();
-}
-
 /// The lists of a flagged list view where they lie: its offsets, with the end of the last list
 /// after them, over its own elements, none of which is copied. Fails only for want of memory.
 pub fn zero_copy_lists(alloc: Global, lists: &ListViewArray) -> Result<ListColumn, VortexError>
@@ -74,7 +63,6 @@ pub fn zero_copy_lists(alloc: Global, lists: &ListViewArray) -> Result<ListColum
     counts_stand_at_their_places();
     rows_stand_at_their_places();
     masks_stand_at_their_places();
-    flagged_lists_lie_end_to_end(lists);
     list_views_stand_for_their_lists(lists);
     let mut offsets = Vec::with_capacity(alloc, lists.len())?;
     let mut end = 0;

@@ -18,7 +18,7 @@ loop-i-preserved c =
     let in_offsets : c.loop-i.i < tree_len (offsets_of t) = omega (arith, len) in
     record {
       starts = one_more counts.len counts.each t t refl c.loop-i.i c.offset_at-start.result c.loop-i.offsets.items c.push.new.self.items in_offsets c.loop-i.invariant.starts c.in_ok-push.ensures.items c.offset_at-start.ensures.value;
-      last = last_end places t len c.list_views_stand_for_their_lists.ensures c.flagged_lists_lie_end_to_end.ensures.consecutive c.loop-i.i inside c.offset_at-start.result c.size_at.result c.offset_at-start.ensures.value c.size_at.ensures.value;
+      last = last_end places t len c.list_views_stand_for_their_lists.ensures (c.offsets.ensures.consecutive c.requires) c.loop-i.i inside c.offset_at-start.result c.size_at.result c.offset_at-start.ensures.value c.size_at.ensures.value;
       none = λ is. absurd (omega (arith, is));
     }
 
@@ -35,6 +35,6 @@ returns-clause-offsets c =
     let read = all_read counts.len counts.each t t refl c.loop-i.i c.loop-i.offsets.items past c.loop-i.invariant.starts in
     let items = c.push-2.new.self.items in
     let are : items ≡ counts_in (offsets_of t) ++ c.loop-i.end ∷ [] = c.in_ok-push-2.ensures.items ∙ ap (λ xs. xs ++ c.loop-i.end ∷ []) read in
-    let made = are_offsets places t len c.list_views_stand_for_their_lists.ensures c.flagged_lists_lie_end_to_end.ensures.consecutive c.loop-i.end items are (λ i is. c.loop-i.invariant.last i (is ∙ sym all)) (λ none. c.loop-i.invariant.none (all ∙ none)) in
+    let made = are_offsets places t len c.list_views_stand_for_their_lists.ensures (c.offsets.ensures.consecutive c.requires) c.loop-i.end items are (λ i is. c.loop-i.invariant.last i (is ∙ sym all)) (λ none. c.loop-i.invariant.none (all ∙ none)) in
     let cloned : c.in_ok-elements.elements ≡ elements_of t = c.in_ok-elements.ensures ∙ c.elements.ensures in
     subst (λ e. AreListOffsets t (rows e) items) (sym cloned) made
