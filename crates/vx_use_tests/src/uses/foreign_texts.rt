@@ -1,10 +1,11 @@
 // Texts of foreign views, accepted and read, or refused.
 
 use std::alloc::Global;
-use vx_base::{Buffer, ByteBuffer, VortexError};
+use vx_base::{Buffer, ByteBuffer, DType, VortexError};
 use vx_test_help::bools;
-use vx_tree::Validity;
-use vx_uses::foreign_texts::foreign_texts;
+use vx_text::VarBinViewArray;
+use vx_tree::{TypedArray, Validity};
+use vx_uses::foreign_texts::{foreign_texts, text_at};
 use vx_views::BinaryView;
 
 // Whether a text is there, and is this one.
@@ -55,4 +56,29 @@ fn foreign_views_are_refused(rt: HostRuntime) {
     assert!(rt; matches!(refused, Err(VortexError::BadPrefix { row: 1 })));
     let refused = read(alloc, &[BinaryView::new_inlined(b"\xFF"), short]);
     assert!(rt; matches!(refused, Err(VortexError::NotUtf8 { row: 0 })));
+}
+
+// The text of a row, where the column has texts and so many rows.
+fn text_of(column: &VarBinViewArray, row: usize) -> Option<&str> {
+    match column.dtype() {
+        DType::Utf8(_) => {
+            if row < column.len() {
+                text_at(column, row)
+            } else {
+                None
+            }
+        }
+        _ => None,
+    }
+}
+
+#[test]
+fn texts_are_lent(rt: HostRuntime) {
+    let items = [Some("abc"), None, Some("a longer text")];
+    let column = VarBinViewArray::from_iter_nullable_str(rt.alloc(), items.iter().copied()).expect(
+        &rt, "made",
+    );
+    for (row, text) in items.iter().enumerate() {
+        assert!(rt; text_of(&column, row) == *text);
+    }
 }

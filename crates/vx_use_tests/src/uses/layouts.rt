@@ -3,11 +3,12 @@
 use std::alloc::Global;
 use vx_base::VortexError;
 use vx_lists::{ListViewArray, ListViewRebuildMode};
-use vx_test_help::{bools, has_numbers_or_nulls};
+use vx_test_help::{bools, has_numbers, has_numbers_or_nulls};
 use vx_tree::{TypedArray, Validity};
 use vx_uses::comparison::have_same_lists;
-use vx_uses::converter::lists_by_offsets;
+use vx_uses::converter::{ListColumn, lists_by_offsets, zero_copy_lists};
 use vx_uses::first::column;
+use vx_uses::modes::{moves_again, rebuilt_twice};
 
 // The lists `[3, 4]`, `[1]`, `[2, 3]` over the elements 1 to 4.
 fn scattered_lists(alloc: Global) -> Result<ListViewArray, VortexError> {
@@ -125,4 +126,76 @@ fn no_lists_have_one_offset(rt: HostRuntime) {
     ).expect(&rt, "made");
     let stored = lists_by_offsets(alloc, &none).expect(&rt, "made");
     assert!(rt; stored.offsets.as_slice() == [0].as_slice() && stored.elements.len() == 1);
+}
+
+// The lists of a flagged list view by their offsets, none of another one.
+fn flagged_only(alloc: Global, lists: &ListViewArray) -> Result<Option<ListColumn>, VortexError> {
+    if !lists.is_zero_copy_to_list() {
+        return Ok(None);
+    }
+    Ok(Some(zero_copy_lists(alloc, lists)?))
+}
+
+#[test]
+fn flagged_lists_are_read_where_they_lie(rt: HostRuntime) {
+    let alloc = rt.alloc();
+    let scattered = scattered_lists(alloc).expect(&rt, "made");
+    assert!(rt;
+        flagged_only(alloc, &scattered)
+            .expect(&rt, "made")
+            .is_none()
+    );
+    let rebuilt = scattered.rebuild_by_runs(alloc).expect(&rt, "made");
+    let Some(stored) = flagged_only(alloc, &rebuilt).expect(&rt, "made") else {
+        panic!(rt; "no flag");
+    };
+    assert!(rt; stored.offsets.as_slice() == [0, 2, 3, 5].as_slice());
+    assert!(rt; has_numbers(&stored.elements, &[3, 4, 1, 2, 3]));
+}
+
+// Whether a list moves when a mode rebuilds the lists again.
+fn any_moves(
+    alloc: Global,
+    lists: &ListViewArray,
+    mode: ListViewRebuildMode,
+) -> Result<bool, VortexError> {
+    for i in 0..lists.len() {
+        if moves_again(alloc, lists, mode, i)? {
+            return Ok(true);
+        }
+    }
+    Ok(false)
+}
+
+#[test]
+fn lists_rebuilt_again_do_not_move(rt: HostRuntime) {
+    let alloc = rt.alloc();
+    let lists = scattered_lists(alloc).expect(&rt, "made");
+    for mode in [
+        ListViewRebuildMode::MakeZeroCopyToList,
+        ListViewRebuildMode::TrimElements,
+        ListViewRebuildMode::MakeExact,
+    ] {
+        assert!(rt; !any_moves(alloc, &lists, mode).expect(&rt, "made"));
+    }
+}
+
+#[test]
+fn lists_are_trimmed_once(rt: HostRuntime) {
+    let alloc = rt.alloc();
+    let elements = column::<i32>(alloc, &[9, 1, 2, 9]).expect(&rt, "made");
+    let offsets = column::<u32>(alloc, &[2, 1]).expect(&rt, "made");
+    let sizes = column::<u32>(alloc, &[1, 1]).expect(&rt, "made");
+    let lists = ListViewArray::try_new(
+        alloc,
+        elements,
+        offsets,
+        sizes,
+        Validity::NonNullable,
+    ).expect(&rt, "made");
+    let (once, twice) = rebuilt_twice(alloc, &lists, ListViewRebuildMode::TrimElements).expect(
+        &rt, "made",
+    );
+    assert!(rt; has_numbers(once.elements(), &[1, 2]) && has_numbers(once.offsets(), &[1, 0]));
+    assert!(rt; has_numbers(twice.elements(), &[1, 2]) && has_numbers(twice.offsets(), &[1, 0]));
 }
