@@ -12,7 +12,6 @@ ghost use Rattle.vx_tree.specs.Operations.{IsValidNulled};
 ghost use Rattle.vx_tree.specs.Validities.{pair_of, both_pairs, both_states, and_fault, kept_array, IsAndOf};
 
 use crate::array::{ArrayRef, Validity};
-use crate::validity::concat::bits_of_mask;
 use crate::validity::{constant_truth, told_by};
 use std::alloc::Global;
 use vx_base::VortexError;
@@ -74,30 +73,11 @@ fn arrays_and(alloc: Global, array: &ArrayRef, other: &ArrayRef) -> Result<Valid
     if found != expected {
         return Err(VortexError::LengthMismatch { expected, found });
     }
-    let validity = masks_and(alloc, array, other)?;
+    let validity = plain_and(alloc, array, other)?;
     Ok(validity)
 }
 
-// The same of two arrays of plain booleans that are as long, by the runs of their rows.
-fn masks_and(alloc: Global, array: &ArrayRef, other: &ArrayRef) -> Result<Validity, VortexError>
-    requires mine { kind_of array.now ≡ booleans false }
-    requires theirs { kind_of other.now ≡ booleans false }
-    requires same_len { tree_len other.now ≡ tree_len array.now }
-    ensures { Gives result (λ w. IsValidNulled (by_array array.now) (by_array other.now) (tree_len array.now) (valid_of w)) }
-{
-    if array.is_repeated() {
-        return repeated_and(alloc, array.truth_at(0), other);
-    }
-    if other.is_repeated() {
-        return repeated_and(alloc, other.truth_at(0), array);
-    }
-    let mine = array.plain_mask(alloc)?;
-    let theirs = other.plain_mask(alloc)?;
-    let valid = mine.and(alloc, &theirs)?;
-    told_by(alloc, bits_of_mask(alloc, &valid)?)
-}
-
-// The same, by their bits.
+// The same of two arrays of plain booleans that are as long, by their bits.
 pub(crate) fn plain_and(
     alloc: Global,
     array: &ArrayRef,
