@@ -39,8 +39,9 @@ impl Filling {
     }
 
     // One value more: its view holds it, or it is put into the last buffer, into another one where
-    // that has no room.
-    #[inline]
+    // that has no room. Always inlined, with the two calls that it makes: a call for each item would
+    // cost more than the work on a short one.
+    #[inline(always)]
     pub(crate) fn push(&mut self, alloc: Global, value: &[u8]) -> Result<(), VortexError>
         requires { length value.now ≤ MAX_BUFFER_LEN }
         ensures held { length value.now ≤ MAX_INLINED_SIZE → OnOk result
@@ -60,6 +61,7 @@ impl Filling {
     }
 
     // Room for so many bytes in the last buffer: it is full where it has none.
+    #[inline(always)]
     fn make_room(&mut self, alloc: Global, size: usize) -> Result<(), VortexError>
         requires { size ≤ MAX_BUFFER_LEN }
         ensures { Gives result (λ _. filling self.new.full.items self.new.last.items self.new.views.items
@@ -74,6 +76,7 @@ impl Filling {
 
     // Puts a value at the end of the last buffer. Asks that there is room, and that the view does
     // not hold it.
+    #[inline(always)]
     fn put(&mut self, value: &[u8]) -> Result<(), VortexError>
         requires room { length self.old.last.items + length value.now ≤ MAX_BUFFER_LEN }
         ensures { Gives result (λ _. IsPut
