@@ -5,7 +5,9 @@ ghost use Rattle.vx_base.specs.Bits.{both};
 ghost use Rattle.vx_base.specs.DTypes.{is_nullable};
 ghost use Rattle.vx_base.specs.Refusals.{Gives, Refuses};
 ghost use Rattle.vx_tree.specs.Formed.{ValidFits};
-ghost use Rattle.vx_tree.specs.Meaning.{tree_len, nullable, valid_mask};
+ghost use Rattle.vx_base.specs.Kinds.{booleans};
+ghost use Rattle.vx_tree.specs.Meaning.{kind_of, tree_len, nullable, valid_mask};
+ghost use Rattle.vx_tree.specs.Tree.{by_array};
 ghost use Rattle.vx_tree.specs.Parts.{valid_of};
 ghost use Rattle.vx_tree.specs.Slots.{validity_slot};
 ghost use Rattle.vx_tree.specs.Validities.{has_no_nulls};
@@ -14,7 +16,7 @@ ghost use Rattle.vx_leaves.specs.Leaves.{bits_in, validity_of, null_fault};
 use crate::bool_array::BoolArray;
 use std::alloc::Global;
 use vx_base::{BitBuffer, BitBufferView, Mask, Nullability, VortexError};
-use vx_tree::{ArrayRef, TypedArray, Validity};
+use vx_tree::{ArrayRef, Layout, TypedArray, Validity};
 
 /// The children of an array of truth values.
 #[derive(Drop)]
@@ -96,8 +98,16 @@ impl BoolArrayExt for BoolArray {
 
     fn to_mask_fill_null_false(&self, alloc: Global) -> Result<Mask, VortexError> {
         let parts = self.parts();
-        let valid = valid_rows(alloc, parts.validity, parts.bits.len())?;
-        Mask::from_buffer_within(alloc, parts.bits, &valid)
+        match parts.validity {
+            Validity::Array(array) if begin_bytes(parts.bits, array) => {
+                let valid = valid_bits(alloc, array)?;
+                Mask::from_buffer(alloc, parts.bits.and(alloc, &valid)?)
+            }
+            state => {
+                let valid = valid_rows(alloc, state, parts.bits.len())?;
+                Mask::from_buffer_within(alloc, parts.bits, &valid)
+            }
+        }
     }
 }
 
@@ -118,6 +128,29 @@ fn are_all_valid(alloc: Global, validity: &Validity, len: usize) -> Result<bool,
     ensures { Gives result (λ b. b ≡ has_no_nulls (valid_of validity.now) len) }
 {
     validity.execute_no_nulls(alloc, len)
+}
+
+// Whether the array has bits too, and both begin with a byte, so that they are joined a word at a time.
+fn begin_bytes(bits: &BitBuffer, array: &ArrayRef) -> bool {
+    match array.layout() {
+        Layout::Bool { bits: valid, .. } => bits.offset() == 0 && valid.offset() == 0,
+        _ => false,
+    }
+}
+
+// The rows of an array of plain booleans, as bits.
+fn valid_bits(alloc: Global, array: &ArrayRef) -> Result<BitBuffer, VortexError>
+    requires { kind_of array.now ≡ booleans false }
+    ensures { Gives result (λ b. b.bits ≡ valid_mask (by_array array.now) (tree_len array.now)) }
+{
+    let plain = Validity::Array(array.try_clone(alloc)?).execute(alloc)?;
+    let Validity::Array(truths) = &plain else {
+        unreachable!();
+    };
+    let Layout::Bool { bits, .. } = truths.layout() else {
+        unreachable!();
+    };
+    bits.try_clone(alloc)
 }
 
 // Which of the rows are valid.
