@@ -38,7 +38,7 @@ impl<'a> Item for &'a [u8] {
     }
 
     fn is_text(&self) -> bool {
-        std::str::from_utf8(self).is_ok()
+        bytes_are_text(self)
     }
 }
 
@@ -66,7 +66,7 @@ impl<'a> Item for Option<&'a [u8]> {
 
     fn is_text(&self) -> bool {
         match self {
-            Some(value) => std::str::from_utf8(value).is_ok(),
+            Some(value) => bytes_are_text(value),
             None => true,
         }
     }
@@ -88,6 +88,20 @@ impl<'a> Item for Option<&'a str> {
             None => true,
         }
     }
+}
+
+// How long a value is at most that is read to its end, though its first byte may be faulty.
+const READ_WHOLE: usize = 1_024;
+
+// Whether bytes are text. Of short values bytes below 128 are told first, eight at a time, and then
+// the rest by blocks. Long ones are read no further than the first fault.
+fn bytes_are_text(bytes: &[u8]) -> bool
+    ensures { IsTrue result ↔ IsUtf8 bytes.now }
+{
+    if bytes.len() > READ_WHOLE {
+        return std::str::from_utf8(bytes).is_ok();
+    }
+    bytes.is_ascii() || simdutf8::is_utf8(bytes)
 }
 
 // Whether a `str` is text: its type says so, and no byte is looked at.
