@@ -1,12 +1,14 @@
 -- Bits of words of 64.
-use Rattle.std.proofs.Common.{ℕ, suc, ◌+◌, ◌-◌, ◌*◌, ◌/◌, ◌%◌, ◌^◌, ◌<◌, ◌≤◌, ◌≡◌, eqb, List, [], ◌∷◌, get_or, sym, ◌∙◌, ap, inl, inr, arith}
-use Rattle.std.specs.Int.{bit_at, w64, from_le_bytes}
+use Rattle.std.proofs.Common.{ℕ, zero, suc, ◌+◌, ◌-◌, ◌*◌, ◌/◌, ◌%◌, ◌^◌, ◌<◌, ◌≤◌, ◌≡◌, eqb, List, [], ◌∷◌, length, get_or, sym, ◌∙◌, ap, inl, inr, arith}
+use Rattle.std.specs.Int.{bit_at, w64, from_le_bytes, to_le_bytes}
 use Rattle.std.specs.Prelude.{bit_and, bit_or}
 use Rattle.std.proofs.Math.ListN.{get_or-eq_default}
 use Rattle.std.proofs.lemmas.Bool.{cases_lt}
-use Rattle.std.proofs.lemmas.Nat.{one_shl}
+use Rattle.std.proofs.lemmas.Nat.{one_shl, from_le_bytes-to_le_bytes_8}
+use borrow.Rule.Slice.PartMut.{put_mid}
 use Rattle.std.proofs.lemmas.Nat.Bits.{bit_at_or, bit_at_and, bit_at_ones, bit_at_ones_above, bit_at-zero, bit_at-lt, bit_at_cat_low, bit_at_cat_high}
 use Rattle.vx_base.specs.Bits.{bit_of, Written}
+use Rattle.vx_base.proofs.Filling.{written_part}
 use Rattle.vx_base.proofs.Packing.{eight_from, eight_at}
 use Rattle.vx_base.proofs.PackedBytes.{bit_at-shr, bit_at-shl_low, bit_at-shl_high, bit_at-low}
 
@@ -71,21 +73,47 @@ byte_of_word word first j i le h =
     let place : 8 * (j - first) + i ≡ 8 * j + i - 8 * first = omega arith in
     ap (λ (b : ℕ). eqb b 1) (bit_at-low 8 (word / 2 ^ (8 * (j - first))) i h ∙ bit_at-shr word (8 * (j - first)) i ∙ ap (bit_at word) place)
 
+small_bytes : (word j : ℕ) → get_or (to_le_bytes w64 word) j 0 < 256
+small_bytes word zero = omega arith
+small_bytes word (suc zero) = omega arith
+small_bytes word (suc (suc zero)) = omega arith
+small_bytes word (suc (suc (suc zero))) = omega arith
+small_bytes word (suc (suc (suc (suc zero)))) = omega arith
+small_bytes word (suc (suc (suc (suc (suc zero))))) = omega arith
+small_bytes word (suc (suc (suc (suc (suc (suc zero)))))) = omega arith
+small_bytes word (suc (suc (suc (suc (suc (suc (suc zero))))))) = omega arith
+small_bytes word (suc (suc (suc (suc (suc (suc (suc (suc j)))))))) = omega arith
+
+-- a bit of the eight bytes of a word
+bit_of_whole : (word k : ℕ) → word < 2 ^ 64 → k < 64 → bit_of (to_le_bytes w64 word) k ≡ eqb (bit_at word k) 1
+bit_of_whole word k small h =
+    let place : k ≡ 8 * 0 + k = omega arith in
+    ap (bit_of (to_le_bytes w64 word)) place ∙ sym (word_bits (to_le_bytes w64 word) 0 k (small_bytes word) h) ∙ ap (λ (n : ℕ). eqb (bit_at n k) 1) (from_le_bytes-to_le_bytes_8 word small)
+
+-- all eight are written
+pub whole_written : (old bytes : List ℕ) (first word : ℕ) → bytes ≡ to_le_bytes w64 word → word < 2 ^ 64 → first + 8 ≤ length old
+    → Written old (put_mid first (first + 8 - first) old bytes) (8 * first) (8 * (first + 8)) (λ k. eqb (bit_at word (k - 8 * first)) 1)
+whole_written old bytes first word are small room =
+    written_part old bytes first (first + 8) (λ k. eqb (bit_at word (k - 8 * first)) 1) (omega arith) room (ap length are ∙ omega arith)
+    (λ k h. let place : k ≡ 8 * first + k - 8 * first = omega arith in
+    ap (λ (bs : List ℕ). bit_of bs k) are ∙ bit_of_whole word k small (omega arith) ∙ ap (λ (n : ℕ). eqb (bit_at word n) 1) place)
+
 -- the bits of a word after those of a byte that stay
 module _ (old new : List ℕ) (at last word low : ℕ)
     (kept : (i : ℕ) → i < at % 8 → bit_at low i ≡ bit_at (get_or old (at / 8) 0) i)
     (cleared : (i : ℕ) → at % 8 ≤ i → bit_at low i ≡ 0)
-    (written : Written old new (8 * (at / 8)) (8 * last) (λ k. eqb (bit_at (bit_or (word * 2 ^ (at % 8) % 2 ^ 64) low) (k - 8 * (at / 8))) 1)) where
+    (before : (k : ℕ) → k < 8 * (at / 8) → bit_of new k ≡ bit_of old k)
+    (written : (k : ℕ) → 8 * (at / 8) ≤ k → k < 8 * last → bit_of new k ≡ eqb (bit_at (bit_or (word * 2 ^ (at % 8) % 2 ^ 64) low) (k - 8 * (at / 8))) 1) where
   pub word_before : at < 8 * last → (k : ℕ) → k < at → bit_of new k ≡ bit_of old k
   word_before room k h = elim (cases_lt k (8 * (at / 8))) [
-    | inl early ↦ written.1 k early
+    | inl early ↦ before k early
     | inr late ↦
         let q : k / 8 ≡ at / 8 = omega arith in
         let r : k % 8 ≡ k - 8 * (at / 8) = omega arith in
         let none : bit_at (word * 2 ^ (at % 8) % 2 ^ 64) (k - 8 * (at / 8)) ≡ 0 = bit_at-low 64 (word * 2 ^ (at % 8)) (k - 8 * (at / 8)) (omega arith) ∙ bit_at-shl_low word (at % 8) (k - 8 * (at / 8)) (omega arith) in
         let bit : bit_at (bit_or (word * 2 ^ (at % 8) % 2 ^ 64) low) (k - 8 * (at / 8)) ≡ bit_at (get_or old (at / 8) 0) (k - 8 * (at / 8)) =
         omega (arith, bit_at_or (word * 2 ^ (at % 8) % 2 ^ 64) low (k - 8 * (at / 8)), none, kept (k - 8 * (at / 8)) (omega arith)) in
-        written.0 k late (omega arith) ∙ ap (λ (b : ℕ). eqb b 1) bit ∙ sym (ap (λ (b : ℕ). eqb (bit_at (get_or old b 0) (k % 8)) 1) q ∙ ap (λ (b : ℕ). eqb (bit_at (get_or old (at / 8) 0) b) 1) r)
+        written k late (omega arith) ∙ ap (λ (b : ℕ). eqb b 1) bit ∙ sym (ap (λ (b : ℕ). eqb (bit_at (get_or old b 0) (k % 8)) 1) q ∙ ap (λ (b : ℕ). eqb (bit_at (get_or old (at / 8) 0) b) 1) r)
   ]
 
   pub word_after : (k : ℕ) → at ≤ k → k < 8 * last → k < at + 56 → bit_of new k ≡ eqb (bit_at word (k - at)) 1
@@ -95,4 +123,4 @@ module _ (old new : List ℕ) (at last word low : ℕ)
       bit_at-low 64 (word * 2 ^ (at % 8)) (k - 8 * (at / 8)) (omega arith) ∙ bit_at-shl_high word (at % 8) (k - 8 * (at / 8)) (omega arith) ∙ ap (bit_at word) place in
       let bit : bit_at (bit_or (word * 2 ^ (at % 8) % 2 ^ 64) low) (k - 8 * (at / 8)) ≡ bit_at word (k - at) =
       omega (arith, bit_at_or (word * 2 ^ (at % 8) % 2 ^ 64) low (k - 8 * (at / 8)), some, cleared (k - 8 * (at / 8)) (omega arith)) in
-      written.0 k (omega arith) room ∙ ap (λ (b : ℕ). eqb b 1) bit
+      written k (omega arith) room ∙ ap (λ (b : ℕ). eqb b 1) bit

@@ -73,9 +73,19 @@ fn low_bits(byte: u8, count: usize) -> u8
     byte & ((1 << count) - 1)
 }
 
-// Writes the bytes of a word from byte `first` up to, but not at, `last`.
+// Writes the eight bytes of a word from byte `first` on.
 #[inline]
-fn put_bytes(out: &mut [u8], first: usize, last: usize, word: u64)
+fn put_whole(out: &mut [u8], first: usize, word: u64)
+    requires { first + 8 ≤ length out.old }
+    ensures len { length out.new ≡ length out.old }
+    ensures written { Written out.old out.new (8 * first) (8 * (first + 8)) (λ k. bit_at word (k - 8 * first) == 1) }
+{
+    out[first..first + 8].copy_from_slice(&word.to_le_bytes());
+}
+
+// Writes the bytes of a word from byte `first` up to, but not at, `last`, one by one.
+#[inline]
+fn put_each(out: &mut [u8], first: usize, last: usize, word: u64)
     requires ordered { first ≤ last }
     requires few { last ≤ first + 8 }
     requires room { last ≤ length out.old }
@@ -87,8 +97,28 @@ fn put_bytes(out: &mut [u8], first: usize, last: usize, word: u64)
     }
 }
 
-// Writes the bits of a word to the places from `at` up to, but not at, `end`. What else there is
-// in their last byte may change.
+// Writes the bytes of a word from byte `first` up to, but not at, `last`. What there is after them
+// may change: where there is room for more than eight, all eight are written at once. The last byte
+// of all is so written by what ends in it alone.
+#[inline]
+pub(crate) fn put_bytes(out: &mut [u8], first: usize, last: usize, word: u64)
+    requires ordered { first ≤ last }
+    requires few { last ≤ first + 8 }
+    requires room { last ≤ length out.old }
+    ensures len { length out.new ≡ length out.old }
+    ensures before { (k : ℕ) → k < 8 * first → bit_of out.new k ≡ bit_of out.old k }
+    ensures written { (k : ℕ) → 8 * first ≤ k → k < 8 * last
+        → bit_of out.new k ≡ (bit_at word (k - 8 * first) == 1) }
+{
+    if out.len() - first <= 8 {
+        put_each(out, first, last, word);
+    } else {
+        put_whole(out, first, word);
+    }
+}
+
+// Writes the bits of a word to the places from `at` up to, but not at, `end`. What there is after
+// them may change.
 #[inline]
 pub(crate) fn put_word(out: &mut [u8], at: usize, end: usize, word: u64)
     requires ordered { at < end }

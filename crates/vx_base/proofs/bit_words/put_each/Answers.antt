@@ -2,7 +2,7 @@ use Rattle.std.proofs.Common.{◌-◌, ◌*◌, ◌/◌, ◌%◌, ◌^◌, eqb, 
 use Rattle.std.specs.Int.{bit_at}
 use Rattle.vx_base.proofs.BitWords.{byte_of_word}
 use Rattle.vx_base.proofs.Filling.{written_none, written_byte}
-use Rattle.vx_base.proofs.bit_words.put_bytes.Goals as goal
+use Rattle.vx_base.proofs.bit_words.put_each.Goals as goal
 
 pub loop-j-init : goal.loop-j-init
 loop-j-init c = written_none c.args.out.now (8 * c.args.first) (λ k. eqb (bit_at c.args.word (k - 8 * c.args.first)) 1)
