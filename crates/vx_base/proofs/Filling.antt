@@ -1,14 +1,16 @@
 -- Runs of bits that are written.
-use Rattle.std.proofs.Common.{ℕ, zero, suc, ◌+◌, ◌-◌, ◌*◌, ◌/◌, ◌%◌, ◌^◌, ◌<◌, ◌≤◌, ◌≡◌, ◌≢◌, Bool, true, false, eqb, List, ◌++◌, length, get_or, set, take, drop, replicate, refl, sym, ◌∙◌, ap, zero-add, inl, inr, arith}
+use Rattle.std.proofs.Common.{ℕ, zero, suc, ◌+◌, ◌-◌, ◌*◌, ◌/◌, ◌%◌, ◌^◌, ◌<◌, ◌≤◌, ◌≡◌, ◌≢◌, Bool, true, false, eqb, List, ◌++◌, length, get_or, set, take, drop, map, append-nil, replicate, refl, sym, ◌∙◌, ap, zero-add, inl, inr, arith}
 use Rattle.std.specs.Prelude.{bit_and, bit_or}
 use Rattle.std.specs.Int.{w8, bit_at, bit_not}
 use Rattle.std.proofs.lemmas.Bool.{cases_lt, cases_eq}
 use Rattle.std.proofs.lemmas.Nat.{mod_below}
 use Rattle.std.proofs.lemmas.Nat.Bits.{bit_at-zero, bit_at-lt, bit_at_or, bit_at_and, bit_at_not, bit_at_ones, bit_at_ones_above}
 use Rattle.std.proofs.lemmas.List.{get_or-set_same, get_or-set_other, same_lists, get_or_append_left, get_or-append_right, get_or-replicate, get_or-take, get_or-drop, length-append, length-take-le, length-replicate, length-drop}
+use Rattle.std.proofs.lemmas.List.FromFn.{length-map-range_with_len, get_or-map-range_with_len}
 use Rattle.std.proofs.lemmas.Slice.{take-put_mid, take-put_mid_below, drop-put_mid}
 use borrow.Rule.Slice.PartMut.{put_mid}
-use Rattle.vx_base.specs.Bits.{bit_of, byte_like, unpacked, Written, Filled}
+use Rattle.vx_base.specs.Bits.{bit_of, bool_at, byte_like, unpacked, Written, Filled}
+use Rattle.vx_base.specs.Selections.{run_positions}
 use Rattle.vx_base.proofs.PackedBits.{get_unpacked, length_unpacked}
 use Rattle.vx_base.proofs.PackedBytes.{bit_at-shr, bit_at-shl_low, bit_at-shl_high, bit_at-low}
 
@@ -100,6 +102,21 @@ written_end old mid new len count f tail kept before written size bits = same_li
               let place : len + (k - len) ≡ k = omega arith in
               left ∙ written k from small ∙ sym (get_or-append_right (unpacked old 0 len) tail len k d front from ∙ bits (k - len) d (omega arith) ∙ ap f place)
         ]
+
+-- the booleans of a run at the end
+pub run_written : (bits : List Bool) (old new : List ℕ) (run : ℕ × ℕ) (at : ℕ) → ((k : ℕ) → k < at → bit_of new k ≡ bit_of old k)
+    → ((k : ℕ) → at ≤ k → k < at + (run.1 - run.0) → bit_of new k ≡ bool_at bits (run.0 + (k - at)))
+    → unpacked new 0 (at + (run.1 - run.0)) ≡ unpacked old 0 at ++ map (bool_at bits) (run_positions run)
+run_written bits old new run at before written =
+    written_end old old new at (run.1 - run.0) (λ k. bool_at bits (run.0 + (k - at))) (map (bool_at bits) (run_positions run)) (λ k h. refl) before written
+    (length-map-range_with_len (bool_at bits) run.0 (run.1 - run.0))
+    (λ i d h. get_or-map-range_with_len (bool_at bits) run.0 (run.1 - run.0) i (run.0 + (at + i - at)) d h (omega arith))
+
+-- and of one that has none
+pub run_of_none : (bits : List Bool) (bs : List ℕ) (run : ℕ × ℕ) (at : ℕ) → run.1 ≤ run.0 → unpacked bs 0 at ≡ unpacked bs 0 at ++ map (bool_at bits) (run_positions run)
+run_of_none bits bs run at le =
+    let none : run.1 - run.0 ≡ 0 = omega arith in
+    sym (rw none (append-nil (unpacked bs 0 at)))
 
 -- ---- equal bits
 

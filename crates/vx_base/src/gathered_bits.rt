@@ -2,12 +2,12 @@
 
 ghost use Rattle.std.specs.Prelude.{◌≡◌, ◌<◌, ◌≤◌, ◌*◌, ◌+◌, ◌^◌, ◌++◌, IfOk, length, map, slice_index_or};
 ghost use Rattle.vx_base.specs.Refusals.{Gives};
-ghost use Rattle.std.specs.List.{All};
+ghost use Rattle.std.specs.List.{All, flat_map};
 ghost use Rattle.vx_base.specs.Bits.{unpacked, bool_at};
-ghost use Rattle.vx_base.specs.Selections.{run_positions};
+ghost use Rattle.vx_base.specs.Selections.{run_positions, list_positions};
 
 use crate::bit_buffer::BitBuffer;
-use crate::bit_buffer_mut::BitBufferMut;
+use crate::bit_buffer_mut::put_last;
 use crate::bit_bytes::{byte_of, put_bit};
 use crate::byte_buffer::ByteBuffer;
 use crate::errors::VortexError;
@@ -69,12 +69,9 @@ impl Gather for Bits<'_> {
         runs: &[(usize, usize)],
         len: usize,
     ) -> Result<BitBuffer, VortexError> {
-        let mut picked = BitBufferMut::with_capacity(alloc, len)?;
-        for run in runs {
-            let (start, end) = *run;
-            append_run(&mut picked, self.bits, start, end)?;
-        }
-        picked.freeze()
+        let mut bytes = vec![in alloc; 0u8; len.div_ceil(8)]?;
+        put_runs(self.bits, runs, &mut bytes);
+        Ok(BitBuffer::from_parts(ByteBuffer::from_vec(alloc, bytes)?, 0, len))
     }
 
     fn of_lists<P: Places>(
@@ -84,13 +81,9 @@ impl Gather for Bits<'_> {
         size: usize,
         len: usize,
     ) -> Result<BitBuffer, VortexError> {
-        let _ = self.bits.len();
-        let mut picked = BitBufferMut::with_capacity(alloc, len)?;
-        for i in 0..lists.count() {
-            let start = lists.at(i) * size;
-            append_run(&mut picked, self.bits, start, start + size)?;
-        }
-        picked.freeze()
+        let mut bytes = vec![in alloc; 0u8; len.div_ceil(8)]?;
+        put_lists::<P>(self.bits, lists, size, &mut bytes);
+        Ok(BitBuffer::from_parts(ByteBuffer::from_vec(alloc, bytes)?, 0, len))
     }
 }
 
@@ -133,19 +126,56 @@ fn bit_at<P: Places>(bits: &BitBuffer, places: P, i: usize) -> bool
     bits.value(places.at(i))
 }
 
-// Appends the booleans from `start` up to `end`, none where there is none between.
-fn append_run(
-    picked: &mut BitBufferMut,
-    bits: &BitBuffer,
-    start: usize,
-    end: usize,
-) -> Result<(), VortexError>
-    requires within { All (λ k. k < length bits.now.bits) (run_positions (start, end)) }
-    requires countable { length picked.old + length (run_positions (start, end)) < 2 ^ 64 }
-    ensures { Gives result (λ _. picked.new ≡ picked.old ++ map (bool_at bits.now.bits) (run_positions (start, end))) }
+// Writes the booleans of these runs, one run after another. Not inlined, as the loop above.
+#[inline(never)]
+fn put_runs(bits: &BitBuffer, runs: &[(usize, usize)], out: &mut [u8])
+    requires within { All (λ k. k < length bits.now.bits) (flat_map run_positions runs.now) }
+    requires room { length (flat_map run_positions runs.now) ≤ 8 * length out.old }
+    requires fits { length (flat_map run_positions runs.now) < 2 ^ 64 }
+    ensures len { length out.new ≡ length out.old }
+    ensures bits { unpacked out.new 0 (length (flat_map run_positions runs.now))
+        ≡ map (bool_at bits.now.bits) (flat_map run_positions runs.now) }
 {
-    if start < end {
-        picked.append_slice(bits, start, end)?;
+    let mut at = 0;
+    for run in runs {
+        at = put_run(bits, *run, out, at);
     }
-    Ok(())
+}
+
+// Writes the booleans of these lists of `size` booleans each, one list after another.
+#[inline(never)]
+fn put_lists<P: Places>(bits: &BitBuffer, lists: P, size: usize, out: &mut [u8])
+    requires within { All (λ k. k < length bits.now.bits) (flat_map (list_positions size) (P.positions lists)) }
+    requires room { length (flat_map (list_positions size) (P.positions lists)) ≤ 8 * length out.old }
+    requires fits { length (flat_map (list_positions size) (P.positions lists)) < 2 ^ 64 }
+    ensures len { length out.new ≡ length out.old }
+    ensures bits { unpacked out.new 0 (length (flat_map (list_positions size) (P.positions lists)))
+        ≡ map (bool_at bits.now.bits) (flat_map (list_positions size) (P.positions lists)) }
+{
+    let _ = bits.len();
+    let mut at = 0;
+    for i in 0..lists.count() {
+        let start = lists.at(i) * size;
+        at = put_run(bits, (start, start + size), out, at);
+    }
+}
+
+// Writes the booleans of a run, none where there is none between its ends, to the bits from `at`
+// on, and gives the place after them. What there is after them may change.
+#[inline]
+fn put_run(bits: &BitBuffer, run: (usize, usize), out: &mut [u8], at: usize) -> usize
+    requires within { All (λ k. k < length bits.now.bits) (run_positions run) }
+    requires room { at + length (run_positions run) ≤ 8 * length out.old }
+    requires fits { at + length (run_positions run) < 2 ^ 64 }
+    ensures len { length out.new ≡ length out.old }
+    ensures place { result ≡ at + length (run_positions run) }
+    ensures bits { unpacked out.new 0 result ≡ unpacked out.old 0 at ++ map (bool_at bits.now.bits) (run_positions run) }
+{
+    let (start, end) = run;
+    if end <= start {
+        return at;
+    }
+    let next = at + (end - start);
+    put_last(out, at, next, bits, start);
+    next
 }

@@ -1,8 +1,0 @@
-use Rattle.std.proofs.Common.{◌≡◌, take, map}
-use Rattle.std.specs.List.{flat_map}
-use Rattle.vx_base.specs.Selections.{run_positions}
-use Rattle.vx_base.specs.Bits.{bool_at}
-use Rattle.vx_base.proofs.gathered_bits.BitsGather.of_runs.Given as goal
-
-abbrev pub invariant-loop-run : goal.invariant-loop-run
-invariant-loop-run l = l.picked ≡ map (bool_at l.self.bits.now.bits) (flat_map run_positions (take l.run-index l.runs))
