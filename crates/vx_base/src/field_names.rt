@@ -89,11 +89,9 @@ impl FieldNames {
         FieldNames::from_names(alloc, names)
     }
 
-    // These names.
-    pub(crate) fn from_names(
-        alloc: Global,
-        names: Vec<FieldName>,
-    ) -> Result<FieldNames, VortexError>
+    /// These names, in order; no text is copied. The names a and b of a record, each shared by
+    /// `try_clone`, and a new name c make the names a, b and c. Fails only for want of memory.
+    pub fn from_names(alloc: Global, names: Vec<FieldName>) -> Result<FieldNames, VortexError>
         ensures { Gives result (λ n. n ≡ names.items) }
     {
         let names = Buffer::from_vec(alloc, names)?;
@@ -127,8 +125,9 @@ impl FieldNames {
         None
     }
 
-    // The names without name `i`, shared.
-    pub(crate) fn without(&self, alloc: Global, i: usize) -> Result<FieldNames, VortexError>
+    /// The names without name `i`, counted from 0, each of the others shared. Asks that there is
+    /// one. The names a, b and a without name 0 are b and a. Fails only for want of memory.
+    pub fn without(&self, alloc: Global, i: usize) -> Result<FieldNames, VortexError>
         requires { i < length self.now }
         ensures { Gives result (λ n. n ≡ remove self.now i) }
     {

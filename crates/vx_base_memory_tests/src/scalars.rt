@@ -83,6 +83,38 @@ fn names(rt: HostRuntime) -> Result<(), End> {
     judged(named(rt.alloc(), &names), are_two(&names))
 }
 
+// `FieldNames::from_names`.
+fn of_names(alloc: Global, names: &FieldNames) -> Result<bool, VortexError> {
+    let mut more = Vec::with_capacity(alloc, 3)?;
+    for i in 0..names.len() {
+        more.push(names.get(i).try_clone(alloc)?)?;
+    }
+    more.push(FieldName::try_new(alloc, "id")?)?;
+    let more = FieldNames::from_names(alloc, more)?;
+    Ok(more.len() == 3 && more.find("größe") == Some(1) && more.find("id") == Some(2))
+}
+
+// `FieldNames::without`.
+fn of_fewer_names(alloc: Global, names: &FieldNames) -> Result<bool, VortexError> {
+    if names.len() == 0 {
+        return Ok(false);
+    }
+    let rest = names.without(alloc, 0)?;
+    Ok(rest.len() == 1 && rest.find("größe") == Some(0))
+}
+
+#[test]
+fn shared_names(rt: HostRuntime) -> Result<(), End> {
+    let names = two_names(rt.alloc())?;
+    judged(of_names(rt.alloc(), &names), are_two(&names))
+}
+
+#[test]
+fn fewer_names(rt: HostRuntime) -> Result<(), End> {
+    let names = two_names(rt.alloc())?;
+    judged(of_fewer_names(rt.alloc(), &names), are_two(&names))
+}
+
 // `FieldName::try_new` and `FieldName::try_clone`.
 fn of_one_name(alloc: Global, name: &FieldName) -> Result<bool, VortexError> {
     let made = FieldName::try_new(alloc, "größe")?;

@@ -3,8 +3,8 @@
 use std::alloc::Global;
 use std::rc::Rc;
 use vx_base::{
-    ByteBuffer, DType, FieldNames, Nullability, PType, Scalar, ScalarValue, ScalarValues,
-    StructFields, VortexError,
+    ByteBuffer, DType, FieldName, FieldNames, Nullability, PType, Scalar, ScalarValue,
+    ScalarValues, StructFields, VortexError,
 };
 
 // A record of a text `name` and a nullable 16-bit `size`.
@@ -43,6 +43,70 @@ fn names_of_fields(rt: HostRuntime) -> Result<(), VortexError> {
         });
     }
     assert!(rt; same.get(1).as_str() == "größe" && same.get(0).as_str() == "name");
+    Ok(())
+}
+
+// Whether the names are these texts, in order.
+fn are_texts(names: &FieldNames, texts: &[&str]) -> bool {
+    if names.len() != texts.len() {
+        return false;
+    }
+    for i in 0..names.len() {
+        if names.get(i).as_str() != texts[i] {
+            return false;
+        }
+    }
+    true
+}
+
+#[test]
+fn names_of_a_record_and_one_more(rt: HostRuntime) -> Result<(), VortexError> {
+    let names = FieldNames::try_new(rt.alloc(), &["name", "größe"])?;
+    let mut more = Vec::new(rt.alloc());
+    for i in 0..names.len() {
+        more.push(names.get(i).try_clone(rt.alloc())?)?;
+    }
+    more.push(FieldName::try_new(rt.alloc(), "name")?)?;
+    let more = FieldNames::from_names(rt.alloc(), more)?;
+    assert!(rt; are_texts(&more, &["name", "größe", "name"]));
+    assert!(rt; are_texts(&names, &["name", "größe"]));
+    Ok(())
+}
+
+#[test]
+fn names_of_no_field(rt: HostRuntime) -> Result<(), VortexError> {
+    let none = FieldNames::from_names(rt.alloc(), Vec::new(rt.alloc()))?;
+    assert!(rt; none.len() == 0 && none.find("").is_none());
+    Ok(())
+}
+
+// Whether the names `a`, `b` and `a` without the one at a place are these texts.
+fn is_without(alloc: Global, place: usize, texts: &[&str]) -> Result<bool, VortexError> {
+    let names = FieldNames::try_new(alloc, &["a", "b", "a"])?;
+    if place >= names.len() {
+        return Ok(false);
+    }
+    let rest = names.without(alloc, place)?;
+    Ok(are_texts(&rest, texts))
+}
+
+#[test]
+fn names_without_one(rt: HostRuntime) -> Result<(), VortexError> {
+    assert!(rt; is_without(rt.alloc(), 0, &["b", "a"])?);
+    assert!(rt; is_without(rt.alloc(), 1, &["a", "a"])?);
+    assert!(rt; is_without(rt.alloc(), 2, &["a", "b"])?);
+    Ok(())
+}
+
+#[test]
+fn names_without_the_only_one(rt: HostRuntime) -> Result<(), VortexError> {
+    let names = FieldNames::try_new(rt.alloc(), &["größe"])?;
+    if names.len() == 0 {
+        return Err(VortexError::EmptyInput);
+    }
+    let rest = names.without(rt.alloc(), 0)?;
+    assert!(rt; rest.len() == 0 && rest.find("größe").is_none());
+    assert!(rt; are_texts(&names, &["größe"]));
     Ok(())
 }
 
