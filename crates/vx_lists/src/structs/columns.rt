@@ -31,7 +31,7 @@ impl StructArray {
     {
         let parts = self.parts();
         let columns = columns_named(alloc, parts.names, parts.columns, names)?;
-        let names = copied_names(alloc, names)?;
+        let names = shared_names(alloc, names)?;
         self.with_columns(alloc, names, columns)
     }
 
@@ -92,20 +92,11 @@ impl StructArray {
         let Some(place) = parts.names.find(name) else {
             return Ok(None);
         };
-        let names = self.names_without(alloc, place)?;
+        let names = parts.names.without(alloc, place)?;
         let columns = columns_without(alloc, parts.columns, place)?;
         let rest = self.with_columns(alloc, names, columns)?;
         let removed = self.unmasked_field(place).try_clone(alloc)?;
         Ok(Some((rest, removed)))
-    }
-
-    // The names without the one at a place. Asks that there is one.
-    fn names_without(&self, alloc: Global, place: usize) -> Result<FieldNames, VortexError>
-        requires { place < length (names_of self.now) }
-        ensures { Gives result (λ names. names ≡ remove (names_of self.now) place) }
-    {
-        let rest = self.struct_fields().without_field(alloc, place)?;
-        rest.names().try_clone(alloc)
     }
 
     /// The same as `remove_column`. Fails only for want of memory.
@@ -122,16 +113,16 @@ impl StructArray {
     }
 }
 
-// The names, and one more.
+// The names, shared, and one more.
 fn names_and(alloc: Global, names: &FieldNames, name: &str) -> Result<FieldNames, VortexError>
     ensures { Gives result (λ more. more ≡ names.now ++ name.now ∷ []) }
 {
-    let mut texts = Vec::with_capacity(alloc, names.len().saturating_add(1))?;
+    let mut more = Vec::with_capacity(alloc, names.len().saturating_add(1))?;
     for i in 0..names.len() {
-        texts.push(names.get(i).as_str())?;
+        more.push(names.get(i).try_clone(alloc)?)?;
     }
-    texts.push(name)?;
-    FieldNames::try_new(alloc, &texts)
+    more.push(FieldName::try_new(alloc, name)?)?;
+    FieldNames::from_names(alloc, more)
 }
 
 // The columns, shared, and one more.
@@ -184,15 +175,15 @@ fn columns_named(
     Ok(found)
 }
 
-// Names with copies of the texts of these.
-fn copied_names(alloc: Global, names: &[FieldName]) -> Result<FieldNames, VortexError>
-    ensures { Gives result (λ copied. copied ≡ names.now) }
+// The same names, shared.
+fn shared_names(alloc: Global, names: &[FieldName]) -> Result<FieldNames, VortexError>
+    ensures { Gives result (λ shared. shared ≡ names.now) }
 {
-    let mut texts = Vec::with_capacity(alloc, names.len())?;
+    let mut shared = Vec::with_capacity(alloc, names.len())?;
     for name in names {
-        texts.push(name.as_str())?;
+        shared.push(name.try_clone(alloc)?)?;
     }
-    FieldNames::try_new(alloc, &texts)
+    FieldNames::from_names(alloc, shared)
 }
 
 // The same columns, shared.

@@ -21,10 +21,11 @@ with_columns-requires c =
     let k = c.in-Some.place in
     let is : is_struct t ≡ true = ap is_struct c.parts-parts.ensures.same in
     let formed : WellFormed t = subst WellFormed (sym c.parts-parts.ensures.same) c.parts-parts.ensures.formed in
+    let names : c.in_ok-names.names ≡ remove (names_of t) k = c.in_ok-names.ensures ∙ ap (λ u. remove (names_of u) k) (sym c.parts-parts.ensures.same) in
     let columns : c.in_ok-columns.columns.items ≡ remove (columns_of t) k = c.in_ok-columns.ensures ∙ ap (λ cs. remove cs k) (sym c.parts-parts.ensures.columns) in
     let within : k < length (columns_of t) =
     rw c.parts-parts.ensures.columns (place_of_column p.names.now p.columns.now (valid_of p.validity.now) p.len c.args.name.now k c.parts-parts.ensures.formed (sym c.in-Some.ensures)) in
-    rw (c.in_ok-names.ensures, columns) (removed_fits t k is formed within)
+    rw (names, columns) (removed_fits t k is formed within)
 
 pub unmasked_field-requires : goal.unmasked_field-requires
 unmasked_field-requires c =
@@ -40,8 +41,9 @@ returns c =
     let is : is_struct t ≡ true = ap is_struct c.parts-parts.ensures.same in
     let formed : WellFormed t = subst WellFormed (sym c.parts-parts.ensures.same) c.parts-parts.ensures.formed in
     let at : place_of_name (names_of t) name ≡ Some k = ap (λ u. place_of_name (names_of u) name) c.parts-parts.ensures.same ∙ sym c.in-Some.ensures in
+    let names : c.in_ok-names.names ≡ remove (names_of t) k = c.in_ok-names.ensures ∙ ap (λ u. remove (names_of u) k) (sym c.parts-parts.ensures.same) in
     let columns : c.in_ok-columns.columns.items ≡ remove (columns_of t) k = c.in_ok-columns.ensures ∙ ap (λ cs. remove cs k) (sym c.parts-parts.ensures.columns) in
-    let made : rest ≡ with_columns t (remove (names_of t) k) (remove (columns_of t) k) = rw (c.in_ok-names.ensures, columns) at c.in_ok-rest.ensures in
+    let made : rest ≡ with_columns t (remove (names_of t) k) (remove (columns_of t) k) = rw (names, columns) at c.in_ok-rest.ensures in
     let found : slice_get (columns_of t) k ≡ Some c.in_ok-removed.removed = c.unmasked_field.ensures ∙ ap Some (sym c.in_ok-removed.ensures) in
     record {
       columns = sym (removed-found t name k rest c.in_ok-removed.removed at found made);
