@@ -1,6 +1,7 @@
 pub mod Digits
 pub mod FourBytes
 pub mod Padding
+pub mod Shifts
 pub mod Bytewise
 pub mod Places
 pub mod WordOrder

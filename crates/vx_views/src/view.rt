@@ -1,6 +1,6 @@
 //! Views of 16 bytes: a value of at most `MAX_INLINED_SIZE` bytes, or where a longer one stands.
 
-ghost use Rattle.std.specs.Prelude.{◌≡◌, ◌+◌, ◌^◌, ◌<◌, ◌≤◌, ◌==◌, ◌++◌, ℕ, [], ◌∷◌, IsTrue, ◌↔◌, length, map, slice_range, take, T};
+ghost use Rattle.std.specs.Prelude.{◌≡◌, ◌+◌, ◌^◌, ◌<◌, ◌≤◌, ◌==◌, ◌++◌, ℕ, [], ◌∷◌, IsTrue, ◌↔◌, drop, length, map, slice_range, take, T};
 ghost use Rattle.std.specs.Int.{w128, from_le_bytes, to_le_bytes};
 ghost use Rattle.vx_views.specs.Views.{view_size, view_prefix, view_block, view_offset, view_of, ref_view, inlined_view, held_value};
 ghost use Rattle.vx_views.specs.Views.{is_inline, IsView, Resolves, view_value, view_head, number_le, view_order_prefix, view_order_tail};
@@ -60,8 +60,7 @@ impl BinaryView {
         if value.len() <= MAX_INLINED_SIZE {
             return BinaryView::new_inlined(value);
         }
-        let prefix = [value[0], value[1], value[2], value[3]];
-        BinaryView::new_ref(value.len() as u32, prefix, block, offset)
+        BinaryView::new_ref(value.len() as u32, bytes_at(value, 0), block, offset)
     }
 
     /// The view of the value of no bytes.
@@ -87,16 +86,21 @@ impl BinaryView {
     }
 
     /// The view that holds a value of at most 12 bytes.
-    #[tactic(auto, unfolding(crate::specs::Views::inlined_view))]
+    #[inline]
     pub fn new_inlined(value: &[u8]) -> BinaryView
         requires { length value.now ≤ MAX_INLINED_SIZE }
         ensures { result ≡ inlined_view value.now }
     {
         let size = value.len() as u32;
-        let mut bytes = [0; 16];
-        bytes[..4].copy_from_slice(&size.to_le_bytes());
-        bytes[4..16].copy_from_slice(&padded::<MAX_INLINED_SIZE>(value));
-        BinaryView { bytes }
+        let rest = rest_of(value);
+        BinaryView {
+            bytes: joined(
+                &size.to_le_bytes(),
+                &BinaryView::prefix_of(value),
+                &rest[..4],
+                &rest[4..],
+            ),
+        }
     }
 
     /// How many bytes the value has.
@@ -224,10 +228,14 @@ impl BinaryView {
     }
 
     /// The prefix that a view of the value has.
+    #[inline]
     pub fn prefix_of(value: &[u8]) -> [u8; 4]
         ensures { result ≡ prefix_of value.now }
     {
-        padded(value)
+        if value.len() < 4 {
+            return at_most_three(value);
+        }
+        bytes_at(value, 0)
     }
 
     /// The head that a view of the value has; a length above a `u32` counts as `u32::MAX`. That of
@@ -257,8 +265,7 @@ impl BinaryView {
     pub fn order_tail_of(value: &[u8]) -> u64
         ensures { result ≡ order_tail_of value.now }
     {
-        let rest = value.get(4..).unwrap_or_default();
-        u64::from_be_bytes(padded(rest))
+        u64::from_be_bytes(rest_of(value))
     }
 
     /// The 16 bytes as one number.
@@ -275,9 +282,14 @@ impl BinaryView {
         ensures bytes { result ≡ slice_range self.now from (from + N) }
         ensures formed { IsView self.now }
     {
-        let mut part = [0; N];
-        part.copy_from_slice(&self.bytes[from..from + N]);
-        part
+        bytes_at(&self.bytes, from)
+    }
+
+    // The 16 bytes.
+    pub(crate) fn to_bytes(&self) -> [u8; 16]
+        ensures { result ≡ self.now }
+    {
+        self.bytes
     }
 }
 
@@ -296,15 +308,57 @@ fn joined(a: &[u8], b: &[u8], c: &[u8], d: &[u8]) -> [u8; 16]
     ]
 }
 
-// The first so many bytes of a value, and zeroes where it has no more.
-#[tactic(auto, unfolding(crate::specs::Views::padded))]
-fn padded<const N: usize>(value: &[u8]) -> [u8; N]
-    ensures { result ≡ padded N value.now }
+// So many bytes, from a place on.
+#[inline(always)]
+pub(crate) fn bytes_at<const N: usize>(bytes: &[u8], from: usize) -> [u8; N]
+    requires { from + N ≤ length bytes.now }
+    ensures { result ≡ slice_range bytes.now from (from + N) }
 {
-    let mut bytes = [0; N];
-    let len = value.len().min(N);
-    bytes[..len].copy_from_slice(&value[..len]);
-    bytes
+    let mut part = [0; N];
+    part.copy_from_slice(&bytes[from..from + N]);
+    part
+}
+
+// A value of at most three bytes, and zeroes after it: by one number, since four single bytes would
+// be put together byte by byte.
+#[inline(always)]
+fn at_most_three(value: &[u8]) -> [u8; 4]
+    requires { length value.now < 4 }
+    ensures { result ≡ padded 4 value.now }
+{
+    let len = value.len();
+    if len >= 2 {
+        let first = u16::from_le_bytes(bytes_at(value, 0));
+        let last = u16::from_le_bytes(bytes_at(value, len - 2));
+        let third = u32::from(last) >> (8 * (4 - len) as u32);
+        return (u32::from(first) + third * 0x1_0000).to_le_bytes();
+    }
+    if len == 1 {
+        return u32::from(value[0]).to_le_bytes();
+    }
+    [0; 4]
+}
+
+// The eight bytes of a value from its fifth on, and zeroes where it has no more. The last four or
+// eight bytes are loaded as one number, and those before the fifth are shifted out: no copy of a
+// length that is known only when it runs.
+#[inline(always)]
+fn rest_of(value: &[u8]) -> [u8; 8]
+    ensures { result ≡ padded 8 (drop 4 value.now) }
+{
+    let len = value.len();
+    if len >= 12 {
+        return bytes_at(value, 4);
+    }
+    if len >= 8 {
+        let last = u64::from_le_bytes(bytes_at(value, len - 8));
+        return (last >> (8 * (12 - len) as u32)).to_le_bytes();
+    }
+    if len >= 4 {
+        let last = u32::from_le_bytes(bytes_at(value, len - 4));
+        return (u64::from(last) >> (8 * (8 - len) as u32)).to_le_bytes();
+    }
+    [0; 8]
 }
 
 impl From<u128> for BinaryView {
