@@ -5,6 +5,7 @@ pub mod Shifts
 pub mod Bytewise
 pub mod Places
 pub mod WordOrder
+pub mod FirstHigh
 pub mod AsciiViews
 pub mod SoundViews
 pub mod Utf8Table

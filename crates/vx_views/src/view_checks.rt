@@ -1,6 +1,6 @@
 //! The check of views that come from outside.
 
-ghost use Rattle.std.specs.Prelude.{◌≡◌, ◌<◌, ◌≤◌, ◌↔◌, ◌&&◌, length, OnOk, IfOk, None, IsTrue, IsUtf8, false, true, nat_le, slice_range};
+ghost use Rattle.std.specs.Prelude.{◌≡◌, ◌<◌, ◌≤◌, ◌↔◌, ◌&&◌, ℕ, length, OnOk, IfOk, None, IsTrue, IsUtf8, false, true, nat_le, slice_index, slice_range};
 ghost use Rattle.std.specs.List.{list_any};
 ghost use Rattle.std.specs.Str.{IsAscii};
 ghost use Rattle.vx_base.specs.Refusals.{Refuses, Tests, Gives};
@@ -12,13 +12,12 @@ ghost use Rattle.vx_views.specs.Views.{view_size, view_value, held_value};
 ghost use Rattle.vx_views.specs.declared.view.TheConstants.{MAX_INLINED_SIZE};
 
 use crate::ascii_checks::{are_ascii, are_ascii_views};
-use crate::view::BinaryView;
+use crate::view::{BinaryView, bytes_at};
+use simdutf8::Checker;
 use std::alloc::Global;
 use std::ops::Range;
+use std::simd::prelude::*;
 use vx_base::{ByteBuffer, Mask, VortexError};
-
-// The high bits of the bytes that may hold a value, in the 16 bytes of a view as one number.
-const INLINED_HIGH_BITS: u128 = 0x8080_8080_8080_8080_8080_8080_0000_0000;
 
 /// Whether each view of a valid row may stand there: the first faulty row refuses, with its number.
 ///
@@ -118,6 +117,7 @@ fn check_rows<const TEXT: bool>(
 }
 
 // Whether the view of a valid row may stand there: whether its value was checked alone.
+#[inline(always)]
 pub(crate) fn check_view<const TEXT: bool>(
     view: &BinaryView,
     row: usize,
@@ -169,6 +169,7 @@ pub(crate) fn read_ahead(
 }
 
 // Whether a view may stand there as a text: whether its value was checked alone.
+#[inline(always)]
 fn check_text_view(
     view: &BinaryView,
     row: usize,
@@ -205,17 +206,60 @@ fn check_inlined_text(view: &BinaryView, row: usize) -> Result<bool, VortexError
     if is_inlined_ascii(view) {
         return Ok(false);
     }
-    check_text(view.bytes(&[]), row)?;
+    if !is_held_text(view) {
+        return Err(VortexError::NotUtf8 { row });
+    }
     Ok(true)
 }
 
-// Whether the value that stands in a view has bytes below 128 alone: the high bits of all the bytes
-// that may hold it tell most values first.
+// Whether the value that stands in a view is text. The 16 bytes of the view are tested at once:
+// where they are UTF-8, as a length, a text and zeroes after it are, the value's ends decide.
+fn is_held_text(view: &BinaryView) -> bool
+    requires inlined { view_size view.now ≤ MAX_INLINED_SIZE }
+    requires some { 0 < view_size view.now }
+    ensures { IsTrue result ↔ IsUtf8 (held_value view.now) }
+{
+    let bytes = view.to_bytes();
+    if is_text_block(bytes) {
+        return is_text_range(&bytes, 4..4 + view.len() as usize);
+    }
+    is_text(view.bytes(&[]))
+}
+
+// Whether 16 bytes are text: a block's test, whose other 48 bytes are known to be zeroes, and so
+// take little time.
+#[inline(always)]
+fn is_text_block(bytes: [u8; 16]) -> bool
+    ensures { IsTrue result ↔ IsUtf8 bytes }
+{
+    let mut block = [0; 64];
+    block[..16].copy_from_slice(&bytes);
+    Checker::new().step(u8x64::from_array(block)).finish()
+}
+
+// Whether the value that stands in a view has bytes below 128 alone.
+#[inline]
 pub(crate) fn is_inlined_ascii(view: &BinaryView) -> bool
     requires { view_size view.now ≤ MAX_INLINED_SIZE }
     ensures { IsTrue result ↔ IsAscii (held_value view.now) }
 {
-    view.as_u128() & INLINED_HIGH_BITS == 0 || view.bytes(&[]).is_ascii()
+    4 + view.len() as usize <= ascii_len(view.to_bytes())
+}
+
+// How many of 16 bytes stand before the first of 128 or more.
+#[inline(always)]
+fn ascii_len(bytes: [u8; 16]) -> usize
+    ensures within { result ≤ 16 }
+    ensures before { (i : ℕ) → i < result → slice_index bytes i < 128 }
+    ensures stop { result < 16 → 128 ≤ slice_index bytes result }
+{
+    let high = u8x16::from_array(bytes)
+        .simd_ge(u8x16::splat(0x80))
+        .to_bitmask();
+    if high == 0 {
+        return 16;
+    }
+    high.trailing_zeros() as usize
 }
 
 // Whether the value of a row is text.
@@ -228,7 +272,9 @@ fn check_text(value: &[u8], row: usize) -> Result<(), VortexError>
     Ok(())
 }
 
-// Whether a value is text: bytes below 128 are told first, eight at a time.
+// Whether a value is text: bytes below 128 are told first, eight at a time. It is long, and
+// so no part of the loops over views.
+#[inline(never)]
 fn is_text(value: &[u8]) -> bool
     ensures { IsTrue result ↔ IsUtf8 value.now }
 {
@@ -254,6 +300,7 @@ fn is_boundary(bytes: &[u8], place: usize) -> bool
 }
 
 // The value that a view refers to, where the view says rightly where it stands and how it begins.
+#[inline]
 pub(crate) fn value_at<'a>(
     view: &BinaryView,
     row: usize,
@@ -275,7 +322,7 @@ pub(crate) fn value_at<'a>(
         return Err(VortexError::BadEnd { row });
     }
     let value = &buffer[range];
-    if !value.starts_with(&parts.prefix) {
+    if u32::from_le_bytes(bytes_at(value, 0)) != u32::from_le_bytes(parts.prefix) {
         return Err(VortexError::BadPrefix { row });
     }
     Ok(value)

@@ -1,8 +1,7 @@
-use Rattle.std.proofs.Common.{rules}
-use Rattle.vx_views.proofs.AsciiViews.{held_ascii}
+use Rattle.vx_views.proofs.AsciiViews.{ascii_by_front}
 use Rattle.vx_views.proofs.view_checks.is_inlined_ascii.Goals as goal
 
-pub returns-then-as_u128-eq0 : goal.returns-then-as_u128-eq0
-returns-then-as_u128-eq0 c =
-    let ascii = held_ascii c.args.view.now c.as_u128.ensures.formed c.requires (rw c.as_u128.ensures.number at c.if-as_u128-eq0.true) in
-    (λ h. ascii, λ h. search (rules, c.if-as_u128-eq0.true))
+pub returns : goal.returns
+returns c =
+    rw c.len.ensures.size
+    (ascii_by_front c.args.view.now c.requires c.ascii_len.result (rw c.to_bytes.ensures at c.ascii_len.ensures.before) (rw c.to_bytes.ensures at c.ascii_len.ensures.stop))
