@@ -1,6 +1,6 @@
 // Rows that are read one at a time, or as bits.
 
-ghost use Rattle.std.specs.Prelude.{◌≡◌, ◌<◌, ◌≤ℤ◌, ◌+◌, ◌^◌, ◌-◌, ◌++◌, pos, true, false, map, replicate, None, length, count_by, IfOk};
+ghost use Rattle.std.specs.Prelude.{◌≡◌, ◌<◌, ◌≤ℤ◌, ◌^◌, ◌-◌, pos, true, false, map, replicate, None, length, count_by, IfOk};
 ghost use Rattle.std.specs.Prelude.{IfSome, IsSome, IsTrue, is_some, ℕ};
 ghost use Rattle.std.specs.List.{range_with_len};
 ghost use Rattle.vx_base.specs.Refusals.{Gives, Refuses};
@@ -17,7 +17,7 @@ ghost use Rattle.vx_tree.specs.Operations.{IsValidityOf};
 use crate::array::{ArrayRef, Layout, Validity};
 use crate::layouts::constant::scalar_validity;
 use std::alloc::Global;
-use vx_base::{BitBuffer, BitBufferMut, Mask, VortexError, int_at};
+use vx_base::{BitBuffer, Mask, VortexError, int_at};
 
 #[tactic(auto, using(crate::specs::Formed::valid_reads))]
 impl ArrayRef {
@@ -127,24 +127,6 @@ impl ArrayRef {
             return Ok(mask_of_one(self.truth_at(0), self.len()));
         }
         Mask::from_buffer(alloc, self.plain_bits(alloc)?)
-    }
-
-    // Adds the rows of an array of plain booleans to bits.
-    pub(crate) fn append_truths(
-        &self,
-        alloc: Global,
-        bits: &mut BitBufferMut,
-    ) -> Result<(), VortexError>
-        requires kind { kind_of self.now ≡ booleans false }
-        requires short { length bits.old + tree_len self.now < 2 ^ 64 }
-        ensures { Gives result (λ _. bits.new
-            ≡ bits.old ++ map (λ i. truth_of (row_at self.now i)) (range_with_len 0 (tree_len self.now))) }
-    {
-        if self.is_repeated() {
-            return bits.append_n(self.truth_at(0), self.len());
-        }
-        let truths = self.plain_bits(alloc)?;
-        bits.append_slice(&truths, 0, truths.len())
     }
 
     // How many of the rows of an array of plain booleans are true. Of rows that are all one it takes

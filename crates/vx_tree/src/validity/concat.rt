@@ -1,6 +1,6 @@
 // Validities that are joined, and gathered from iterators.
 
-ghost use Rattle.std.specs.Prelude.{◌≡◌, ◌⊎◌, ◌<◌, ◌+◌, ◌^◌, ◌++◌, Bool, List, None, length, map, IfOk, IfErr};
+ghost use Rattle.std.specs.Prelude.{◌≡◌, ◌⊎◌, Bool, List, None, length, map, IfOk, IfErr};
 ghost use Rattle.std.specs.Option.{option_map};
 ghost use Rattle.std.specs.List.{All};
 ghost use Rattle.std.specs.Iterator.{IsFinite, Drains};
@@ -8,19 +8,18 @@ ghost use Rattle.vx_base.specs.Booleans.{joined, count_fault};
 ghost use Rattle.vx_base.specs.Refusals.{Gives, Refuses, Tests, refusal_of};
 ghost use Rattle.vx_base.specs.declared.errors.VortexError.TheVariants.{Memory};
 ghost use Rattle.vx_tree.specs.Tree.{Valid, all_valid};
-ghost use Rattle.vx_tree.specs.Meaning.{valid_mask};
 ghost use Rattle.vx_tree.specs.Formed.{IsLenOf};
 ghost use Rattle.vx_tree.specs.Parts.{valid_of};
 ghost use Rattle.vx_tree.specs.Faults.{valid_type_fault};
 ghost use Rattle.vx_tree.specs.Validities.{valid_from};
-ghost use Rattle.vx_tree.specs.Joins.{executed, AreLens, joined_mask, are_all, joined_validity, types_fault, join_fault};
+ghost use Rattle.vx_tree.specs.Joins.{executed, AreLens, mask_of, joined_mask, are_all, joined_validity, types_fault, join_fault};
 
 use crate::array::Validity;
 use crate::collect::collect_items;
 use crate::validity::told_by;
 use std::alloc::Global;
 use std::fmt;
-use vx_base::{BitBuffer, BitBufferMut, Mask, Nullability, VortexError};
+use vx_base::{BitBuffer, Mask, Nullability, VortexError};
 
 impl Validity {
     /// A state without an array as it is, and an array as one of plain booleans of its own, neither
@@ -95,31 +94,6 @@ impl Validity {
         Validity::from_mask(alloc, mask, Nullability::Nullable)
     }
 
-    // Adds the booleans of `len` rows to bits. Refuses as `execute_mask` does.
-    fn append_to(
-        &self,
-        alloc: Global,
-        len: usize,
-        bits: &mut BitBufferMut,
-    ) -> Result<(), VortexError>
-        requires rows { IsLenOf (valid_of self.now) len }
-        requires short { length bits.old + len < 2 ^ 64 }
-        ensures ok { IfOk result (λ _. bits.new ≡ bits.old ++ valid_mask (valid_of self.now) len) }
-        ensures refuses { Refuses result (valid_type_fault (valid_of self.now)) }
-    {
-        match self {
-            Validity::NonNullable => Ok(bits.append_n(true, len)?),
-            Validity::AllValid => Ok(bits.append_n(true, len)?),
-            Validity::AllInvalid => Ok(bits.append_n(false, len)?),
-            Validity::Array(array) => {
-                if !array.dtype().is_plain_bool() {
-                    return Err(VortexError::MismatchedTypes);
-                }
-                Ok(array.append_truths(alloc, bits)?)
-            }
-        }
-    }
-
     // Whether all of them are this state, and it is one without an array.
     fn are_all(&self, parts: &[(Validity, usize)]) -> bool
         ensures { result ≡ are_all (valid_of self.now) parts.now }
@@ -174,34 +148,29 @@ fn check_types(parts: &[(Validity, usize)]) -> Result<(), VortexError>
     Ok(())
 }
 
-// Their booleans, one validity after another. The room for them is had once.
+// Their booleans, one validity after another.
 fn joined_bits(alloc: Global, parts: &[(Validity, usize)]) -> Result<BitBuffer, VortexError>
     requires lens { All (λ part. IsLenOf (valid_of part.0) part.1) parts.now }
     requires types { All (λ part. valid_type_fault (valid_of part.0) ≡ None) parts.now }
     ensures ok { IfOk result (λ b. b.bits ≡ joined_mask parts.now) }
     ensures refuses { Refuses result (count_fault (length (joined_mask parts.now))) }
 {
-    let mut bits = BitBufferMut::with_capacity(alloc, row_count(parts)?)?;
-    for (part, len) in parts {
-        part.append_to(alloc, *len, &mut bits)?;
-    }
-    Ok(bits.freeze()?)
+    let masks = masks_of(alloc, parts)?;
+    let mask = Mask::concat(alloc, &masks)?;
+    Ok(bits_of_mask(alloc, &mask)?)
 }
 
-// How many rows they have together.
-fn row_count(parts: &[(Validity, usize)]) -> Result<usize, VortexError>
-    requires { All (λ part. IsLenOf (valid_of part.0) part.1) parts.now }
-    ensures count { IfOk result (λ n. n ≡ length (joined_mask parts.now)) }
-    ensures tests { Tests result (count_fault (length (joined_mask parts.now))) }
+// The booleans of each.
+fn masks_of(alloc: Global, parts: &[(Validity, usize)]) -> Result<Vec<Mask>, VortexError>
+    requires lens { All (λ part. IsLenOf (valid_of part.0) part.1) parts.now }
+    requires types { All (λ part. valid_type_fault (valid_of part.0) ≡ None) parts.now }
+    ensures { Gives result (λ masks. masks.items ≡ map mask_of parts.now) }
 {
-    let mut count = 0usize;
-    for (_, len) in parts {
-        let Some(more) = count.checked_add(*len) else {
-            return Err(VortexError::Overflow);
-        };
-        count = more;
+    let mut masks = Vec::with_capacity(alloc, parts.len())?;
+    for (part, len) in parts {
+        masks.push(part.execute_mask(alloc, *len)?)?;
     }
-    Ok(count)
+    Ok(masks)
 }
 
 // The booleans of a mask as bits, which are made of its runs where both values stand.

@@ -1,6 +1,0 @@
-use Rattle.std.proofs.Common.{◌≡◌, take}
-use Rattle.vx_tree.specs.Joins.{joined_mask}
-use Rattle.vx_tree.proofs.validity.concat.joined_bits.Given as goal
-
-abbrev pub invariant-loop-part : goal.invariant-loop-part
-invariant-loop-part l = l.bits ≡ joined_mask (take l.part-index l.parts)
