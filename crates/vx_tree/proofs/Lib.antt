@@ -52,6 +52,7 @@ pub mod JoinedRecords
 pub mod JoinedListViews
 pub mod JoinedKinds
 pub mod JoinedParts
+pub mod ViewNumbers
 pub mod JoinedViews
 pub mod JoinedExtents
 pub mod JoinedNumbers

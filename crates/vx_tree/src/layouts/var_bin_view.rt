@@ -504,17 +504,14 @@ fn add_views(
     Ok(())
 }
 
-// The view, its buffer numbered further by `base` where it refers to one.
+// The view, its buffer numbered further by `base` where it refers to one: the number of its buffer
+// is bits 64 to 95 of its bytes as one number, so that views of both kinds go the same way.
 fn shifted(view: &BinaryView, base: usize) -> BinaryView
     requires { MAX_INLINED_SIZE < view_size view.now → base + view_block view.now < 2 ^ 32 }
     ensures { result ≡ shifted_view base view.now }
 {
-    if view.is_inlined() {
-        return *view;
-    }
-    let parts = view.as_view();
-    let block = (base + parts.buffer_index as usize) as u32;
-    BinaryView::from(parts.with_buffer_and_offset(block, parts.offset))
+    let further = if view.is_inlined() { 0 } else { base };
+    BinaryView::from(view.as_u128() + ((further as u128) << 64))
 }
 
 // Each view has 16 bytes, and each buffer has bytes. It does nothing.
