@@ -1,8 +1,9 @@
 -- Arrays of counts by their numbers.
 use Rattle.std.proofs.Common.{◌≡◌, ℕ, ◌+◌, ◌*◌, ◌<◌, true, List, [], ◌∷◌, ◌++◌, zero-add, length, map, get_or, refl, sym, ◌∙◌, ap, subst, arith}
-use Rattle.std.specs.Prelude.{ℤ, pos, negsuc}
+use Rattle.std.specs.Prelude.{ℤ, pos, negsuc, ◌≤ℤ◌}
 use Rattle.std.specs.List.{All, range_with_len}
-use Rattle.std.proofs.lemmas.List.{length-map, get_or-map}
+use Rattle.std.proofs.lemmas.Int.{ints}
+use Rattle.std.proofs.lemmas.List.{length-map, get_or-map, get_or_default}
 use Rattle.std.proofs.lemmas.List.Elements.{All-push}
 use Rattle.std.proofs.lemmas.List.FromFn.{fill_by_all, map-range_with_len_more}
 use Rattle.std.proofs.lemmas.Simd.{map-map}
@@ -13,8 +14,9 @@ use Rattle.vx_base.specs.declared.ptypes.PType.{PType}
 use Rattle.vx_tree.specs.Tree.{Tree, primitive, Valid, non_nullable, all_valid, all_invalid, by_array}
 use Rattle.vx_tree.specs.Meaning.{tree_len, kind_of, row_at, rows}
 use Rattle.vx_tree.specs.Formed.{IsCounts, WellFormed}
-use Rattle.vx_lists.specs.ListViews.CountBytes.{HoldCounts}
+use Rattle.vx_lists.specs.ListViews.CountBytes.{count_of, counts_of, AreCountBytes, HoldCounts}
 use Rattle.vx_lists.specs.ListViews.{counts_in, IsCountArray}
+use Rattle.vx_lists.proofs.ListViews.CountBytes.{get_or-counts_of}
 
 -- plain integers are integers
 pub is_integers-from_plain : (k : Kind) → is_plain_integers k ≡ true → is_integers k ≡ true
@@ -87,6 +89,21 @@ number_bytes_hold a t bs v parts formed are_counts =
       whole = formed.1 ∙ ap (λ n. n * byte_width t) (ap length are ∙ length-map (counts_in (primitive t bs non_nullable)) pos);
     } in
     subst (λ x. HoldCounts (integer_type (kind_of x)) bs (counts_in x)) (sym same) hold
+
+-- none of them is negative
+pub number_counts : (t : PType) (bs : List ℕ) → IsCounts (primitive t bs non_nullable) → AreCountBytes t bs
+number_counts t bs are_counts = λ i d inside.
+    let number : get_or (numbers t bs) i (pos 0) ≡ pos (count_in (row_at (primitive t bs non_nullable) i)) = counted (number_nth (numbers t bs) i) (count_in (row_at (primitive t bs non_nullable) i)) (are_counts.counts i inside) in
+    let here : get_or (numbers t bs) i d ≡ pos (count_in (row_at (primitive t bs non_nullable) i)) = get_or_default (numbers t bs) i d (pos 0) inside ∙ number in
+    subst (λ (z : ℤ). pos 0 ≤ℤ z) (sym here) (omega (arith, ints))
+
+count_of-whole : (z : ℤ) → count_of z ≡ count_in (whole_row z)
+count_of-whole (pos n) = refl
+count_of-whole (negsuc n) = refl
+
+-- each is read as the count of its row
+pub number_count : (t : PType) (bs : List ℕ) (i : ℕ) → i < length (numbers t bs) → get_or (counts_of t bs) i 0 ≡ count_in (row_at (primitive t bs non_nullable) i)
+number_count t bs i inside = get_or-counts_of t bs i inside ∙ count_of-whole (number_nth (numbers t bs) i)
 
 -- and are read as their counts
 pub number_bytes_read : (a : Tree) (t : PType) (bs : List ℕ) (v : Valid) → a ≡ primitive t bs v → WellFormed (primitive t bs v) → IsCounts a → numbers t bs ≡ map pos (counts_in a)

@@ -20,7 +20,7 @@ use Rattle.vx_lists.specs.ListViews.CountBytes.{count_of, counts_of, numbers_bef
 pub length-counts_of : (t : PType) (bs : List ℕ) → length (counts_of t bs) ≡ length (numbers t bs)
 length-counts_of t bs = length-map (numbers t bs) count_of
 
-get_or-counts_of : (t : PType) (bs : List ℕ) (i : ℕ) → i < length (numbers t bs) → get_or (counts_of t bs) i 0 ≡ count_of (get_or (numbers t bs) i (pos 0))
+pub get_or-counts_of : (t : PType) (bs : List ℕ) (i : ℕ) → i < length (numbers t bs) → get_or (counts_of t bs) i 0 ≡ count_of (get_or (numbers t bs) i (pos 0))
 get_or-counts_of t bs i inside = get_or-map count_of (numbers t bs) i (pos 0) 0 inside
 
 -- a number that is read is not negative

@@ -1,12 +1,16 @@
 -- Elements that the lists of a list view mark, and the bounds of lists that are met one after another.
-use Rattle.std.proofs.Common.{◌≡◌, ℕ, zero, suc, ◌+◌, ◌<◌, ◌≤◌, Bool, true, List, length, get_or, min, max, refl, sym, ◌∙◌, ap, subst, inl, inr, add-one, arith}
+use Rattle.std.proofs.Common.{◌≡◌, ℕ, zero, suc, ◌+◌, ◌^◌, ◌<◌, ◌≤◌, Bool, true, List, length, get_or, min, max, refl, sym, ◌∙◌, ap, subst, inl, inr, add-one, arith}
 use Rattle.std.proofs.lemmas.Bool.{cases_lt}
+use Rattle.vx_base.specs.Integers.{numbers}
 use Rattle.vx_base.specs.Rows.{count_in}
-use Rattle.vx_tree.specs.Tree.{Tree, list_view, Valid}
+use Rattle.vx_base.specs.declared.ptypes.PType.{PType}
+use Rattle.vx_tree.specs.Tree.{Tree, list_view, primitive, non_nullable, Valid}
 use Rattle.vx_tree.specs.Meaning.{tree_len, row_at}
 use Rattle.vx_tree.specs.Formed.{IsConsecutive, WellFormed}
+use Rattle.vx_lists.specs.ListViews.CountBytes.{counts_of}
 use Rattle.vx_lists.specs.ListViews.References.{LiesIn, AreMarked, MarksReferenced, AreBounds, BoundReferenced}
 use Rattle.vx_lists.specs.ListViews.{elements_of, counts_in}
+use Rattle.vx_lists.proofs.ListViews.CountArrays.{number_count}
 use Rattle.vx_lists.proofs.ListViews.ViewLayouts.{length-counts_in, get_or-counts_in}
 
 -- ---- marks
@@ -62,6 +66,40 @@ AreBounds-consecutive starts ends (suc n) ordered follows =
     let here : starts n ≤ ends n = ordered n in
     let last : starts (suc n) ≤ ends (suc n) = ordered (suc n) in
     AreBounds-more starts ends (suc n) (starts 0) (ends n) (subst (λ m. AreBounds starts ends m (starts 0) (ends n)) (add-one n) before) (starts 0) (ends (suc n)) (omega arith) (omega arith)
+
+-- bounds follow starts and ends alone
+AreBounds-same : (starts ends starts' ends' : ℕ → ℕ) (n least greatest : ℕ) → ((i : ℕ) → i < n → starts i ≡ starts' i) → ((i : ℕ) → i < n → ends i ≡ ends' i) → AreBounds starts ends n least greatest → AreBounds starts' ends' n least greatest
+AreBounds-same starts ends starts' ends' n least greatest same_starts same_ends bounds = record {
+  below = λ i inside. subst (λ a. least ≤ a) (same_starts i inside) (bounds.below i inside);
+  least_is = let first = bounds.least_is in (first.0, first.1, sym (same_starts first.0 first.1) ∙ first.2);
+  above = λ i inside. subst (λ b. b ≤ greatest) (same_ends i inside) (bounds.above i inside);
+  greatest_is = let last = bounds.greatest_is in (last.0, last.1, sym (same_ends last.0 last.1) ∙ last.2);
+}
+
+-- ---- of offsets and sizes that lie as bytes of numbers
+
+module _ (o s : Tree) (offset_type size_type : PType) (offsets sizes : List ℕ) (o_is : o ≡ primitive offset_type offsets non_nullable) (s_is : s ≡ primitive size_type sizes non_nullable) (same_len : tree_len s ≡ tree_len o) where
+  numbers_len : length (numbers offset_type offsets) ≡ tree_len o
+  numbers_len = sym (ap tree_len o_is)
+
+  pub numbers_same_len : length (numbers size_type sizes) ≡ length (numbers offset_type offsets)
+  numbers_same_len = sym (ap tree_len s_is) ∙ same_len ∙ ap tree_len o_is
+
+  start_read : (i : ℕ) → i < length (numbers offset_type offsets) → get_or (counts_of offset_type offsets) i 0 ≡ count_in (row_at o i)
+  start_read i inside = number_count offset_type offsets i inside ∙ sym (ap (λ t. count_in (row_at t i)) o_is)
+
+  size_read : (i : ℕ) → i < length (numbers offset_type offsets) → get_or (counts_of size_type sizes) i 0 ≡ count_in (row_at s i)
+  size_read i inside = number_count size_type sizes i (omega (arith, numbers_same_len)) ∙ sym (ap (λ t. count_in (row_at t i)) s_is)
+
+  pub numbers_ends_fit : ((i : ℕ) → i < tree_len o → count_in (row_at o i) + count_in (row_at s i) < 2 ^ 64) → (i : ℕ) → i < length (numbers offset_type offsets) → get_or (counts_of offset_type offsets) i 0 + get_or (counts_of size_type sizes) i 0 < 2 ^ 64
+  numbers_ends_fit fit i inside = let here : count_in (row_at o i) + count_in (row_at s i) < 2 ^ 64 = fit i (omega (arith, numbers_len)) in omega (arith, start_read i inside, size_read i inside)
+
+  pub bounds_of_numbers : (least greatest : ℕ) → AreBounds (λ i. get_or (counts_of offset_type offsets) i 0) (λ i. get_or (counts_of offset_type offsets) i 0 + get_or (counts_of size_type sizes) i 0) (length (numbers offset_type offsets)) least greatest
+      → AreBounds (λ i. count_in (row_at o i)) (λ i. count_in (row_at o i) + count_in (row_at s i)) (tree_len o) least greatest
+  bounds_of_numbers least greatest bounds =
+      let at_rows = AreBounds-same (λ i. get_or (counts_of offset_type offsets) i 0) (λ i. get_or (counts_of offset_type offsets) i 0 + get_or (counts_of size_type sizes) i 0) (λ i. count_in (row_at o i)) (λ i. count_in (row_at o i) + count_in (row_at s i)) (length (numbers offset_type offsets)) least greatest
+      start_read (λ i inside. omega (arith, start_read i inside, size_read i inside)) bounds in
+      subst (λ n. AreBounds (λ i. count_in (row_at o i)) (λ i. count_in (row_at o i) + count_in (row_at s i)) n least greatest) numbers_len at_rows
 
 -- ---- of a list view of these parts
 

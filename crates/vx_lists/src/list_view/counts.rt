@@ -1,20 +1,20 @@
 // Arrays of counts, as offsets and sizes are: read one at a time, as bytes of their type, and made.
 
-ghost use Rattle.std.specs.Prelude.{◌≡◌, ◌<◌, pos, true, IfOk, IfSome, IsTrue};
+ghost use Rattle.std.specs.Prelude.{◌≡◌, ◌<◌, pos, true, length, slice_index, IfOk, IfSome, IsTrue};
 ghost use Rattle.std.specs.List.{All};
-ghost use Rattle.vx_base.specs.Integers.{Holds};
+ghost use Rattle.vx_base.specs.Integers.{Holds, numbers};
 ghost use Rattle.vx_base.specs.Kinds.{integer_type, is_plain_integers};
 ghost use Rattle.vx_base.specs.Refusals.{Gives};
 ghost use Rattle.vx_base.specs.Rows.{count_in};
 ghost use Rattle.vx_tree.specs.Formed.{IsCounts};
 ghost use Rattle.vx_tree.specs.Meaning.{tree_len, kind_of, row_at};
 ghost use Rattle.vx_tree.specs.Tree.{primitive, non_nullable};
-ghost use Rattle.vx_lists.specs.ListViews.CountBytes.{HoldCounts};
+ghost use Rattle.vx_lists.specs.ListViews.CountBytes.{counts_of, AreCountBytes, HoldCounts};
 ghost use Rattle.vx_lists.specs.ListViews.Faults.{AreRepeated};
 ghost use Rattle.vx_lists.specs.ListViews.{counts_in};
 
 use std::alloc::Global;
-use vx_base::{ByteBuffer, PType, VortexError, read_counts, write_counts};
+use vx_base::{ByteBuffer, NativePType, PType, VortexError, int_at, read_counts, write_counts};
 use vx_tree::{ArrayRef, Layout};
 
 // Row `i` of an array of counts.
@@ -26,6 +26,17 @@ pub(crate) fn count_at(array: &ArrayRef, i: usize) -> usize
     ensures holds { Holds (integer_type (kind_of array.now)) (pos result) }
 {
     array.int_at(i).unwrap() as usize
+}
+
+// Count `i` of these bytes.
+#[inline]
+pub(crate) fn count_of_bytes<T: NativePType>(bytes: &[u8], i: usize) -> usize
+    requires counts { AreCountBytes T.PTYPE bytes.now }
+    requires in_bounds { i < length (numbers T.PTYPE bytes.now) }
+    ensures value { result ≡ slice_index (counts_of T.PTYPE bytes.now) i }
+    ensures holds { Holds T.PTYPE (pos result) }
+{
+    int_at(bytes, T::PTYPE, i) as usize
 }
 
 // The type and the bytes of whole numbers that lie one after another; no other layout has them.

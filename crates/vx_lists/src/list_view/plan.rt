@@ -12,9 +12,10 @@ ghost use Rattle.vx_lists.specs.ListViews.Layout.{starts_from, valid_sizes, vali
 ghost use Rattle.vx_lists.specs.ListViews.PlannedRuns.{AreListRuns};
 ghost use Rattle.vx_lists.specs.ListViews.{rebuilt_ptype};
 
+use crate::list_view::counts::count_of_bytes;
 use std::alloc::Global;
 use vx_base::{
-    ByteBuffer, Mask, NativePType, PType, VortexError, call_native, int_at, number_count, put_int,
+    ByteBuffer, Mask, NativePType, PType, VortexError, call_native, number_count, put_int,
 };
 
 /// The offsets of a list view, as bytes of their type, the sizes of its valid rows, 0 at null rows,
@@ -38,17 +39,6 @@ pub(crate) fn rebuilt_ptype(ptype: PType) -> PType
         PType::I8 | PType::I16 | PType::I32 => PType::I32,
         PType::I64 => PType::I64,
     }
-}
-
-// Count `i` of these bytes.
-#[inline]
-fn count_of_bytes<T: NativePType>(bytes: &[u8], i: usize) -> usize
-    requires counts { AreCountBytes T.PTYPE bytes.now }
-    requires in_bounds { i < length (numbers T.PTYPE bytes.now) }
-    ensures value { result ≡ slice_index (counts_of T.PTYPE bytes.now) i }
-    ensures holds { Holds T.PTYPE (pos result) }
-{
-    int_at(bytes, T::PTYPE, i) as usize
 }
 
 // Writes count `i` of these bytes.

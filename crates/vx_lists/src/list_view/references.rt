@@ -11,7 +11,8 @@ ghost use Rattle.vx_lists.specs.ListViews.Faults.{AreRepeated};
 ghost use Rattle.vx_lists.specs.ListViews.{elements_of};
 
 use crate::list_view::array::ListViewArray;
-use crate::list_view::counts::{are_repeated, count_at, counts_of};
+use crate::list_view::counts::{are_repeated, count_at, counts_of, number_bytes};
+use crate::list_view::number_rows::bounds_of_number_rows;
 use std::alloc::Global;
 use vx_base::{BitBuffer, BitBufferMut, Mask, VortexError};
 use vx_tree::{ArrayRef, TypedArray};
@@ -175,6 +176,12 @@ fn bounds_of_lists(offsets: &ArrayRef, sizes: &ArrayRef) -> (usize, usize)
         (λ i. count_in (row_at offsets.now i) + count_in (row_at sizes.now i))
         (tree_len offsets.now) result.0 result.1 }
 {
+    if let (Some((offset_type, offsets)), Some((size_type, sizes))) = (
+        number_bytes(offsets),
+        number_bytes(sizes),
+    ) {
+        return bounds_of_number_rows(offset_type, offsets, size_type, sizes);
+    }
     let mut least = count_at(offsets, 0);
     let mut greatest = least + count_at(sizes, 0);
     for i in 1..offsets.len() {

@@ -2,8 +2,32 @@ use Rattle.std.proofs.Common.{◌≡◌, ◌+◌, min, max, ◌∙◌, ap, subst
 use Rattle.vx_base.specs.Rows.{count_in}
 use Rattle.vx_tree.specs.Meaning.{tree_len, row_at}
 use Rattle.vx_lists.specs.ListViews.References.{AreBounds}
-use Rattle.vx_lists.proofs.ListViews.ReferencedElements.{AreBounds-first, AreBounds-more}
+use Rattle.vx_tree.specs.Formed.{IsCounts}
+use Rattle.vx_lists.proofs.ListViews.CountArrays.{number_counts}
+use Rattle.vx_lists.proofs.ListViews.ReferencedElements.{AreBounds-first, AreBounds-more, numbers_same_len, numbers_ends_fit, bounds_of_numbers}
 use Rattle.vx_lists.proofs.list_view.references.bounds_of_lists.Goals as goal
+
+pub bounds_of_number_rows-requires-clause-offsets : goal.bounds_of_number_rows-requires-clause-offsets
+bounds_of_number_rows-requires-clause-offsets c = let p = c.in-Some-Some in number_counts p.offset_type p.offsets.now (subst IsCounts p.ensures c.requires.offsets)
+
+pub bounds_of_number_rows-requires-clause-sizes : goal.bounds_of_number_rows-requires-clause-sizes
+bounds_of_number_rows-requires-clause-sizes c = let p = c.in-Some-Some in number_counts p.size_type p.sizes.now (subst IsCounts p.ensures' c.requires.sizes)
+
+pub bounds_of_number_rows-requires-clause-same_len : goal.bounds_of_number_rows-requires-clause-same_len
+bounds_of_number_rows-requires-clause-same_len c =
+    let p = c.in-Some-Some in
+    numbers_same_len c.args.offsets.now c.args.sizes.now p.offset_type p.size_type p.offsets.now p.sizes.now p.ensures p.ensures' c.requires.same_len
+
+pub bounds_of_number_rows-requires-clause-ends_fit : goal.bounds_of_number_rows-requires-clause-ends_fit
+bounds_of_number_rows-requires-clause-ends_fit c =
+    let p = c.in-Some-Some in
+    numbers_ends_fit c.args.offsets.now c.args.sizes.now p.offset_type p.size_type p.offsets.now p.sizes.now p.ensures p.ensures' c.requires.same_len c.requires.ends_fit
+
+pub returns-in-Some-Some : goal.returns-in-Some-Some
+returns-in-Some-Some c =
+    let p = c.in-Some-Some in
+    let bounds = c.bounds_of_number_rows.result in
+    bounds_of_numbers c.args.offsets.now c.args.sizes.now p.offset_type p.size_type p.offsets.now p.sizes.now p.ensures p.ensures' c.requires.same_len bounds.0 bounds.1 c.bounds_of_number_rows.ensures
 
 pub loop-i-init : goal.loop-i-init
 loop-i-init c =
