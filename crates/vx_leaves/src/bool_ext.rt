@@ -130,7 +130,8 @@ fn are_all_valid(alloc: Global, validity: &Validity, len: usize) -> Result<bool,
     validity.execute_no_nulls(alloc, len)
 }
 
-// Whether the array has bits too, and both begin with a byte, so that they are joined a word at a time.
+// Whether the array has bits too, and both begin with a byte, so that they are joined a word at a
+// time.
 fn begin_bytes(bits: &BitBuffer, array: &ArrayRef) -> bool {
     match array.layout() {
         Layout::Bool { bits: valid, .. } => bits.offset() == 0 && valid.offset() == 0,

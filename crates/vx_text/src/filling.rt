@@ -39,8 +39,8 @@ impl Filling {
     }
 
     // One value more: its view holds it, or it is put into the last buffer, into another one where
-    // that has no room. Always inlined, with the two calls that it makes: a call for each item would
-    // cost more than the work on a short one.
+    // that has no room. Always inlined, with the two calls that it makes: a call for each item
+    // would cost more than the work on a short one.
     #[inline(always)]
     pub(crate) fn push(&mut self, alloc: Global, value: &[u8]) -> Result<(), VortexError>
         requires { length value.now ≤ MAX_BUFFER_LEN }
