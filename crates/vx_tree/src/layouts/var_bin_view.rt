@@ -1,6 +1,6 @@
 // Texts and byte lists, each by its view.
 
-ghost use Rattle.std.specs.Prelude.{◌≡◌, ◌<◌, ◌≤◌, ◌+◌, ◌-◌, ◌^◌, ◌++◌, ℕ, true, false, [], length, map, slice_index_or, Some};
+ghost use Rattle.std.specs.Prelude.{◌≡◌, ◌<◌, ◌≤◌, ◌+◌, ◌-◌, ◌^◌, ◌++◌, ℕ, true, false, [], length, map, slice_index, slice_index_or, Some};
 ghost use Rattle.std.specs.Prelude.{MatchOption, IfOk, replicate, if◌then◌else◌};
 ghost use Rattle.std.specs.List.{All, range_with_len};
 ghost use Rattle.vx_base.specs.Refusals.{Gives, Refuses, Tests};
@@ -482,36 +482,52 @@ fn joined_views(
         let Layout::VarBinView { views, buffers, .. } = array.layout() else {
             unreachable!();
         };
-        add_views(views.as_slice(), base, &mut joined)?;
+        add_views(views.as_slice(), &[base, 0], &mut joined)?;
         base += buffers.len();
     }
     Buffer::from_vec(alloc, joined)
 }
 
-// The views, their buffers numbered further by `base`, are added to these.
+// The views are added to these, their buffers numbered further by the first of two steps: the
+// second is that of views which hold their value, 0. Not inlined, so that a step is looked up where
+// both lie: a choice between a number and 0 is compiled to a branch, which a processor guesses wrong
+// where short and long values stand by turns.
+#[inline(never)]
 fn add_views(
     views: &[BinaryView],
-    base: usize,
+    steps: &[usize; 2],
     out: &mut Vec<BinaryView>,
 ) -> Result<(), VortexError>
-    requires { All (λ view. MAX_INLINED_SIZE < view_size view → base + view_block view < 2 ^ 32) views.now }
-    ensures { Gives result (λ _. out.new.items ≡ out.old.items ++ map (shifted_view base) views.now) }
+    requires held { slice_index steps.now 1 ≡ 0 }
+    requires few { All (λ view. MAX_INLINED_SIZE < view_size view → slice_index steps.now 0 + view_block view < 2 ^ 32) views.now }
+    ensures { Gives result (λ _. out.new.items ≡ out.old.items ++ map (shifted_view (slice_index steps.now 0)) views.now) }
 {
     out.reserve(views.len())?;
     for view in views {
-        out.push_reserved(shifted(view, base));
+        out.push_reserved(shifted(view, steps));
     }
     Ok(())
 }
 
-// The view, its buffer numbered further by `base` where it refers to one: the number of its buffer
-// is bits 64 to 95 of its bytes as one number, so that views of both kinds go the same way.
-fn shifted(view: &BinaryView, base: usize) -> BinaryView
-    requires { MAX_INLINED_SIZE < view_size view.now → base + view_block view.now < 2 ^ 32 }
-    ensures { result ≡ shifted_view base view.now }
+// The view, its buffer numbered further by the first step where it refers to one: the number of its
+// buffer is bits 64 to 95 of its bytes as one number, so that views of both kinds go the same way.
+#[inline]
+fn shifted(view: &BinaryView, steps: &[usize; 2]) -> BinaryView
+    requires held { slice_index steps.now 1 ≡ 0 }
+    requires few { MAX_INLINED_SIZE < view_size view.now → slice_index steps.now 0 + view_block view.now < 2 ^ 32 }
+    ensures { result ≡ shifted_view (slice_index steps.now 0) view.now }
 {
-    let further = if view.is_inlined() { 0 } else { base };
+    let further = step_of(view, steps);
     BinaryView::from(view.as_u128() + ((further as u128) << 64))
+}
+
+// The second step where the view holds its value, and else the first.
+#[inline]
+fn step_of(view: &BinaryView, steps: &[usize; 2]) -> usize
+    ensures held { view_size view.now ≤ MAX_INLINED_SIZE → result ≡ slice_index steps.now 1 }
+    ensures refers { MAX_INLINED_SIZE < view_size view.now → result ≡ slice_index steps.now 0 }
+{
+    steps[usize::from(view.is_inlined())]
 }
 
 // Each view has 16 bytes, and each buffer has bytes. It does nothing.

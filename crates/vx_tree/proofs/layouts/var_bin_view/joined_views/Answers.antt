@@ -5,8 +5,8 @@ use Rattle.vx_tree.proofs.JoinedViews.{counts-step, views-more, named-short}
 use Rattle.std.proofs.lemmas.Grind.{common_steps}
 use Rattle.vx_tree.proofs.layouts.var_bin_view.joined_views.Goals as goal
 
-pub add_views-requires : goal.add_views-requires
-add_views-requires c =
+pub add_views-requires-clause-few : goal.add_views-requires-clause-few
+add_views-requires-clause-few c =
     let ts = c.args.arrays.now in
     let i = c.loop-array.array-index in
     let t = c.array-item.result in
