@@ -14,7 +14,7 @@ ghost use Rattle.vx_tree.specs.Validities.{pair_of, both_pairs, both_states, and
 use crate::array::{ArrayRef, Validity};
 use crate::validity::{constant_truth, told_by};
 use std::alloc::Global;
-use vx_base::VortexError;
+use vx_base::{BitBuffer, BitBufferMut, VortexError};
 
 impl Validity {
     /// Valid where both are, nullable where either is: `NonNullable` of two of them, `AllInvalid`
@@ -73,8 +73,42 @@ fn arrays_and(alloc: Global, array: &ArrayRef, other: &ArrayRef) -> Result<Valid
     if found != expected {
         return Err(VortexError::LengthMismatch { expected, found });
     }
-    let validity = plain_and(alloc, array, other)?;
+    let validity = cleared_and(alloc, array, other)?;
     Ok(validity)
+}
+
+// The same of two arrays of plain booleans that are as long, by their bits, with no bit set after
+// the last row.
+fn cleared_and(alloc: Global, array: &ArrayRef, other: &ArrayRef) -> Result<Validity, VortexError>
+    requires mine { kind_of array.now ≡ booleans false }
+    requires theirs { kind_of other.now ≡ booleans false }
+    requires same_len { tree_len other.now ≡ tree_len array.now }
+    ensures { Gives result (λ w. IsValidNulled (by_array array.now) (by_array other.now) (tree_len array.now) (valid_of w)) }
+{
+    if array.is_repeated() {
+        return repeated_and(alloc, array.truth_at(0), other);
+    }
+    if other.is_repeated() {
+        return repeated_and(alloc, other.truth_at(0), array);
+    }
+    let mine = array.plain_bits(alloc)?;
+    let theirs = other.plain_bits(alloc)?;
+    let both = mine.and(alloc, &theirs)?;
+    told_by(alloc, cleared(alloc, &both)?)
+}
+
+// The booleans in bits of their own, with none set after the last.
+fn cleared(alloc: Global, bits: &BitBuffer) -> Result<BitBuffer, VortexError>
+    ensures { Gives result (λ b. b.bits ≡ bits.now.bits) }
+{
+    let len = bits.len();
+    let whole = len - len % 8;
+    let mut copy = BitBufferMut::with_capacity(alloc, len)?;
+    copy.append_slice(bits, 0, whole)?;
+    for i in whole..len {
+        copy.append(bits.value(i))?;
+    }
+    copy.freeze()
 }
 
 // The same of two arrays of plain booleans that are as long, by their bits.

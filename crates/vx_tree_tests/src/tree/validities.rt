@@ -1,16 +1,16 @@
 // Validities, on values worked out by hand.
 
-ghost use Rattle.std.specs.Prelude.{◌≡◌, IfOk};
+ghost use Rattle.std.specs.Prelude.{◌≡◌, ◌≤◌, IfOk};
 ghost use Rattle.vx_tree.specs.Parts.{valid_of};
 ghost use Rattle.vx_tree.specs.Tree.{bools, by_array, non_nullable};
 
 use super::{booleans, numbers};
 use std::alloc::Global;
 use std::process::Abort;
-use vx_base::{BitBuffer, Mask, Nullability, PType, Scalar, VortexError};
+use vx_base::{BitBuffer, ByteBuffer, Mask, Nullability, PType, Scalar, VortexError};
 use vx_tree::{
-    ArrayRef, Validity, and_associates, and_commutes, and_has_a_unit, and_repeats,
-    trivial_casts_are_casts,
+    ArrayRef, IntoArray, Layout, Validity, and_associates, and_commutes, and_has_a_unit,
+    and_repeats, trivial_casts_are_casts,
 };
 
 // ---- validities and indices
@@ -264,6 +264,45 @@ fn expect_both(
     want: &[bool],
 ) -> Result<(), VortexError> {
     expect_valid(rt, alloc, &first.and(alloc, second)?, want)
+}
+
+// Valid where the bits of a byte are set, from bit `offset` on, for three rows.
+fn three_of(alloc: Global, byte: u8, offset: usize) -> Result<Validity, VortexError>
+    requires { offset ≤ 5 }
+{
+    let bytes = ByteBuffer::copy_from(alloc, &[byte])?;
+    let bits = BitBuffer::new_with_offset(alloc, bytes, 3, offset)?;
+    Ok(Validity::Array(bits.into_array(alloc)?))
+}
+
+// The last byte of the bits that tell which rows are valid, where an array does.
+fn last_byte(alloc: Global, validity: &Validity) -> Result<Option<u8>, VortexError> {
+    let Validity::Array(array) = validity else {
+        return Ok(None);
+    };
+    let Layout::Bool { bits, .. } = array.layout() else {
+        return Ok(None);
+    };
+    let (_, _, bytes) = bits.try_clone(alloc)?.into_inner();
+    Ok(bytes.as_slice().last().copied())
+}
+
+#[test]
+fn bits_past_the_last_row_are_cleared(rt: HostRuntime) {
+    let alloc = rt.alloc();
+    let first = three_of(alloc, 0xff, 0).expect(&rt, "made");
+    let second = three_of(alloc, 0xfd, 0).expect(&rt, "made");
+    let both = first.and(alloc, second).expect(&rt, "joined");
+    assert!(rt; last_byte(alloc, &both).expect(&rt, "copied") == Some(0x05));
+}
+
+#[test]
+fn bits_past_the_last_row_are_cleared_at_an_offset(rt: HostRuntime) {
+    let alloc = rt.alloc();
+    let first = three_of(alloc, 0xff, 2).expect(&rt, "made");
+    let second = three_of(alloc, 0xee, 1).expect(&rt, "made");
+    let both = first.and(alloc, second).expect(&rt, "joined");
+    assert!(rt; last_byte(alloc, &both).expect(&rt, "copied") == Some(0x07));
 }
 
 #[test]
