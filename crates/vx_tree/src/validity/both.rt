@@ -3,7 +3,7 @@
 ghost use Rattle.std.specs.Prelude.{◌≡◌, ℕ, false, IfOk, IfSome};
 ghost use Rattle.vx_base.specs.Kinds.{booleans};
 ghost use Rattle.vx_base.specs.Refusals.{Gives, Refuses};
-ghost use Rattle.vx_tree.specs.Tree.{by_array};
+ghost use Rattle.vx_tree.specs.Tree.{bools, by_array, non_nullable};
 ghost use Rattle.vx_tree.specs.Shapes.{state_of};
 ghost use Rattle.vx_tree.specs.Meaning.{tree_len, kind_of};
 ghost use Rattle.vx_tree.specs.Formed.{IsLenOf};
@@ -15,6 +15,13 @@ use crate::array::{ArrayRef, Validity};
 use crate::validity::{constant_truth, told_by};
 use std::alloc::Global;
 use vx_base::{BitBuffer, BitBufferMut, VortexError};
+
+// What becomes of the bits after the last row, where two arrays are joined by their bits.
+#[derive(Clone, Copy)]
+enum LastByte {
+    Kept,
+    Cleared,
+}
 
 impl Validity {
     /// Valid where both are, nullable where either is: `NonNullable` of two of them, `AllInvalid`
@@ -73,49 +80,31 @@ fn arrays_and(alloc: Global, array: &ArrayRef, other: &ArrayRef) -> Result<Valid
     if found != expected {
         return Err(VortexError::LengthMismatch { expected, found });
     }
-    let validity = cleared_and(alloc, array, other)?;
+    let validity = bits_and(alloc, array, other, LastByte::Cleared)?;
     Ok(validity)
 }
 
-// The same of two arrays of plain booleans that are as long, by their bits, with no bit set after
-// the last row.
-fn cleared_and(alloc: Global, array: &ArrayRef, other: &ArrayRef) -> Result<Validity, VortexError>
+// The same of two arrays of plain booleans that are as long, by their bits, with the last byte
+// kept.
+pub(crate) fn plain_and(
+    alloc: Global,
+    array: &ArrayRef,
+    other: &ArrayRef,
+) -> Result<Validity, VortexError>
     requires mine { kind_of array.now ≡ booleans false }
     requires theirs { kind_of other.now ≡ booleans false }
     requires same_len { tree_len other.now ≡ tree_len array.now }
     ensures { Gives result (λ w. IsValidNulled (by_array array.now) (by_array other.now) (tree_len array.now) (valid_of w)) }
 {
-    if array.is_repeated() {
-        return repeated_and(alloc, array.truth_at(0), other);
-    }
-    if other.is_repeated() {
-        return repeated_and(alloc, other.truth_at(0), array);
-    }
-    let mine = array.plain_bits(alloc)?;
-    let theirs = other.plain_bits(alloc)?;
-    let both = mine.and(alloc, &theirs)?;
-    told_by(alloc, cleared(alloc, &both)?)
+    bits_and(alloc, array, other, LastByte::Kept)
 }
 
-// The booleans in bits of their own, with none set after the last.
-fn cleared(alloc: Global, bits: &BitBuffer) -> Result<BitBuffer, VortexError>
-    ensures { Gives result (λ b. b.bits ≡ bits.now.bits) }
-{
-    let len = bits.len();
-    let whole = len - len % 8;
-    let mut copy = BitBufferMut::with_capacity(alloc, len)?;
-    copy.append_slice(bits, 0, whole)?;
-    for i in whole..len {
-        copy.append(bits.value(i))?;
-    }
-    copy.freeze()
-}
-
-// The same of two arrays of plain booleans that are as long, by their bits.
-pub(crate) fn plain_and(
+// The same, with the last byte kept or cleared.
+fn bits_and(
     alloc: Global,
     array: &ArrayRef,
     other: &ArrayRef,
+    last: LastByte,
 ) -> Result<Validity, VortexError>
     requires mine { kind_of array.now ≡ booleans false }
     requires theirs { kind_of other.now ≡ booleans false }
@@ -130,7 +119,31 @@ pub(crate) fn plain_and(
     }
     let mine = array.plain_bits(alloc)?;
     let theirs = other.plain_bits(alloc)?;
-    told_by(alloc, mine.and(alloc, &theirs)?)
+    told_with(alloc, mine.and(alloc, &theirs)?, last)
+}
+
+// Valid where the bit is set, with the last byte kept or cleared.
+fn told_with(alloc: Global, bits: BitBuffer, last: LastByte) -> Result<Validity, VortexError>
+    ensures { Gives result (λ w. valid_of w ≡ by_array (bools bits.bits non_nullable)) }
+{
+    match last {
+        LastByte::Kept => told_by(alloc, bits),
+        LastByte::Cleared => told_by(alloc, cleared(alloc, &bits)?),
+    }
+}
+
+// The booleans in bits of their own, with none set after the last.
+fn cleared(alloc: Global, bits: &BitBuffer) -> Result<BitBuffer, VortexError>
+    ensures { Gives result (λ b. b.bits ≡ bits.now.bits) }
+{
+    let len = bits.len();
+    let whole = len - len % 8;
+    let mut copy = BitBufferMut::with_capacity(alloc, len)?;
+    copy.append_slice(bits, 0, whole)?;
+    for i in whole..len {
+        copy.append(bits.value(i))?;
+    }
+    copy.freeze()
 }
 
 // The same of one value for all rows: the other array, or a constant false.

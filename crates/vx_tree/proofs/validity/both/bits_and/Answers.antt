@@ -1,19 +1,19 @@
-use Rattle.std.proofs.Common.{refl, ◌∙◌}
+use Rattle.std.proofs.Common.{refl}
 use Rattle.vx_tree.specs.Tree.{by_array}
 use Rattle.vx_tree.specs.Meaning.{tree_len}
 use Rattle.vx_tree.specs.Parts.{valid_of}
 use Rattle.vx_base.proofs.Refused.{Gives-weaker}
 use Rattle.vx_tree.proofs.Nulled.{valid_both, repeated_first, repeated_second}
-use Rattle.vx_tree.proofs.validity.both.cleared_and.Goals as goal
+use Rattle.vx_tree.proofs.validity.both.bits_and.Goals as goal
 
 pub returns : goal.returns
 returns c =
     let m = c.args.array.now in
     let o = c.args.other.now in
-    Gives-weaker c.told_by.result _ _
-    (λ w e. valid_both (by_array m) (by_array o) (valid_of w) m o c.in_ok-mine.mine.bits c.in_ok-theirs.theirs.bits c.in_ok-cleared.field-0.bits (tree_len m) refl refl e c.in_ok-mine.ensures c.in_ok-theirs.ensures (c.in_ok-cleared.ensures ∙ c.in_ok-both.ensures.bits)
+    Gives-weaker c.told_with.result _ _
+    (λ w e. valid_both (by_array m) (by_array o) (valid_of w) m o c.in_ok-mine.mine.bits c.in_ok-theirs.theirs.bits c.in_ok-and.field-0.bits (tree_len m) refl refl e c.in_ok-mine.ensures c.in_ok-theirs.ensures c.in_ok-and.ensures.bits
     (record { len = refl; kind = c.requires.mine }) (record { len = c.requires.same_len; kind = c.requires.theirs }))
-    c.told_by.ensures
+    c.told_with.ensures
 
 pub returns-then-is_repeated : goal.returns-then-is_repeated
 returns-then-is_repeated c =
