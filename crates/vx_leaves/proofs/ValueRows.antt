@@ -14,6 +14,7 @@ use Rattle.vx_tree.specs.Tree.{Tree, bools, primitive, Valid, non_nullable, all_
 use Rattle.vx_tree.specs.Formed.{ValidFits}
 use Rattle.vx_tree.specs.Meaning.{is_valid_at, valid_mask}
 use Rattle.vx_tree.specs.Validities.{valid_from}
+use Rattle.vx_tree.proofs.Masks.{bits_are_truths}
 use Rattle.vx_leaves.specs.Leaves.{IsPrimitive}
 use Rattle.vx_leaves.specs.Spread.{spread, never_null, count_fault}
 
@@ -26,6 +27,12 @@ count_of t bs n e = length_numbers t bs ∙ ap (λ m. m / byte_width t) e ∙ wh
 
 pub length-valid_mask : (v : Valid) (n : ℕ) → length (valid_mask v n) ≡ n
 length-valid_mask v n = length-map-range_with_len (is_valid_at v) 0 n
+
+-- truth values that tell which rows are valid are its mask
+pub valid_mask-bools : (v : Valid) (t : Tree) (bits : List Bool) (w : Valid) (n : ℕ) → v ≡ by_array t → t ≡ bools bits w → ValidFits v n → bits ≡ valid_mask v n
+valid_mask-bools v t bits w n e same fits =
+    let h : ValidFits (by_array t) n = subst (λ u. ValidFits u n) e fits in
+    bits_are_truths t bits w same h.kind ∙ ap (valid_mask (by_array t)) h.len ∙ ap (λ u. valid_mask u n) (sym e)
 
 -- the validity that bits tell is that of as many rows
 pub ValidFits-from_bits : (bits : List Bool) (v : Valid) (n : ℕ) → v ≡ valid_from bits all_valid → length bits ≡ n → ValidFits v n

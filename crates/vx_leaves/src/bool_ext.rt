@@ -1,13 +1,11 @@
 // What an array of truth values tells of its parts, and its truth values as a mask.
 
-ghost use Rattle.std.specs.Prelude.{◌≡◌, ℕ, true, false, IfOk, MatchOption};
+ghost use Rattle.std.specs.Prelude.{◌≡◌, ℕ, true, false, IfOk, IfSome, MatchOption};
 ghost use Rattle.vx_base.specs.Bits.{both};
 ghost use Rattle.vx_base.specs.DTypes.{is_nullable};
 ghost use Rattle.vx_base.specs.Refusals.{Gives, Refuses};
 ghost use Rattle.vx_tree.specs.Formed.{ValidFits};
-ghost use Rattle.vx_base.specs.Kinds.{booleans};
-ghost use Rattle.vx_tree.specs.Meaning.{kind_of, tree_len, nullable, valid_mask};
-ghost use Rattle.vx_tree.specs.Tree.{by_array};
+ghost use Rattle.vx_tree.specs.Meaning.{tree_len, nullable, valid_mask};
 ghost use Rattle.vx_tree.specs.Parts.{valid_of};
 ghost use Rattle.vx_tree.specs.Slots.{validity_slot};
 ghost use Rattle.vx_tree.specs.Validities.{has_no_nulls};
@@ -98,13 +96,13 @@ impl BoolArrayExt for BoolArray {
 
     fn to_mask_fill_null_false(&self, alloc: Global) -> Result<Mask, VortexError> {
         let parts = self.parts();
-        match parts.validity {
-            Validity::Array(array) if begin_bytes(parts.bits, array) => {
-                let valid = valid_bits(alloc, array)?;
-                Mask::from_buffer(alloc, parts.bits.and(alloc, &valid)?)
+        match valid_bits(parts.validity) {
+            // Where both begin with a byte, they are joined a word at a time.
+            Some(valid) if valid.offset() == 0 && parts.bits.offset() == 0 => {
+                Mask::from_buffer(alloc, parts.bits.and(alloc, valid)?)
             }
-            state => {
-                let valid = valid_rows(alloc, state, parts.bits.len())?;
+            _ => {
+                let valid = valid_rows(alloc, parts.validity, parts.bits.len())?;
                 Mask::from_buffer_within(alloc, parts.bits, &valid)
             }
         }
@@ -130,28 +128,18 @@ fn are_all_valid(alloc: Global, validity: &Validity, len: usize) -> Result<bool,
     validity.execute_no_nulls(alloc, len)
 }
 
-// Whether the array has bits too, and both begin with a byte, so that they are joined a word at a
-// time.
-fn begin_bytes(bits: &BitBuffer, array: &ArrayRef) -> bool {
-    match array.layout() {
-        Layout::Bool { bits: valid, .. } => bits.offset() == 0 && valid.offset() == 0,
-        _ => false,
-    }
-}
-
-// The rows of an array of plain booleans, as bits.
-fn valid_bits(alloc: Global, array: &ArrayRef) -> Result<BitBuffer, VortexError>
-    requires { kind_of array.now ≡ booleans false }
-    ensures { Gives result (λ b. b.bits ≡ valid_mask (by_array array.now) (tree_len array.now)) }
+// Which of the rows are valid, as bits that are lent, where an array of truth values tells it.
+fn valid_bits(validity: &Validity) -> Option<&BitBuffer>
+    ensures { IfSome result (λ b. (n : ℕ) → ValidFits (valid_of validity.now) n
+        → b.now.bits ≡ valid_mask (valid_of validity.now) n) }
 {
-    let plain = Validity::Array(array.try_clone(alloc)?).execute(alloc)?;
-    let Validity::Array(truths) = &plain else {
-        unreachable!();
+    let Validity::Array(array) = validity else {
+        return None;
     };
-    let Layout::Bool { bits, .. } = truths.layout() else {
-        unreachable!();
-    };
-    bits.try_clone(alloc)
+    match array.layout() {
+        Layout::Bool { bits, .. } => Some(bits),
+        _ => None,
+    }
 }
 
 // Which of the rows are valid.
