@@ -2,6 +2,7 @@ pub mod CanonicalRows
 pub mod TidyLayouts
 pub mod MappedLayouts
 pub mod PlannedRows
+pub mod PutPositions
 pub mod PlannedNumbers
 pub mod ViewLayouts
 pub mod CountBytes

@@ -7,6 +7,7 @@ pub(crate) mod data;
 pub(crate) mod ext;
 mod number_rows;
 mod plan;
+mod positions;
 pub(crate) mod rebuild;
 mod references;
 mod trim;

@@ -8,6 +8,7 @@ use Rattle.std.proofs.lemmas.List.Elements.{All-nil, All-push}
 use Rattle.std.proofs.lemmas.List.FromFn.{length-range_with_len}
 use Rattle.std.proofs.lemmas.List.Sums.{sum_by_more, sum_by-take-le, get_or-le-sum_by}
 use Rattle.vx_base.proofs.MaskCounts.{all_true_from_count}
+use Rattle.vx_base.proofs.Runs.{range_append}
 use Rattle.vx_base.specs.Selections.{run_positions}
 use Rattle.vx_tree.specs.Runs.{IsRunWithin}
 use Rattle.vx_lists.specs.ListViews.Layout.{items_of, position_rows, joined_positions, starts_from, valid_sizes, valid_total}
@@ -61,16 +62,6 @@ next_start sizes i at inside at_is =
 
 -- ---- the positions of the elements of lists
 
-range_append : (a n m : ℕ) → range_with_len a n ++ range_with_len (a + n) m ≡ range_with_len a (n + m)
-range_append a zero m =
-    let start : a + 0 ≡ a = omega arith in
-    let count : 0 + m ≡ m = omega arith in
-    rw (start, count) refl
-range_append a (suc n) m =
-    let start : a + suc n ≡ a + 1 + n = omega arith in
-    let count : suc n + m ≡ suc (n + m) = omega arith in
-    rw (start, count) (ap (λ ks. a ∷ ks) (range_append (a + 1) n m))
-
 -- those of the valid rows alone
 pub joined_positions-valid : (offsets sizes : List ℕ) (mask : List Bool) → flat_map items_of (position_rows offsets sizes mask) ≡ joined_positions offsets (valid_sizes sizes mask)
 joined_positions-valid [] sizes mask = refl
@@ -96,7 +87,7 @@ joined_positions-next (offset ∷ offsets) (size ∷ sizes) (suc i) same_len ins
     ap (λ rest. range_with_len offset size ++ rest) (joined_positions-next offsets sizes i (omega arith) (omega arith))
     ∙ sym (append_assoc (range_with_len offset size) (joined_positions (take i offsets) (take i sizes)) (range_with_len (get_or offsets i 0) (get_or sizes i 0)))
 
-joined_positions-more : (offsets sizes : List ℕ) (i : ℕ) → length sizes ≡ length offsets → i < length offsets
+pub joined_positions-more : (offsets sizes : List ℕ) (i : ℕ) → length sizes ≡ length offsets → i < length offsets
     → joined_positions (take (i + 1) offsets) (take (i + 1) sizes) ≡ joined_positions (take i offsets) (take i sizes) ++ range_with_len (get_or offsets i 0) (get_or sizes i 0)
 joined_positions-more offsets sizes i same_len inside = rw add-one (joined_positions-next offsets sizes i same_len inside)
 
@@ -172,15 +163,3 @@ AreRuns-all offsets sizes rows runs runs' start end same_len all so_far pushed =
       ∙ ap (λ os. joined_positions os (take rows sizes)) (take_all rows offsets all) ∙ ap (joined_positions offsets) (take_all rows sizes (omega arith));
   within = λ n ends. runs_within runs runs' start end n pushed so_far.forward (so_far.within n ends);
 }
-
--- ---- the positions of a run, one by one
-
-pub one_position_more : (before now more : List ℕ) (start k : ℕ) → start ≤ k → now ≡ before ++ range_with_len start (k - start) → more ≡ now ++ k ∷ [] → more ≡ before ++ range_with_len start (k + 1 - start)
-one_position_more before now more start k low so_far pushed =
-    let place : start + (k - start) ≡ k = omega arith in
-    let count : k + 1 - start ≡ (k - start) + 1 = omega arith in
-    let last : range_with_len start (k - start) ++ k ∷ [] ≡ range_with_len start (k - start + 1) = ap (λ n. range_with_len start (k - start) ++ n ∷ []) (sym place) ∙ range_append start (k - start) 1 in
-    pushed ∙ ap (λ ps. ps ++ k ∷ []) so_far ∙ append_assoc before (range_with_len start (k - start)) (k ∷ []) ∙ ap (λ ps. before ++ ps) (last ∙ ap (range_with_len start) (sym count))
-
-pub run_size : (start end k : ℕ) → start ≤ k → (start ≤ end → k ≤ end) → end ≤ k → (end ≤ start → k ≡ start) → k - start ≡ end - start
-run_size start end k low high over empty = grind arith

@@ -18,7 +18,7 @@ use Rattle.vx_tree.specs.Operations.{IsSelected, AreBelow}
 use Rattle.vx_tree.specs.Runs.{runs_len, runs_fault}
 use Rattle.vx_lists.specs.ListViews.Layout.{valid_sizes, valid_total, position_rows, joined_positions, starts_from, IsPlan}
 use Rattle.vx_lists.specs.ListViews.CountBytes.{counts_of, AreCountBytes, HoldCounts}
-use Rattle.vx_lists.specs.ListViews.PlannedRuns.{EndWithin}
+use Rattle.vx_lists.specs.ListViews.PlannedRuns.{EndWithin, AreListBytes}
 use Rattle.vx_lists.specs.ListViews.{counts_in, elements_of, offsets_of, sizes_of, rebuilt_ptype, total_of, valid_sizes_of, valid_positions_of, IsCountArray, IsRebuildPlan, IsRebuilt}
 use Rattle.vx_lists.specs.ListViews.Faults.{total_fault, either_total_fault, rebuilt_total_fault, rebuild_overflow}
 use Rattle.vx_lists.proofs.ListViews.CountBytes.{counts_of-held, held_are_counts, length-held, length-counts_of}
@@ -144,13 +144,13 @@ module _ (t e o s : Tree) (v : Valid) (f : Bool) (same : t ≡ list_view e o s v
     offsets_hold : HoldCounts offset_type offsets (counts_in o)
     offsets_hold = subst (λ x. HoldCounts offset_type offsets (counts_in (offsets_of x))) same plan.offsets_are
 
-    pub planned_offsets_read : AreCountBytes offset_type offsets
+    planned_offsets_read : AreCountBytes offset_type offsets
     planned_offsets_read = held_are_counts offset_type offsets (counts_in o) offsets_hold.are
 
     pub planned_sizes_read : AreCountBytes size_type sizes
     planned_sizes_read = held_are_counts size_type sizes kept sizes_hold.are
 
-    pub planned_same_len : length (numbers size_type sizes) ≡ length (numbers offset_type offsets)
+    planned_same_len : length (numbers size_type sizes) ≡ length (numbers offset_type offsets)
     planned_same_len = length-held size_type sizes kept sizes_hold.are ∙ kept_len ∙ sym (length-held offset_type offsets (counts_in o) offsets_hold.are)
 
     pub planned_ends_within : EndWithin (counts_of offset_type offsets) (counts_of size_type sizes) (tree_len e)
@@ -162,23 +162,33 @@ module _ (t e o s : Tree) (v : Valid) (f : Bool) (same : t ≡ list_view e o s v
         let size : get_or (counts_of size_type sizes) i 0 ≡ cond (get_or mask i false) (get_or (counts_in s) i 0) 0 = ap (λ ns. get_or ns i 0) (counts_of-held size_type sizes kept sizes_hold.are) ∙ get_or-valid_sizes (counts_in s) mask i in
         omega (arith, offset, size, size_kept (get_or mask i false) (get_or (counts_in s) i 0), well.within i inside_offsets, length-rows e)
 
-    pub planned_ends_fit : tree_len e < 2 ^ 64 → (i : ℕ) → i < length (numbers offset_type offsets) → get_or (counts_of offset_type offsets) i 0 + get_or (counts_of size_type sizes) i 0 < 2 ^ 64
+    planned_ends_fit : tree_len e < 2 ^ 64 → (i : ℕ) → i < length (numbers offset_type offsets) → get_or (counts_of offset_type offsets) i 0 + get_or (counts_of size_type sizes) i 0 < 2 ^ 64
     planned_ends_fit short i inside = omega (arith, planned_ends_within i (omega (arith, length-counts_of offset_type offsets)), short)
+
+    pub planned_list_bytes : tree_len e < 2 ^ 64 → AreListBytes offset_type offsets size_type sizes
+    planned_list_bytes short = record {
+      offsets_are = planned_offsets_read;
+      sizes_are = planned_sizes_read;
+      same_len = planned_same_len;
+      ends_fit = planned_ends_fit short;
+    }
+
+    planned_total : sum (counts_of size_type sizes) ≡ total_of t
+    planned_total = ap sum (counts_of-held size_type sizes kept sizes_hold.are) ∙ sym (ap total_of same)
+
+    pub planned_sum : count ≡ sum (counts_of size_type sizes)
+    planned_sum = plan.count_is ∙ sym planned_total
 
     pub planned_positions : joined_positions (counts_of offset_type offsets) (counts_of size_type sizes) ≡ valid_positions_of t
     planned_positions =
         ap (λ ns. joined_positions ns (counts_of size_type sizes)) (counts_of-held offset_type offsets (counts_in o) offsets_hold.are)
         ∙ ap (joined_positions (counts_in o)) (counts_of-held size_type sizes kept sizes_hold.are) ∙ sym positions_are
 
-    pub planned_count : count ≡ length (valid_positions_of t)
-    planned_count = plan.count_is ∙ sym positions_count
-
     -- the new offset type holds the end of the last list
     pub planned_starts_held : rebuilt_total_fault t ≡ None → Holds (rebuilt_ptype offset_type) (pos (sum (counts_of size_type sizes)))
     planned_starts_held none =
-        let total : sum (counts_of size_type sizes) ≡ total_of t = ap sum (counts_of-held size_type sizes kept sizes_hold.are) ∙ sym (ap total_of same) in
         let held : Holds (rebuilt_ptype (integer_type (kind_of (offsets_of t)))) (pos (total_of t)) = (total_held (rebuilt_ptype (integer_type (kind_of (offsets_of t)))) (rebuilt_ptype (integer_type (kind_of (sizes_of t)))) (total_of t) none).0 in
-        subst (λ n. Holds (rebuilt_ptype offset_type) (pos n)) (sym total) (subst (λ p. Holds (rebuilt_ptype p) (pos (total_of t))) (sym plan.offset_type_is) held)
+        subst (λ n. Holds (rebuilt_ptype offset_type) (pos n)) (sym planned_total) (subst (λ p. Holds (rebuilt_ptype p) (pos (total_of t))) (sym plan.offset_type_is) held)
 
     -- ---- the list view that it makes
 

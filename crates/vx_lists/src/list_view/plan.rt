@@ -9,7 +9,7 @@ ghost use Rattle.vx_base.specs.Refusals.{Gives};
 ghost use Rattle.vx_base.specs.Selections.{run_positions};
 ghost use Rattle.vx_lists.specs.ListViews.CountBytes.{counts_of, numbers_before, AreCountBytes, HoldCounts};
 ghost use Rattle.vx_lists.specs.ListViews.Layout.{starts_from, valid_sizes, valid_total};
-ghost use Rattle.vx_lists.specs.ListViews.PlannedRuns.{AreListRuns};
+ghost use Rattle.vx_lists.specs.ListViews.PlannedRuns.{AreListBytes, AreListRuns};
 ghost use Rattle.vx_lists.specs.ListViews.{rebuilt_ptype};
 
 use crate::list_view::counts::count_of_bytes;
@@ -259,13 +259,7 @@ pub(crate) fn element_runs(
     size_type: PType,
     sizes: &[u8],
 ) -> Result<Vec<(usize, usize)>, VortexError>
-    requires offsets { AreCountBytes offset_type offsets.now }
-    requires sizes { AreCountBytes size_type sizes.now }
-    requires same_len { length (numbers size_type sizes.now)
-        ≡ length (numbers offset_type offsets.now) }
-    requires ends_fit { (i : ℕ) → i < length (numbers offset_type offsets.now) →
-        slice_index (counts_of offset_type offsets.now) i
-        + slice_index (counts_of size_type sizes.now) i < 2 ^ 64 }
+    requires { AreListBytes offset_type offsets.now size_type sizes.now }
     ensures { Gives result (λ runs. AreListRuns
         (counts_of offset_type offsets.now) (counts_of size_type sizes.now) runs.items) }
 {
@@ -278,13 +272,7 @@ fn runs_from<O: NativePType>(
     size_type: PType,
     sizes: &[u8],
 ) -> Result<Vec<(usize, usize)>, VortexError>
-    requires offsets { AreCountBytes O.PTYPE offsets.now }
-    requires sizes { AreCountBytes size_type sizes.now }
-    requires same_len { length (numbers size_type sizes.now)
-        ≡ length (numbers O.PTYPE offsets.now) }
-    requires ends_fit { (i : ℕ) → i < length (numbers O.PTYPE offsets.now) →
-        slice_index (counts_of O.PTYPE offsets.now) i
-        + slice_index (counts_of size_type sizes.now) i < 2 ^ 64 }
+    requires { AreListBytes O.PTYPE offsets.now size_type sizes.now }
     ensures { Gives result (λ runs. AreListRuns
         (counts_of O.PTYPE offsets.now) (counts_of size_type sizes.now) runs.items) }
 {
@@ -297,12 +285,7 @@ fn typed_runs<O: NativePType, S: NativePType>(
     offsets: &[u8],
     sizes: &[u8],
 ) -> Result<Vec<(usize, usize)>, VortexError>
-    requires offsets { AreCountBytes O.PTYPE offsets.now }
-    requires sizes { AreCountBytes S.PTYPE sizes.now }
-    requires same_len { length (numbers S.PTYPE sizes.now) ≡ length (numbers O.PTYPE offsets.now) }
-    requires ends_fit { (i : ℕ) → i < length (numbers O.PTYPE offsets.now) →
-        slice_index (counts_of O.PTYPE offsets.now) i
-        + slice_index (counts_of S.PTYPE sizes.now) i < 2 ^ 64 }
+    requires { AreListBytes O.PTYPE offsets.now S.PTYPE sizes.now }
     ensures { Gives result (λ runs. AreListRuns
         (counts_of O.PTYPE offsets.now) (counts_of S.PTYPE sizes.now) runs.items) }
 {
@@ -324,30 +307,4 @@ fn typed_runs<O: NativePType, S: NativePType>(
     }
     runs.push((start, end))?;
     Ok(runs)
-}
-
-// The positions of these runs.
-pub(crate) fn positions_of_runs(
-    alloc: Global,
-    runs: &[(usize, usize)],
-    count: usize,
-) -> Result<Vec<usize>, VortexError>
-    ensures { Gives result (λ positions. positions.items ≡ flat_map run_positions runs.now) }
-{
-    let mut positions = Vec::with_capacity(alloc, count)?;
-    for run in runs {
-        let (start, end) = *run;
-        push_run(&mut positions, start, end)?;
-    }
-    Ok(positions)
-}
-
-fn push_run(positions: &mut Vec<usize>, start: usize, end: usize) -> Result<(), VortexError>
-    ensures { Gives result (λ _.
-        positions.new.items ≡ positions.old.items ++ run_positions (start, end)) }
-{
-    for position in start..end {
-        positions.push(position)?;
-    }
-    Ok(())
 }

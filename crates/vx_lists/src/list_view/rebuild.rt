@@ -10,15 +10,15 @@ ghost use Rattle.vx_lists.specs.ListViews.Faults.{rebuilt_total_fault, rebuild_o
 ghost use Rattle.vx_lists.specs.ListViews.References.{IsTrimmedToBounds};
 ghost use Rattle.vx_lists.specs.ListViews.{elements_of, flag_of, with_flag, valid_positions_of, IsRebuildPlan};
 ghost use Rattle.vx_lists.specs.ListViews.{IsRebuilt};
-ghost use Rattle.vx_lists.specs.ListViews.PlannedRuns.{ArePlannedRuns};
+ghost use Rattle.vx_lists.specs.ListViews.PlannedRuns.{ArePlannedRuns, ArePlannedPositions};
 
 use crate::list_view::array::ListViewArray;
 use crate::list_view::checks::check_total;
 use crate::list_view::counts::count_bytes;
 use crate::list_view::plan::{
-    RebuildPlan, element_runs, list_starts, positions_of_runs, rebuilt_ptype, valid_sizes,
-    valid_total,
+    RebuildPlan, element_runs, list_starts, rebuilt_ptype, valid_sizes, valid_total,
 };
+use crate::list_view::positions::list_positions;
 use std::alloc::Global;
 use vx_base::{Selection, VortexError};
 use vx_tree::{ArrayRef, Layout, TypedArray, Validity};
@@ -72,7 +72,7 @@ impl ListViewArray {
         requires { IsRebuildPlan self.now plan.now.offset_type plan.now.offsets
             plan.now.size_type plan.now.sizes plan.now.count }
         ensures { Gives result (λ found.
-            ArePlannedRuns self.now plan.now.count found.0.now found.1.items) }
+            ArePlannedRuns self.now found.0.now found.1.items) }
     {
         let elements = self.parts().elements;
         let runs = element_runs(
@@ -83,6 +83,29 @@ impl ListViewArray {
             plan.sizes.as_slice(),
         )?;
         Ok((elements, runs))
+    }
+
+    // The elements, and the positions of those of the plan.
+    fn planned_positions(
+        &self,
+        alloc: Global,
+        plan: &RebuildPlan,
+    ) -> Result<(&ArrayRef, Vec<usize>), VortexError>
+        requires { IsRebuildPlan self.now plan.now.offset_type plan.now.offsets
+            plan.now.size_type plan.now.sizes plan.now.count }
+        ensures { Gives result (λ found.
+            ArePlannedPositions self.now found.0.now found.1.items) }
+    {
+        let elements = self.parts().elements;
+        let positions = list_positions(
+            alloc,
+            plan.offset_type,
+            plan.offsets.as_slice(),
+            plan.size_type,
+            plan.sizes.as_slice(),
+            plan.count,
+        )?;
+        Ok((elements, positions))
     }
 
     // The elements of the plan: run by run, or by their positions.
@@ -99,11 +122,11 @@ impl ListViewArray {
             (IsSelected (elements_of self.now) (valid_positions_of self.now)) }
         ensures refuses { Refuses result (rebuild_overflow self.now) }
     {
-        let (elements, runs) = self.planned_runs(alloc, plan)?;
         if by_runs {
+            let (elements, runs) = self.planned_runs(alloc, plan)?;
             return elements.take_runs(alloc, &runs);
         }
-        let positions = positions_of_runs(alloc, &runs, plan.count)?;
+        let (elements, positions) = self.planned_positions(alloc, plan)?;
         elements.select(alloc, &Selection::at_positions(&positions))
     }
 

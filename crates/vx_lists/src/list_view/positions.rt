@@ -1,0 +1,143 @@
+// The positions of the elements of lists, one list after another. Eight are written at once, which
+// is faster than fewer, and those past the end of a list are written over by the next.
+
+ghost use Rattle.std.specs.Prelude.{ℕ, ◌≡◌, ◌+◌, ◌<◌, ◌≤◌, ◌^◌, ◌++◌, length, sum, take};
+ghost use Rattle.std.specs.List.{range_with_len};
+ghost use Rattle.vx_base.specs.Refusals.{Gives};
+ghost use Rattle.vx_lists.specs.ListViews.CountBytes.{counts_of};
+ghost use Rattle.vx_lists.specs.ListViews.Layout.{joined_positions};
+ghost use Rattle.vx_lists.specs.ListViews.PlannedRuns.{AreListBytes};
+
+use crate::list_view::counts::count_of_bytes;
+use std::alloc::Global;
+use vx_base::{NativePType, PType, VortexError, call_native, number_count};
+
+// How many positions are written at once.
+const AT_ONCE: usize = 8;
+
+// The positions of the elements of these lists, `count` in all.
+pub(crate) fn list_positions(
+    alloc: Global,
+    offset_type: PType,
+    offsets: &[u8],
+    size_type: PType,
+    sizes: &[u8],
+    count: usize,
+) -> Result<Vec<usize>, VortexError>
+    requires lists { AreListBytes offset_type offsets.now size_type sizes.now }
+    requires count { count ≡ sum (counts_of size_type sizes.now) }
+    ensures { Gives result (λ positions. positions.items
+        ≡ joined_positions (counts_of offset_type offsets.now) (counts_of size_type sizes.now)) }
+{
+    call_native!(
+        offset_type,
+        positions_from(alloc, offsets, size_type, sizes, count)
+    )
+}
+
+fn positions_from<O: NativePType>(
+    alloc: Global,
+    offsets: &[u8],
+    size_type: PType,
+    sizes: &[u8],
+    count: usize,
+) -> Result<Vec<usize>, VortexError>
+    requires lists { AreListBytes O.PTYPE offsets.now size_type sizes.now }
+    requires count { count ≡ sum (counts_of size_type sizes.now) }
+    ensures { Gives result (λ positions. positions.items
+        ≡ joined_positions (counts_of O.PTYPE offsets.now) (counts_of size_type sizes.now)) }
+{
+    call_native!(
+        size_type,
+        typed_positions::<O>(alloc, offsets, sizes, count)
+    )
+}
+
+fn typed_positions<O: NativePType, S: NativePType>(
+    alloc: Global,
+    offsets: &[u8],
+    sizes: &[u8],
+    count: usize,
+) -> Result<Vec<usize>, VortexError>
+    requires lists { AreListBytes O.PTYPE offsets.now S.PTYPE sizes.now }
+    requires count { count ≡ sum (counts_of S.PTYPE sizes.now) }
+    ensures { Gives result (λ positions. positions.items
+        ≡ joined_positions (counts_of O.PTYPE offsets.now) (counts_of S.PTYPE sizes.now)) }
+{
+    let mut positions = vec![in alloc; 0usize; count]?;
+    put_lists::<O, S>(offsets, sizes, &mut positions);
+    Ok(positions)
+}
+
+// Writes the positions of the elements of these lists. Not inlined, so that the loop stands by
+// itself, where what it writes is known to be nothing that it reads.
+#[inline(never)]
+fn put_lists<O: NativePType, S: NativePType>(offsets: &[u8], sizes: &[u8], out: &mut [usize])
+    requires lists { AreListBytes O.PTYPE offsets.now S.PTYPE sizes.now }
+    requires room { length out.old ≡ sum (counts_of S.PTYPE sizes.now) }
+    ensures { out.new
+        ≡ joined_positions (counts_of O.PTYPE offsets.now) (counts_of S.PTYPE sizes.now) }
+{
+    let mut at = 0;
+    for row in 0..number_count(offsets, O::PTYPE) {
+        let offset = count_of_bytes::<O>(offsets, row);
+        let size = count_of_bytes::<S>(sizes, row);
+        put_list(out, at, offset, size);
+        at += size;
+    }
+}
+
+// Writes `size` positions from `start` on to the places from `at` on: by eights, or one by one where
+// eight more would go past the last place.
+#[inline]
+fn put_list(out: &mut [usize], at: usize, start: usize, size: usize)
+    requires room { at + size ≤ length out.old }
+    requires end { start + size < 2 ^ 64 }
+    ensures len { length out.new ≡ length out.old }
+    ensures put { take (at + size) out.new ≡ take at out.old ++ range_with_len start size }
+{
+    if out.len() - at - size < AT_ONCE {
+        put_each(out, at, start, size);
+    } else {
+        put_eights(out, at, start, size);
+    }
+}
+
+// The same, one by one.
+fn put_each(out: &mut [usize], at: usize, start: usize, size: usize)
+    requires room { at + size ≤ length out.old }
+    requires end { start + size < 2 ^ 64 }
+    ensures len { length out.new ≡ length out.old }
+    ensures put { take (at + size) out.new ≡ take at out.old ++ range_with_len start size }
+{
+    for i in 0..size {
+        out[at + i] = start + i;
+    }
+}
+
+// The same by eights. What there is after them may change.
+#[inline]
+fn put_eights(out: &mut [usize], at: usize, start: usize, size: usize)
+    requires room { at + size + 8 ≤ length out.old }
+    requires end { start + size < 2 ^ 64 }
+    ensures len { length out.new ≡ length out.old }
+    ensures put { take (at + size) out.new ≡ take at out.old ++ range_with_len start size }
+{
+    put_eight(out, at, start);
+    for j in 1..size.div_ceil(AT_ONCE) {
+        put_eight(out, at + AT_ONCE * j, start + AT_ONCE * j);
+    }
+}
+
+// Writes eight numbers from `start` on, as many of which are positions as a list has elements.
+#[inline]
+fn put_eight(out: &mut [usize], at: usize, start: usize)
+    requires room { at + 8 ≤ length out.old }
+    ensures len { length out.new ≡ length out.old }
+    ensures put { (n : ℕ) → n ≤ 8 → start + n ≤ 2 ^ 64
+        → take (at + n) out.new ≡ take at out.old ++ range_with_len start n }
+{
+    for i in 0..AT_ONCE {
+        out[at + i] = start.wrapping_add(i);
+    }
+}
