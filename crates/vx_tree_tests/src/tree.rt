@@ -18,6 +18,7 @@ use vx_tree::{
 mod fixed_size_lists;
 mod into_array;
 mod joined_arrays;
+mod joined_bits;
 mod joined_validities;
 mod many_values;
 mod masks;
