@@ -3,6 +3,7 @@
 mod copied;
 mod flags;
 mod parts;
+mod positions;
 
 use std::alloc::Global;
 use vx_base::{DType, NativePType, Nullability, PType, Scalar, VortexError};
