@@ -1,7 +1,7 @@
 // List views and lists of one size.
 
 use crate::rows::has_rows;
-use crate::samples::{first_and_last, ints, lists_of, pairs};
+use crate::samples::{first_and_last, ints, lists_of, lists_of_texts, pairs};
 use crate::typed::{is_same, typed};
 use std::alloc::Global;
 use vx_base::VortexError;
@@ -144,6 +144,13 @@ fn rebuild_calls(alloc: Global, lists: &ListViewArray) -> Result<bool, VortexErr
 #[test]
 fn list_views_that_are_rebuilt(rt: HostRuntime) -> Result<(), End> {
     let (given, copy) = (lists(rt.alloc())?, lists(rt.alloc())?);
+    judged(rebuild_calls(rt.alloc(), &given), is_same(&given, &copy))
+}
+
+#[test]
+fn list_views_of_texts_that_are_rebuilt(rt: HostRuntime) -> Result<(), End> {
+    let given: ListViewArray = typed(lists_of_texts(rt.alloc())?)?;
+    let copy: ListViewArray = typed(lists_of_texts(rt.alloc())?)?;
     judged(rebuild_calls(rt.alloc(), &given), is_same(&given, &copy))
 }
 

@@ -96,12 +96,19 @@ pub(crate) fn records(alloc: Global) -> Result<ArrayRef, VortexError> {
     Ok(records.into_array())
 }
 
-// Records of a list view of texts.
-pub(crate) fn records_of_lists(alloc: Global) -> Result<ArrayRef, VortexError> {
+// Such lists of four texts.
+pub(crate) fn lists_of_texts(alloc: Global) -> Result<ArrayRef, VortexError> {
     let items = ["a", LONG, "", "b"];
     let items = items.iter().copied();
-    let elements = VarBinViewArray::from_iter_str(alloc, items)?.into_array();
-    let fields = vec![in alloc; ("lists", lists_of(alloc, elements)?)]?;
+    lists_of(
+        alloc,
+        VarBinViewArray::from_iter_str(alloc, items)?.into_array(),
+    )
+}
+
+// Records of a list view of texts.
+pub(crate) fn records_of_lists(alloc: Global) -> Result<ArrayRef, VortexError> {
+    let fields = vec![in alloc; ("lists", lists_of_texts(alloc)?)]?;
     Ok(StructArray::from_fields(alloc, &fields)?.into_array())
 }
 
