@@ -1,4 +1,4 @@
--- Positions that are put into a list, one more or eight more, behind those that are there.
+-- Positions that are put into a list or pushed, one more, eight more or those of a list, behind those that are there.
 use Rattle.std.proofs.Common.{◌≡◌, ℕ, ◌+◌, ◌-◌, ◌*◌, ◌<◌, ◌≤◌, ◌^◌, List, [], ◌∷◌, ◌++◌, length, take, set, get_or, min, sym, ◌∙◌, ap, inl, inr, arith}
 use Rattle.std.specs.List.{range_with_len}
 use Rattle.std.proofs.lemmas.Bool.{cases_lt}
@@ -7,13 +7,21 @@ use Rattle.vx_base.proofs.Runs.{range_append}
 use Rattle.vx_lists.specs.ListViews.Layout.{joined_positions}
 use Rattle.vx_lists.proofs.ListViews.PlannedRows.{joined_positions-more}
 
--- one more
+-- ---- one by one, or eight at once
+
 pub position_put : (xs before : List ℕ) (at i start : ℕ) → at + i < length xs → take (at + i) xs ≡ before ++ range_with_len start i
     → take (at + (i + 1)) (set xs (at + i) (start + i)) ≡ before ++ range_with_len start (i + 1)
 position_put xs before at i start inside so_far =
     let place : at + (i + 1) ≡ at + i + 1 = omega arith in
     rw place (take_more_set xs (at + i) (start + i) inside ∙ ap (λ ps. ps ++ (start + i) ∷ []) so_far
     ∙ append_assoc before (range_with_len start i) ((start + i) ∷ []) ∙ ap (λ ps. before ++ ps) (range_append start i 1))
+
+pub position_pushed : (before now more : List ℕ) (start k : ℕ) → start ≤ k → now ≡ before ++ range_with_len start (k - start) → more ≡ now ++ k ∷ [] → more ≡ before ++ range_with_len start (k + 1 - start)
+position_pushed before now more start k low so_far pushed =
+    let place : start + (k - start) ≡ k = omega arith in
+    let count : k + 1 - start ≡ (k - start) + 1 = omega arith in
+    let last : range_with_len start (k - start) ++ k ∷ [] ≡ range_with_len start (k - start + 1) = ap (λ n. range_with_len start (k - start) ++ n ∷ []) (sym place) ∙ range_append start (k - start) 1 in
+    pushed ∙ ap (λ ps. ps ++ k ∷ []) so_far ∙ append_assoc before (range_with_len start (k - start)) (k ∷ []) ∙ ap (λ ps. before ++ ps) (last ∙ ap (range_with_len start) (sym count))
 
 -- the first n of them stay, and where all are there the next is one more
 pub positions_put : (xs before : List ℕ) (at i start value n : ℕ) → at + i < length xs → (start + i < 2 ^ 64 → value ≡ start + i) → ((m : ℕ) → m ≤ i → start + m ≤ 2 ^ 64 → take (at + m) xs ≡ before ++ range_with_len start m)
@@ -40,11 +48,20 @@ eight_put xs new before at start size j more end so_far put =
     rw (next, place) (put n (omega arith) (omega arith) ∙ ap (λ ps. ps ++ range_with_len (start + done) n) there
     ∙ append_assoc before (range_with_len start done) (range_with_len (start + done) n) ∙ ap (λ ps. before ++ ps) (range_append start done n))
 
--- those of the next list
+-- ---- those of the next list
+
 pub list_put : (offsets sizes xs new : List ℕ) (i at offset size : ℕ) → length sizes ≡ length offsets → i < length offsets → offset ≡ get_or offsets i 0 → size ≡ get_or sizes i 0
     → take at xs ≡ joined_positions (take i offsets) (take i sizes) → take (at + size) new ≡ take at xs ++ range_with_len offset size
     → take (at + size) new ≡ joined_positions (take (i + 1) offsets) (take (i + 1) sizes)
 list_put offsets sizes xs new i at offset size same_len inside offset_is size_is so_far put =
     let before : List ℕ = joined_positions (take i offsets) (take i sizes) in
     put ∙ ap (λ ps. ps ++ range_with_len offset size) so_far ∙ ap (λ k. before ++ range_with_len k size) offset_is
+    ∙ ap (λ n. before ++ range_with_len (get_or offsets i 0) n) size_is ∙ sym (joined_positions-more offsets sizes i same_len inside)
+
+pub list_pushed : (offsets sizes xs new : List ℕ) (i offset size : ℕ) → length sizes ≡ length offsets → i < length offsets → offset ≡ get_or offsets i 0 → size ≡ get_or sizes i 0
+    → xs ≡ joined_positions (take i offsets) (take i sizes) → new ≡ xs ++ range_with_len offset (offset + size - offset) → new ≡ joined_positions (take (i + 1) offsets) (take (i + 1) sizes)
+list_pushed offsets sizes xs new i offset size same_len inside offset_is size_is so_far pushed =
+    let count : offset + size - offset ≡ size = omega arith in
+    let before : List ℕ = joined_positions (take i offsets) (take i sizes) in
+    pushed ∙ ap (λ n. xs ++ range_with_len offset n) count ∙ ap (λ ps. ps ++ range_with_len offset size) so_far ∙ ap (λ k. before ++ range_with_len k size) offset_is
     ∙ ap (λ n. before ++ range_with_len (get_or offsets i 0) n) size_is ∙ sym (joined_positions-more offsets sizes i same_len inside)

@@ -1,12 +1,11 @@
 // What a list view is rebuilt from: the runs of its elements and its new numbers, in loops over the
 // bytes of its offsets and sizes. Valid rows are gone through run by run.
 
-ghost use Rattle.std.specs.Prelude.{◌≡◌, ◌+◌, ◌*◌, ◌-◌, ◌<◌, ◌≤◌, ◌^◌, ◌++◌, ◌∷◌, [], ℕ, pos, length, map, sum, replicate};
-ghost use Rattle.std.specs.Prelude.{slice_index, slice_range, IfOk};
-ghost use Rattle.std.specs.List.{All, flat_map};
+ghost use Rattle.std.specs.Prelude.{◌≡◌, ◌+◌, ◌*◌, ◌-◌, ◌≤◌, ◌^◌, ◌++◌, ◌∷◌, [], pos, length, sum, replicate};
+ghost use Rattle.std.specs.Prelude.{slice_range};
+ghost use Rattle.std.specs.List.{All};
 ghost use Rattle.vx_base.specs.Integers.{byte_width, Holds, numbers};
 ghost use Rattle.vx_base.specs.Refusals.{Gives};
-ghost use Rattle.vx_base.specs.Selections.{run_positions};
 ghost use Rattle.vx_lists.specs.ListViews.CountBytes.{counts_of, numbers_before, AreCountBytes, HoldCounts};
 ghost use Rattle.vx_lists.specs.ListViews.Layout.{starts_from, valid_sizes, valid_total};
 ghost use Rattle.vx_lists.specs.ListViews.PlannedRuns.{AreListBytes, AreListRuns};

@@ -1,7 +1,7 @@
-// The positions of the elements of lists, one list after another. Eight are written at once, which
-// is faster than fewer, and those past the end of a list are written over by the next.
+// The positions of the elements of lists, one list after another. Eight are written at once, with no
+// branch on the size, and those past the end of a list are written over by the next.
 
-ghost use Rattle.std.specs.Prelude.{ℕ, ◌≡◌, ◌+◌, ◌<◌, ◌≤◌, ◌^◌, ◌++◌, length, sum, take};
+ghost use Rattle.std.specs.Prelude.{ℕ, ◌≡◌, ◌+◌, ◌-◌, ◌<◌, ◌≤◌, ◌^◌, ◌++◌, length, sum, take};
 ghost use Rattle.std.specs.List.{range_with_len};
 ghost use Rattle.vx_base.specs.Refusals.{Gives};
 ghost use Rattle.vx_lists.specs.ListViews.CountBytes.{counts_of};
@@ -14,6 +14,10 @@ use vx_base::{NativePType, PType, VortexError, call_native, number_count};
 
 // How many positions are written at once.
 const AT_ONCE: usize = 8;
+
+// More positions than these, of 8 bytes each, leave the cache before they are written over: memory
+// for them is not cleared first.
+const MANY: usize = 1 << 19;
 
 // The positions of the elements of these lists, `count` in all.
 pub(crate) fn list_positions(
@@ -64,9 +68,46 @@ fn typed_positions<O: NativePType, S: NativePType>(
     ensures { Gives result (λ positions. positions.items
         ≡ joined_positions (counts_of O.PTYPE offsets.now) (counts_of S.PTYPE sizes.now)) }
 {
+    // Where most lists are empty, eight for each would be too many.
+    if count < number_count(sizes, S::PTYPE) || count > MANY {
+        return pushed_positions::<O, S>(alloc, offsets, sizes, count);
+    }
     let mut positions = vec![in alloc; 0usize; count]?;
     put_lists::<O, S>(offsets, sizes, &mut positions);
     Ok(positions)
+}
+
+// The same, pushed one by one.
+fn pushed_positions<O: NativePType, S: NativePType>(
+    alloc: Global,
+    offsets: &[u8],
+    sizes: &[u8],
+    count: usize,
+) -> Result<Vec<usize>, VortexError>
+    requires { AreListBytes O.PTYPE offsets.now S.PTYPE sizes.now }
+    ensures { Gives result (λ positions. positions.items
+        ≡ joined_positions (counts_of O.PTYPE offsets.now) (counts_of S.PTYPE sizes.now)) }
+{
+    let mut positions = Vec::with_capacity(alloc, count)?;
+    for row in 0..number_count(offsets, O::PTYPE) {
+        let start = count_of_bytes::<O>(offsets, row);
+        let size = count_of_bytes::<S>(sizes, row);
+        push_list(&mut positions, start, start + size)?;
+    }
+    Ok(positions)
+}
+
+// Pushes the positions from `start` up to `end`.
+#[inline]
+fn push_list(positions: &mut Vec<usize>, start: usize, end: usize) -> Result<(), VortexError>
+    requires { start ≤ end }
+    ensures { Gives result (λ _.
+        positions.new.items ≡ positions.old.items ++ range_with_len start (end - start)) }
+{
+    for position in start..end {
+        positions.push(position)?;
+    }
+    Ok(())
 }
 
 // Writes the positions of the elements of these lists. Not inlined, so that the loop stands by
@@ -87,8 +128,8 @@ fn put_lists<O: NativePType, S: NativePType>(offsets: &[u8], sizes: &[u8], out: 
     }
 }
 
-// Writes `size` positions from `start` on to the places from `at` on: by eights, or one by one where
-// eight more would go past the last place.
+// Writes `size` positions from `start` on to the places from `at` on: by eights, or one by one
+// where eight more would go past the last place. What there is after them may change.
 #[inline]
 fn put_list(out: &mut [usize], at: usize, start: usize, size: usize)
     requires room { at + size ≤ length out.old }
@@ -103,7 +144,7 @@ fn put_list(out: &mut [usize], at: usize, start: usize, size: usize)
     }
 }
 
-// The same, one by one.
+// The same one by one.
 fn put_each(out: &mut [usize], at: usize, start: usize, size: usize)
     requires room { at + size ≤ length out.old }
     requires end { start + size < 2 ^ 64 }
@@ -115,7 +156,7 @@ fn put_each(out: &mut [usize], at: usize, start: usize, size: usize)
     }
 }
 
-// The same by eights. What there is after them may change.
+// The same by eights.
 #[inline]
 fn put_eights(out: &mut [usize], at: usize, start: usize, size: usize)
     requires room { at + size + 8 ≤ length out.old }
@@ -129,7 +170,8 @@ fn put_eights(out: &mut [usize], at: usize, start: usize, size: usize)
     }
 }
 
-// Writes eight numbers from `start` on, as many of which are positions as a list has elements.
+// Writes eight numbers from `start` on, the next of the greatest being 0. As many of them are
+// positions as a list has elements.
 #[inline]
 fn put_eight(out: &mut [usize], at: usize, start: usize)
     requires room { at + 8 ≤ length out.old }

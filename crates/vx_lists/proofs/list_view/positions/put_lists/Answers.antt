@@ -1,4 +1,4 @@
-use Rattle.std.proofs.Common.{◌≡◌, ◌+◌, ◌<◌, ℕ, List, length, sym, ap, ◌∙◌, arith}
+use Rattle.std.proofs.Common.{◌≡◌, ◌+◌, ◌<◌, ℕ, List, length, ap, ◌∙◌, arith}
 use Rattle.vx_base.specs.Integers.{numbers}
 use Rattle.vx_lists.specs.ListViews.CountBytes.{counts_of}
 use Rattle.vx_lists.proofs.ListViews.CountBytes.{length-counts_of}
