@@ -1,4 +1,4 @@
-"""Reads the cases of cases/*.md, of docs/SCRIPT.md and of README.md.
+"""Reads the cases of cases/, of docs/SCRIPT.md and of README.md, and makes those that are too long to be written.
 
 A case is a fenced block whose first line begins with ```vx: the lines up to the line --- are a
 script, the rest is what it prints. The status that is wanted is 1 where the last line printed tells
@@ -8,9 +8,10 @@ feed. In a script, {300 of 0} stands for 300 times 0, joined by commas, and {300
 """
 import pathlib
 import re
-from typing import List, NamedTuple
+from typing import Iterator, List, NamedTuple
 
 ROOT = pathlib.Path(__file__).resolve().parent.parent
+GOOD_LINES = b"ints u8 7\nshow 0\n"
 ERROR = re.compile(rb"error ([1-9][0-9]*) ([A-Za-z0-9]+)\n")
 
 
@@ -75,3 +76,23 @@ def read_all() -> List[Case]:
     pages = [ROOT / "docs" / "SCRIPT.md", ROOT / "README.md"]
     paths = sorted((ROOT / "cases").glob("*.md")) + pages
     return [case for path in paths for case in read_file(path)]
+
+
+def malformed_lines() -> Iterator[Case]:
+    """Each malformed line after two good ones: what was printed stays, and no line after it runs."""
+    for line in (ROOT / "cases" / "malformed_lines.txt").read_bytes().split(b"\n")[:-1]:
+        script = GOOD_LINES + line + b"\nshow 0\n"
+        yield Case(f"malformed line {line!r}", [], script, b"[7]\nerror 3 Syntax\n")
+
+
+def nest(depth: int) -> Case:
+    """One number in so many lists: shown, sliced, taken, filtered, masked, joined and rebuilt."""
+    begin = ["ints u8 7", "ints u8 0", "ints u8 1", "bools bool true"]
+    lists = [f"listview {0 if level == 0 else level + 3} 1 2 nonnull" for level in range(depth)]
+    top = depth + 3
+    steps = [f"slice {top} 0 1", f"take {top} 1", f"filter {top} 3", f"mask {top} 3", f"concat {top} {top}", f"rebuild {top} zctl"]
+    shows = [f"show {register}" for register in range(top, top + len(steps) + 1)]
+    one = "[" * depth + "7" + "]" * depth
+    wanted = [f"[{one},{one}]" if step.startswith("concat") else f"[{one}]" for step in ["", *steps]]
+    script = "".join(line + "\n" for line in [*begin, *lists, *steps, *shows])
+    return Case(f"{depth} lists in each other", [], script.encode(), "".join(line + "\n" for line in wanted).encode())
