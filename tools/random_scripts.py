@@ -1,10 +1,12 @@
 """Writes random scripts for comparison of `vx` with the reading of the rules in reference.py."""
 import random
 
-from reference import RANGES, Fault, fit_together, run_line, run_script, same_type, validity_weight, weight
+from reference import RANGES, Beyond, Fault, fit_together, run_line, run_script, same_type, validity_weight, weight
 from rows import Rows
 
 MOST_LINES = 24
+MOST_FORMED = 300  # rows of an operand that is formed
+UNTOLD = "beyond the other reading"
 NAMES = ["ints"] * 6 + ["bools"] * 2 + ["const"] * 2 + ["listview"] * 6 + ["slice"] * 2
 NAMES += ["dict"] * 3 + ["narrow"] * 2
 NAMES += ["concat"] * 2 + ["texts"] * 2 + ["fixed"] * 3 + ["struct"] * 3 + ["project"] * 2
@@ -12,6 +14,8 @@ NAMES += ["take"] * 3 + ["filter"] * 2 + ["mask"] * 2 + ["rebuild"] * 3 + ["show
 BAD_WORDS = ["", "-", "x", "-1", "1,", "null", "true", "u8", "i32?", "99999999999999999999", "zctl"]
 BAD_WORDS += ["a=", "=0", "a=b", "a-b", "a=0=0"]
 LITERALS = ("ints", "bools", "texts", "const")
+MAKERS = ("listview", "slice", "take", "filter", "mask", "concat", "rebuild", "dict")  # after which the parts or the rows are often printed
+FORMS = ("constant", "dictionary", "slice", "slice", "taken")
 COMMANDS = tuple(dict.fromkeys(NAMES))
 
 # each refusal that a script can meet, with the commands that are asked for it here. What needs more rows than the other reading
@@ -59,6 +63,8 @@ class Writer:
         self.refused = self.random.choice(REFUSALS[self.refusal]) if self.refusal else None
         # how often a number is one of the ends of its type, or -1
         self.extreme = 0.2 if self.refusal in ("Negative", "Overflow") else 0.05
+        # how many rows many arrays of the script have: now and then more than a word of bits holds, mostly any
+        self.length = self.random.choice([*[self.random.randint(65, 200)] * 2, *[self.random.randint(2, 9)] * 2, *[None] * 6])
 
     def register(self, fits=lambda array: True) -> str:
         """A register, of an array that fits where there is one."""
@@ -83,6 +89,11 @@ class Writer:
 
     def items(self, kind: str, nullable: bool) -> str:
         count = self.random.choice([0, 1, 2, 3, 3, 3, 4, 9])
+        if self.length is not None and self.random.random() < 0.7:
+            count = self.length
+        return self.list_of(kind, nullable, count)
+
+    def list_of(self, kind: str, nullable: bool, count: int) -> str:
         return ",".join(self.item(kind, nullable) for _ in range(count)) or "-"
 
     def kind(self) -> str:
@@ -178,6 +189,12 @@ class Writer:
         fits = lambda array: made is None or same_type(array, made)
         return [first, *(self.register(fits) for _ in range(self.random.randint(0, 2)))]
 
+    def slice(self):
+        """An array, and bounds that are small, or anywhere in it."""
+        register = self.register()
+        most = self.random.choice([4, self.count_of(register)])
+        return [register, *map(str, sorted(self.random.randint(0, most) for _ in range(2)))]
+
     def operands(self, name: str):
         if name in LITERALS:
             return self.literal(name)
@@ -186,8 +203,7 @@ class Writer:
         if name in writers:
             return writers[name]()
         if name == "slice":
-            bounds = sorted(self.random.randint(0, 4) for _ in range(2))
-            return [self.register(), *map(str, bounds)]
+            return self.slice()
         if name == "narrow":
             return [self.register(lambda array: array.layout == "primitive")]
         if name == "take":
@@ -201,6 +217,34 @@ class Writer:
             return [lists, self.random.choice(modes)]
         return [self.register(lambda array: name == "show" or array.is_exact)]
 
+    def formed(self):
+        """Lines that make numbers or truth values as a constant, a dictionary, a slice or what was taken, of a length that is met."""
+        kind, form = self.random.choice([self.kind(), "bool", "bool"]), self.random.choice(FORMS)
+        count = self.count_of(self.register()) if self.length is None else self.length
+        command, first = "bools" if kind == "bool" else "ints", len(self.arrays)
+        if count > MOST_FORMED:
+            return []
+        if form == "constant":
+            return [f"const {kind} {self.small(kind)} {count}"]
+        start, more, held = self.random.randint(0, 9), self.random.randint(0, 2), self.random.randint(1, 4)
+        rows = start + count + more if form == "slice" else held
+        values = ",".join(self.small(kind) for _ in range(rows)) or "-"
+        if form == "slice":
+            return [f"{command} {kind} {values}", f"slice {first} {start} {start + count}"]
+        places = ",".join(str(self.random.randrange(held)) for _ in range(count)) or "-"
+        last = f"dict {first} {first + 1}" if form == "dictionary" else f"take {first + 1} {first}"
+        return [f"ints u8 {places}", f"{command} {kind} {values}", last]
+
+    def small(self, kind: str) -> str:
+        return self.random.choice(["true", "false"]) if kind == "bool" else str(self.random.randint(0, 3))
+
+    def told(self, name: str):
+        """After a command that makes an array of others, now and then a line that prints that."""
+        register = str(len(self.arrays) - 1)
+        what = self.random.choice(["parts", "show", "parts" if name == "rebuild" else "none"])
+        is_told = name in MAKERS and what != "none" and self.is_told([what, register])
+        return [f"{what} {register}"] if is_told else []
+
     def line(self, name: str, spoiled: float) -> str:
         """A random line of a command, with a chance of being malformed."""
         words = [name, *self.operands(name)]
@@ -211,25 +255,29 @@ class Writer:
         return " ".join(words)
 
     def fault_of(self, line: str):
-        """Runs a line; gives why it is refused, if it is."""
+        """Runs a line; gives why it is refused, if it is, or that the other reading says nothing of it."""
         try:
             run_line(self.arrays, line.split())
         except Fault as fault:
             return str(fault)
+        except Beyond:
+            return UNTOLD
         return None
 
     def made_lines(self):
         """Lines that are run, of which at most the last is refused: few scripts end so by chance."""
         lines = []
         while len(lines) < MOST_LINES:
-            line = self.line(self.random.choice(NAMES), 0.01)
-            if not self.is_told(line.split()):
+            if self.random.random() < (0.05 if self.length is None else 0.15):
+                formed = self.formed()
+                lines += [line for line in formed if self.fault_of(line) is None]
+            name = self.random.choice(NAMES)
+            line = self.line(name, 0.01)
+            fault = self.fault_of(line) if self.is_told(line.split()) else UNTOLD
+            if fault == UNTOLD or fault is not None and self.random.random() < 0.97:
                 continue
-            is_refused = self.fault_of(line) is not None
-            if is_refused and self.random.random() < 0.97:
-                continue
-            lines.append(line)
-            if is_refused:
+            lines += [line, *([] if fault else self.told(name))]
+            if fault is not None:
                 break
         return lines
 
@@ -305,7 +353,7 @@ class LargeWriter(Writer):
 
     def __init__(self, seed: int):
         super().__init__(seed)
-        self.refusal = self.refused = None
+        self.refusal = self.refused = self.length = None
         self.lengths = [*self.random.sample(LARGE, 2), *self.random.sample(range(4), 1)]
 
     def literal(self, name: str):
@@ -347,6 +395,8 @@ class LargeWriter(Writer):
             if not self.is_told(line.split()):
                 continue
             fault = self.fault_of(line)
+            if fault == UNTOLD:
+                continue
             new = self.arrays[made:]
             if any(most_weight(part) > MOST_MADE for one in new for part in parts_of(one)):
                 del self.arrays[made:]

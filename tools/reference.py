@@ -17,12 +17,17 @@ OPERANDS.update({"rebuild": (2, 2), "const": (3, 3), "slice": (3, 3), "listview"
 OPERANDS.update({"fixed": (4, 4), "concat": (0, None), "struct": (2, None), "project": (1, None)})
 PLAIN_LAYOUTS = {"bool": "bool", "utf8": "views", "binary": "views"}
 PLAIN_LAYOUTS.update({"list": "listview", "fixed": "fixed", "record": "struct"})
-MOST_LISTED = 2**16  # rows that differ, which this reading writes out
+MOST_LISTED = 2**20  # starts of lists, which this reading writes out
+MOST_LINE = 2**20  # bytes of a line
 MOST_BYTES = 2**31  # of an answer, from which on it is `Memory`
 
 
 class Fault(Exception):
     """A refusal, by its name."""
+
+
+class Beyond(Exception):
+    """What would be too long to be written out here: this reading says nothing of it."""
 
 
 class Array(NamedTuple):
@@ -238,13 +243,20 @@ def trim(array: Array) -> Array:
     )
 
 
+def same_lists(row: Rows, count: int):
+    """The items of so many equal lists, as lists of runs."""
+    is_one_run = len(row.runs) == 1
+    return [repeated(row[0], row.count * count)] if is_one_run else [row] * count
+
+
 def laid_out(array: Array):
     """The items of all lists one after another, and where each list starts."""
     items, starts, place = [], [], 0
     for row, count in array.rows.runs:
         size = row.count if row else 0
-        want(size == 0 or count <= MOST_LISTED, "Memory")
-        items += [row] * (count if size else 0)
+        if size and count + len(starts) > MOST_LISTED:
+            raise Beyond("so many lists that are not empty")
+        items += same_lists(row, count) if size else []
         starts += [(place + size * i, 1) for i in range(count)] if size else [(place, count)]
         place += size * count
     return joined(items), Rows(starts)
@@ -293,6 +305,7 @@ def rebuild(array: Array, mode: str) -> Array:
     sizes = array.rows.changed(lambda row: 0 if row is None else row.count)
     total = sum(size * count for size, count in sizes.runs)
     want(total in RANGES[offset_type] and total in RANGES[size_type], "Overflow")
+    want(fits_usize(array.elements, total), "Overflow")
     rows, offsets = laid_out(array)
     layout = "constant" if array.elements.layout == "constant" else "rows"
     rebuilt = array._replace(
@@ -328,10 +341,10 @@ def zero_codes(rows: Rows) -> Array:
 
 def fits_usize(array: Array, count: int) -> bool:
     """Whether the elements of so many rows can be counted, of lists of one size at any depth."""
-    if array.layout == "struct":
-        return all(fits_usize(column, count) for column in array.columns)
-    if array.layout != "fixed":
+    if array.layout not in ("fixed", "struct", "rows"):
         return True
+    if array.kind != "fixed":
+        return all(fits_usize(column, count) for column in array.columns)
     return count * array.size < 2**64 and fits_usize(array.elements, count * array.size)
 
 
@@ -389,9 +402,10 @@ def filter_array(array: Array, mask: Array) -> Array:
     want_mask(array, mask)
     filtered = array._replace(rows=kept(array.rows, mask.rows))
     part = lambda counts: counts._replace(rows=kept(counts.rows, mask.rows))
+    if array.layout == "listview" and array.is_exact:
+        return filtered._replace(flag=False, offsets=part(array.offsets), sizes=part(array.sizes))
     if array.layout == "listview":
-        parts = {"offsets": part(array.offsets), "sizes": part(array.sizes)}
-        return filtered._replace(flag=False, **(parts if array.is_exact else {}))
+        return filtered._replace(flag=False)
     if array.layout == "dict":
         return filtered._replace(codes=part(array.codes))
     return filtered
@@ -566,7 +580,9 @@ def called(name: str, operands: List[str], get) -> Array:
 
 
 def run_line(arrays: List[Array], words: List[str]) -> Optional[str]:
-    """Runs a line: makes the next array, or answers what it prints."""
+    """Runs a line: makes the next array, or answers what it prints. A line without words does neither."""
+    if not words:
+        return None
     name, *operands = words
 
     def get(register):
@@ -598,7 +614,8 @@ def run_script(script: str) -> str:
     for number, line in enumerate(script.split("\n"), 1):
         words = [word for word in line.split(" ") if word]
         try:
-            text = run_line(arrays, words) if words else None
+            want(len(line.encode(errors="surrogateescape")) <= MOST_LINE, "Syntax")
+            text = run_line(arrays, words)
         except Fault as fault:
             printed.append(f"error {number} {fault}")
             break

@@ -17,6 +17,7 @@ TOLD = re.compile(r"test .* \.\.\. FAILED|---- |thread .*panicked|error|.*: erro
 BETWEEN = b"\x1e"  # what stands between two scripts
 TOGETHER = 30  # scripts of one process: a fault loses those after it,
 MOST_PRINTED = 900_000  # and bytes that they print, of the MiB that `rt try` passes on
+RUNNING = set()  # the commands that run, each in a session of its own
 
 
 class Answer(NamedTuple):
@@ -38,17 +39,36 @@ class Ran(NamedTuple):
         return (self.output.decode(errors="replace") + self.errors)[-1500:]
 
 
+def end(process):
+    """Ends a command with all that it started; it has some seconds to tidy up."""
+    for how in (signal.SIGTERM, signal.SIGKILL):
+        try:
+            os.killpg(process.pid, how)
+            process.wait(5)
+        except ProcessLookupError:
+            return
+        except subprocess.TimeoutExpired:
+            pass
+
+
+def end_all():
+    """Ends what still runs."""
+    for process in list(RUNNING):
+        end(process)
+
+
 def run(words, folder, stdin=subprocess.DEVNULL) -> Ran:
-    """Runs a command; one that does not end is ended, with all that it started."""
+    """Runs a command; one that takes too long is ended."""
     how = {"stdin": stdin, "stdout": subprocess.PIPE, "stderr": subprocess.PIPE, "start_new_session": True}
     with subprocess.Popen(words, cwd=folder, **how) as process:
+        RUNNING.add(process)
         try:
             output, errors = process.communicate(timeout=LONGEST)
-        except BaseException as end:
-            os.killpg(process.pid, signal.SIGKILL)
-            if not isinstance(end, subprocess.TimeoutExpired):
-                raise
+        except subprocess.TimeoutExpired:
+            end(process)
             output, errors = process.communicate()
+        finally:
+            RUNNING.discard(process)
     return Ran(process.returncode, output, errors.decode(errors="replace"))
 
 
