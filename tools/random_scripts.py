@@ -64,7 +64,8 @@ class Writer:
         # how often a number is one of the ends of its type, or -1
         self.extreme = 0.2 if self.refusal in ("Negative", "Overflow") else 0.05
         # how many rows many arrays of the script have: now and then more than a word of bits holds, mostly any
-        self.length = self.random.choice([*[self.random.randint(65, 200)] * 2, *[self.random.randint(2, 9)] * 2, *[None] * 6])
+        lengths = random.Random(f"length {seed}")
+        self.length = lengths.choice([*[lengths.randint(65, 200)] * 2, *[lengths.randint(2, 9)] * 2, *[None] * 6])
 
     def register(self, fits=lambda array: True) -> str:
         """A register, of an array that fits where there is one."""
