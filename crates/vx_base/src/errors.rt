@@ -8,8 +8,8 @@ use thiserror::Error;
 
 /// Why a call is refused. Every refusal but `Memory` names a fault that stands in what was handed
 /// in; where several stand, the first in the order that the call states is answered. `Memory` may
-/// come in place of any other answer, where a growth was really refused, or where a bit buffer
-/// would get more bits than a `usize` counts, which no memory holds.
+/// come in place of any other answer, where a growth was really refused. Bits that would be more
+/// than a `usize` counts are refused with `Overflow`.
 #[derive(Debug, Drop, PartialEq, Eq, Clone, Copy, Error)]
 pub enum VortexError {
     /// Memory was refused.
