@@ -121,6 +121,14 @@ module _ (ls rs : List ℕ) (a n : ℕ) (ordered : a ≤ n) (left : n ≤ length
       ap (λ (b : ℕ). eqb (bit_at b (k % 8)) 1) (and_byte (k / 8) byte) ∙ bit_of-and (get_or ls (k / 8) 0) (get_or rs (k / 8) 0) (k % 8)
       ∙ rw zero-add refl
 
+-- one byte more of `&` of any two
+pub and_put_joined : (ls rs out : List ℕ) (from at j : ℕ) → j < length out → ((k : ℕ) → k < 8 * j → bit_of out k ≡ (bit_of ls (from + k) && bit_of rs (at + k)))
+    → (k : ℕ) → k < 8 * (j + 1) → bit_of (set out j (bit_and (byte_from ls (from + 8 * j)) (byte_from rs (at + 8 * j)))) k ≡ (bit_of ls (from + k) && bit_of rs (at + k))
+and_put_joined ls rs out from at j within before = byte_put out (λ k. bit_of ls (from + k) && bit_of rs (at + k)) j (bit_and (byte_from ls (from + 8 * j)) (byte_from rs (at + 8 * j))) within
+    (λ i h. let left : from + 8 * j + i ≡ from + (8 * j + i) = omega arith in
+    let right : at + 8 * j + i ≡ at + (8 * j + i) = omega arith in
+    bit_of-and (byte_from ls (from + 8 * j)) (byte_from rs (at + 8 * j)) i ∙ rw (bit_of-byte_from ls (from + 8 * j) i h, bit_of-byte_from rs (at + 8 * j) i h, left, right) refl) before
+
 -- seven bytes more of `&` of any two, or what there is room for
 pub and_more : (ls rs old new : List ℕ) (from at j last l r : ℕ)
     → ((i : ℕ) → i < 64 - (from + 8 * (7 * j)) % 8 → eqb (bit_at l i) 1 ≡ bit_of ls (from + 8 * (7 * j) + i))

@@ -5,6 +5,7 @@ ghost use Rattle.std.specs.List.{zip};
 ghost use Rattle.vx_base.specs.Refusals.{Gives};
 ghost use Rattle.vx_base.specs.Bits.{bit_of};
 
+use crate::bit_bytes::byte_from;
 use crate::bit_words::{bits_from, put_bytes};
 use crate::errors::VortexError;
 use std::alloc::Global;
@@ -60,8 +61,37 @@ fn extend_both(bytes: &mut Vec<u8>, left: &[u8], right: &[u8]) -> Result<(), Vor
     Ok(bytes.extend(pairs.map(|(l, r)| *l & *r))?)
 }
 
-// Writes the bits that are set in both, seven bytes at a time, as a word holds from any bit on.
+// Results of up to so many bytes are written a byte at a time: two words cost more than they save.
+const FEW: usize = 8;
+
+// Writes the bits that are set in both, of two runs of which one begins inside a byte.
 fn and_joined(left: &[u8], from: usize, right: &[u8], at: usize, out: &mut [u8])
+    requires from { from + 8 * length out.old < 2 ^ 64 + 8 }
+    requires at { at + 8 * length out.old < 2 ^ 64 + 8 }
+    ensures len { length out.new ≡ length out.old }
+    ensures bits { (k : ℕ) → k < 8 * length out.old → bit_of out.new k ≡ (bit_of left.now (from + k) && bit_of right.now (at + k)) }
+{
+    if out.len() <= FEW {
+        and_by_bytes(left, from, right, at, out);
+    } else {
+        and_by_words(left, from, right, at, out);
+    }
+}
+
+// Writes the bits that are set in both a byte at a time, each joined from two.
+fn and_by_bytes(left: &[u8], from: usize, right: &[u8], at: usize, out: &mut [u8])
+    requires from { from + 8 * length out.old < 2 ^ 64 + 8 }
+    requires at { at + 8 * length out.old < 2 ^ 64 + 8 }
+    ensures len { length out.new ≡ length out.old }
+    ensures bits { (k : ℕ) → k < 8 * length out.old → bit_of out.new k ≡ (bit_of left.now (from + k) && bit_of right.now (at + k)) }
+{
+    for (j, byte) in out.iter_mut().enumerate() {
+        *byte = byte_from(left, from + 8 * j) & byte_from(right, at + 8 * j);
+    }
+}
+
+// Writes the bits that are set in both seven bytes at a time, as a word holds from any bit on.
+fn and_by_words(left: &[u8], from: usize, right: &[u8], at: usize, out: &mut [u8])
     requires from { from + 8 * length out.old < 2 ^ 64 + 8 }
     requires at { at + 8 * length out.old < 2 ^ 64 + 8 }
     ensures len { length out.new ≡ length out.old }

@@ -1,6 +1,6 @@
 use Rattle.std.proofs.Common.{arith}
 use Rattle.vx_base.proofs.Packing.{and_more}
-use Rattle.vx_base.proofs.bit_ands.and_joined.Goals as goal
+use Rattle.vx_base.proofs.bit_ands.and_by_words.Goals as goal
 
 pub loop-j-preserved : goal.loop-j-preserved
 loop-j-preserved c = λ k h l.
