@@ -7,7 +7,7 @@ ghost use Rattle.vx_base.specs.Bits.{unpacked, bool_at};
 ghost use Rattle.vx_base.specs.Selections.{run_positions, list_positions};
 
 use crate::bit_buffer::BitBuffer;
-use crate::bit_buffer_mut::put_last;
+use crate::bit_buffer_mut::{BitBufferMut, put_last};
 use crate::bit_bytes::{byte_of, put_bit};
 use crate::byte_buffer::ByteBuffer;
 use crate::errors::VortexError;
@@ -15,6 +15,10 @@ use crate::gather::{Gather, gather_rows};
 use crate::places::Places;
 use crate::selection::Selection;
 use std::alloc::Global;
+
+// Runs and lists of more booleans in the mean are appended one after another, so that each part of
+// the result is cleared just before it is written. Shorter ones are written over zeroes.
+const LONG: usize = 256;
 
 // Booleans of which some are gathered.
 #[derive(Drop)]
@@ -69,6 +73,9 @@ impl Gather for Bits<'_> {
         runs: &[(usize, usize)],
         len: usize,
     ) -> Result<BitBuffer, VortexError> {
+        if len / LONG > runs.len() {
+            return append_runs(alloc, self.bits, runs, len);
+        }
         let mut bytes = vec![in alloc; 0u8; len.div_ceil(8)]?;
         put_runs(self.bits, runs, &mut bytes);
         Ok(BitBuffer::from_parts(ByteBuffer::from_vec(alloc, bytes)?, 0, len))
@@ -81,6 +88,9 @@ impl Gather for Bits<'_> {
         size: usize,
         len: usize,
     ) -> Result<BitBuffer, VortexError> {
+        if size > LONG {
+            return append_lists::<P>(alloc, self.bits, lists, size, len);
+        }
         let mut bytes = vec![in alloc; 0u8; len.div_ceil(8)]?;
         put_lists::<P>(self.bits, lists, size, &mut bytes);
         Ok(BitBuffer::from_parts(ByteBuffer::from_vec(alloc, bytes)?, 0, len))
@@ -178,4 +188,64 @@ fn put_run(bits: &BitBuffer, run: (usize, usize), out: &mut [u8], at: usize) -> 
     let next = at + (end - start);
     put_last(out, at, next, bits, start);
     next
+}
+
+// The booleans of these runs, of which there are `len` in all, appended one run after another.
+fn append_runs(
+    alloc: Global,
+    bits: &BitBuffer,
+    runs: &[(usize, usize)],
+    len: usize,
+) -> Result<BitBuffer, VortexError>
+    requires within { All (λ k. k < length bits.now.bits) (flat_map run_positions runs.now) }
+    requires len { len ≡ length (flat_map run_positions runs.now) }
+    ensures bits { Gives result (λ b. b.bits ≡ map (bool_at bits.now.bits) (flat_map run_positions runs.now)) }
+    ensures offset { IfOk result (λ b. b.offset ≡ 0) }
+{
+    let mut picked = BitBufferMut::with_capacity(alloc, len)?;
+    for run in runs {
+        let (start, end) = *run;
+        append_run(&mut picked, bits, start, end)?;
+    }
+    picked.freeze()
+}
+
+// The booleans of these lists of `size` booleans each, of which there are `len` in all, appended
+// one list after another.
+fn append_lists<P: Places>(
+    alloc: Global,
+    bits: &BitBuffer,
+    lists: P,
+    size: usize,
+    len: usize,
+) -> Result<BitBuffer, VortexError>
+    requires within { All (λ k. k < length bits.now.bits) (flat_map (list_positions size) (P.positions lists)) }
+    requires len { len ≡ length (flat_map (list_positions size) (P.positions lists)) }
+    ensures bits { Gives result (λ b. b.bits ≡ map (bool_at bits.now.bits) (flat_map (list_positions size) (P.positions lists))) }
+    ensures offset { IfOk result (λ b. b.offset ≡ 0) }
+{
+    let _ = bits.len();
+    let mut picked = BitBufferMut::with_capacity(alloc, len)?;
+    for i in 0..lists.count() {
+        let start = lists.at(i) * size;
+        append_run(&mut picked, bits, start, start + size)?;
+    }
+    picked.freeze()
+}
+
+// Appends the booleans from `start` up to `end`, none where there is none between.
+fn append_run(
+    picked: &mut BitBufferMut,
+    bits: &BitBuffer,
+    start: usize,
+    end: usize,
+) -> Result<(), VortexError>
+    requires within { All (λ k. k < length bits.now.bits) (run_positions (start, end)) }
+    requires countable { length picked.old + length (run_positions (start, end)) < 2 ^ 64 }
+    ensures { Gives result (λ _. picked.new ≡ picked.old ++ map (bool_at bits.now.bits) (run_positions (start, end))) }
+{
+    if start < end {
+        picked.append_slice(bits, start, end)?;
+    }
+    Ok(())
 }
