@@ -5,7 +5,9 @@ ghost use Rattle.vx_base.specs.DTypes.{field_names, field_kinds};
 ghost use Rattle.vx_base.specs.Fields.{kind_count};
 
 mod gathered;
+mod joined;
 mod masks;
+mod plain;
 mod scalars;
 mod selections;
 mod shared;

@@ -1,18 +1,27 @@
-use Rattle.std.proofs.Common.{◌<◌, length, sym, ap, subst, ◌∙◌, arith}
-use Rattle.std.specs.List.{All, range_with_len}
-use Rattle.std.proofs.lemmas.List.Elements.{All-filter}
+use Rattle.std.proofs.Common.{ℕ, ◌-◌, ◌<◌, ◌≤◌, take, get_or, length, refl, sym, ap, subst, arith}
+use Rattle.std.specs.List.{All, flat_map}
+use Rattle.std.proofs.lemmas.List.{length-append}
+use Rattle.std.proofs.lemmas.List.Elements.{All-nil, All-append}
 use Rattle.std.proofs.lemmas.List.FromFn.{length-range_with_len, get_or-range_with_len}
-use Rattle.vx_base.specs.Bits.{bool_at}
-use Rattle.vx_base.proofs.TrueRuns.{length_trues}
-use Rattle.vx_base_tests.proofs.base.gathered.runs_are_appended.Goals as goal
+use Rattle.vx_base.specs.Selections.{run_positions}
+use Rattle.vx_base.proofs.Runs.{runs_more}
+use Rattle.vx_base_tests.proofs.base.gathered.count_rows.Goals as goal
 
-pub of_runs-runs-requires : goal.of_runs-runs-requires
-of_runs-runs-requires c = c.true_count.ensures ∙ sym (length_trues c.args.rows.now) ∙ sym (ap length c.runs.ensures.trues)
+-- the positions of a run that ends within n lie below n
+run_below : (n : ℕ) (run : ℕ × ℕ) → run.1 ≤ n → All (λ k. k < n) (run_positions run)
+run_below n run e = λ i d l.
+    let inside : i < run.1 - run.0 = omega (arith, length-range_with_len run.0 (run.1 - run.0)) in
+    subst (λ k. k < n) (sym (get_or-range_with_len run.0 (run.1 - run.0) i d inside)) (omega (arith, e, inside))
 
-pub gather_bits-requires : goal.gather_bits-requires
-gather_bits-requires c =
-    let rows = c.args.rows.now in
-    let n = length c.args.bits.now.bits in
-    subst (All (λ k. k < n)) (sym (c.of_runs-runs.ensures ∙ c.runs.ensures.trues)) (All-filter (bool_at rows) (λ k. k < n) (range_with_len 0 (length rows)) (λ i d l.
-    let inside : i < length rows = omega (arith, length-range_with_len 0 (length rows)) in
-    omega (arith, c.requires, get_or-range_with_len 0 (length rows) i d inside)))
+pub loop-run-init : goal.loop-run-init
+loop-run-init c = (refl, All-nil (λ k. k < c.args.rows))
+
+pub loop-run-preserved : goal.loop-run-preserved
+loop-run-preserved c =
+    let runs = c.args.runs.now in
+    let i = c.loop-run.run-index in
+    let run = get_or runs i (0, 0) in
+    let all = runs_more run_positions runs i (0, 0) c.loop-run-test.true in (
+      omega (arith, c.loop-run.invariant.0, ap length all, length-append (flat_map run_positions (take i runs)) (run_positions run), length-range_with_len run.0 (run.1 - run.0)),
+      subst (All (λ k. k < c.args.rows)) (sym all) (All-append (λ k. k < c.args.rows) (flat_map run_positions (take i runs)) (run_positions run) c.loop-run.invariant.1 (run_below c.args.rows run (omega arith))),
+    )

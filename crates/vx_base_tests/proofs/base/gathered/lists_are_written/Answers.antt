@@ -1,9 +1,10 @@
-use Rattle.std.proofs.Common.{ℕ, ◌+◌, ◌*◌, ◌<◌, ◌≤◌, ◌≡◌, ◌∷◌, [], length, sym, ap, subst, ◌∙◌, arith}
+use Rattle.std.proofs.Common.{ℕ, suc, ◌+◌, ◌*◌, ◌<◌, ◌≤◌, ◌≡◌, List, [], ◌∷◌, length, get_or, sym, subst, arith}
 use Rattle.std.specs.List.{All, flat_map}
+use Rattle.std.proofs.Math.Nat.{mul-le-mul_right}
 use Rattle.std.proofs.lemmas.List.Elements.{All-nil, All-append}
 use Rattle.std.proofs.lemmas.List.FromFn.{length-range_with_len, get_or-range_with_len}
 use Rattle.vx_base.specs.Selections.{list_positions}
-use Rattle.vx_base_tests.proofs.base.gathered.lists_are_appended.Goals as goal
+use Rattle.vx_base_tests.proofs.base.gathered.lists_are_written.Goals as goal
 
 -- the positions of a list that ends within m lie below m
 positions_below : (m n k : ℕ) → k * n + n ≤ m → All (λ p. p < m) (list_positions n k)
@@ -11,15 +12,28 @@ positions_below m n k e = λ i d l.
     let inside : i < n = omega (arith, length-range_with_len (k * n) n) in
     subst (λ p. p < m) (sym (get_or-range_with_len (k * n) n i d inside)) (omega (arith, e, inside))
 
--- and so do those of three lists
-three_below : (m n : ℕ) → m ≡ 3 * n → All (λ p. p < m) (flat_map (list_positions n) (2 ∷ 0 ∷ 1 ∷ []))
-three_below m n e =
-    let P : ℕ → Type 0 = λ p. p < m in
-    let f = list_positions n in
-    All-append P (f 2) (flat_map f (0 ∷ 1 ∷ [])) (positions_below m n 2 (omega (arith, e)))
-    (All-append P (f 0) (flat_map f (1 ∷ [])) (positions_below m n 0 (omega (arith, e)))
-    (All-append P (f 1) [] (positions_below m n 1 (omega (arith, e))) (All-nil P)))
+-- where a list of three ends
+end_of_three : (m n k : ℕ) → m ≡ 3 * n → k < 3 → k * n + n ≤ m
+end_of_three m n k e l =
+    let end : (k + 1) * n ≤ 3 * n = mul-le-mul_right n (omega arith) in
+    omega (arith, end, e)
+
+-- so do those of lists of three
+lists_below : (m n : ℕ) (ks : List ℕ) → m ≡ 3 * n → All (λ k. k < 3) ks → All (λ p. p < m) (flat_map (list_positions n) ks)
+lists_below m n [] e all = All-nil (λ p. p < m)
+lists_below m n (k ∷ ks) e all =
+    All-append (λ p. p < m) (list_positions n k) (flat_map (list_positions n) ks)
+    (positions_below m n k (end_of_three m n k e (all 0 0 (omega arith)))) (lists_below m n ks e (λ i d l. all (suc i) d (omega arith)))
+
+pub lists-requires-clause-within : goal.lists-requires-clause-within
+lists-requires-clause-within c = λ i d l.
+    let end = end_of_three (length c.args.part.now.bits.bits) c.args.size (get_or c.args.lists.now i d) c.requires.bits (c.requires.within i d l) in
+    omega (arith, end, c.len-len.ensures)
+
+pub lists-requires-clause-countable : goal.lists-requires-clause-countable
+lists-requires-clause-countable c = rw c.requires.few (omega (arith, c.requires.bits, c.len-len.ensures))
 
 pub gather_bits-requires : goal.gather_bits-requires
 gather_bits-requires c =
-    subst (All (λ p. p < length c.args.bits.now.bits)) (sym (c.in_ok-lists.ensures ∙ ap (flat_map (list_positions c.args.size)) c.at_positions.ensures)) (three_below (length c.args.bits.now.bits) c.args.size c.requires)
+    subst (All (λ p. p < length c.args.part.now.bits.bits)) (sym c.in_ok-elements.ensures)
+    (lists_below (length c.args.part.now.bits.bits) c.args.size c.args.lists.now c.requires.bits c.requires.within)
