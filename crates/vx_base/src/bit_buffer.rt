@@ -16,7 +16,7 @@ use crate::bit_buffer_mut::BitBufferMut;
 use crate::bit_buffer_view::{BitBufferMeta, BitBufferView};
 use crate::bit_bytes::{byte_from, fill_bits, pack, read_bit, same_whole};
 use crate::bit_copies::copy_bits;
-use crate::bit_words::{bits_from, count_words};
+use crate::bit_words::{bits_from, clear_after, count_words};
 use crate::byte_buffer::ByteBuffer;
 use crate::errors::VortexError;
 use std::alloc::Global;
@@ -186,6 +186,19 @@ impl BitBuffer {
         count
     }
 
+    // The bytes of the booleans that are true in both, from the first bit on.
+    fn bytes_of_both(&self, alloc: Global, other: &BitBuffer) -> Result<Vec<u8>, VortexError>
+        requires { length self.now.bits ≡ length other.now.bits }
+        ensures bits { Gives result (λ v. unpacked v.items 0 (length self.now.bits) ≡ both self.now.bits other.now.bits) }
+        ensures enough { IfOk result (λ v. length self.now.bits ≤ 8 * length v.items) }
+        ensures no_more { IfOk result (λ v. 8 * length v.items < length self.now.bits + 8) }
+    {
+        let mine = self.bytes.as_slice();
+        let theirs = other.bytes.as_slice();
+        let count = self.len.div_ceil(8);
+        and_bytes(alloc, mine, self.offset, theirs, other.offset, count)
+    }
+
     /// A buffer that is true at the places where both are. Asks that both are as long. Fails only
     /// for want of memory.
     pub fn and(&self, alloc: Global, other: &BitBuffer) -> Result<BitBuffer, VortexError>
@@ -193,11 +206,25 @@ impl BitBuffer {
         ensures bits { Gives result (λ b. b.bits ≡ both self.now.bits other.now.bits) }
         ensures offset { IfOk result (λ b. b.offset ≡ 0) }
     {
-        let mine = self.bytes.as_slice();
-        let theirs = other.bytes.as_slice();
-        let count = self.len.div_ceil(8);
-        let bytes = and_bytes(alloc, mine, self.offset, theirs, other.offset, count)?;
-        Ok(BitBuffer::from_parts(ByteBuffer::from_vec(alloc, bytes)?, 0, self.len))
+        let bytes = self.bytes_of_both(alloc, other)?;
+        Ok(BitBuffer::from_parts(ByteBuffer::from_vec(alloc, bytes)?, 0, self.len()))
+    }
+
+    /// A buffer that is true at the places where both are, zero-padded: no bit of the last byte is
+    /// set after the last boolean, where `and` may leave some. Asks that both are as long. Fails
+    /// only for want of memory.
+    pub fn and_zero_padded(
+        &self,
+        alloc: Global,
+        other: &BitBuffer,
+    ) -> Result<BitBuffer, VortexError>
+        requires { length self.now.bits ≡ length other.now.bits }
+        ensures bits { Gives result (λ b. b.bits ≡ both self.now.bits other.now.bits) }
+        ensures offset { IfOk result (λ b. b.offset ≡ 0) }
+    {
+        let mut bytes = self.bytes_of_both(alloc, other)?;
+        clear_after(&mut bytes, self.len());
+        Ok(BitBuffer::from_parts(ByteBuffer::from_vec(alloc, bytes)?, 0, self.len()))
     }
 
     /// The booleans where they lie, to be read.

@@ -1,6 +1,6 @@
 // Bits that are read a word of 64 at a time.
 
-ghost use Rattle.std.specs.Prelude.{ℕ, ◌≡◌, ◌≤◌, ◌<◌, ◌+◌, ◌-◌, ◌*◌, ◌/◌, ◌%◌, ◌^◌, ◌==◌, ◌↔◌, length, count_by};
+ghost use Rattle.std.specs.Prelude.{ℕ, ◌≡◌, ◌≤◌, ◌<◌, ◌+◌, ◌-◌, ◌*◌, ◌/◌, ◌%◌, ◌^◌, ◌==◌, ◌↔◌, false, length, count_by};
 ghost use Rattle.std.specs.Int.{bit_at};
 ghost use Rattle.vx_base.specs.Bits.{bit_of, bit_before, unpacked, Written};
 
@@ -71,6 +71,19 @@ fn low_bits(byte: u8, count: usize) -> u8
     ensures cleared { (i : ℕ) → count ≤ i → bit_at result i ≡ 0 }
 {
     byte & ((1 << count) - 1)
+}
+
+// Clears the bits after the first `len`, all of which are in the last byte.
+pub(crate) fn clear_after(bytes: &mut [u8], len: usize)
+    requires enough { len ≤ 8 * length bytes.old }
+    requires no_more { 8 * length bytes.old < len + 8 }
+    ensures len { length bytes.new ≡ length bytes.old }
+    ensures kept { unpacked bytes.new 0 len ≡ unpacked bytes.old 0 len }
+    ensures cleared { (k : ℕ) → len ≤ k → bit_of bytes.new k ≡ false }
+{
+    if len % 8 != 0 {
+        bytes[len / 8] = low_bits(bytes[len / 8], len % 8);
+    }
 }
 
 // Writes the eight bytes of a word from byte `first` on.

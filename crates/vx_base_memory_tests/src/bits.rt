@@ -52,7 +52,7 @@ fn bits_that_are_made(rt: HostRuntime) -> Result<(), End> {
     judged(made(rt.alloc()), true)
 }
 
-// `BitBuffer::slice`, `BitBuffer::try_clone` and `BitBuffer::and`.
+// `BitBuffer::slice`, `BitBuffer::try_clone`, `BitBuffer::and` and `BitBuffer::and_zero_padded`.
 fn joined(alloc: Global, given: &Given) -> Result<bool, VortexError> {
     let bits = &given.bits;
     if bits.len() != 3 {
@@ -61,12 +61,14 @@ fn joined(alloc: Global, given: &Given) -> Result<bool, VortexError> {
     let last = bits.slice(alloc, 1..3)?;
     let shared = bits.try_clone(alloc)?;
     let both = bits.and(alloc, bits)?;
+    let padded = bits.and_zero_padded(alloc, bits)?;
     Ok(
         last.len() == 2
             && last.value(1)
             && !last.value(0)
             && shared == *bits
-            && are_three(&both, true, false, true),
+            && are_three(&both, true, false, true)
+            && are_three(&padded, true, false, true),
     )
 }
 
