@@ -367,8 +367,7 @@ fn valid_views(
 }
 
 // The same: those between the runs of rows that are true are made empty where they lie, or in a
-// copy where another buffer shares the views. To test each row instead takes longer, 3.9 ns a row
-// beside 3.1 where one row in four is null: a processor guesses that branch wrong.
+// copy where another buffer shares the views.
 fn masked_views(
     alloc: Global,
     views: Buffer<BinaryView>,

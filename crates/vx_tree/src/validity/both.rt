@@ -1,9 +1,10 @@
 // Rows that are valid in both of two validities.
 
-ghost use Rattle.std.specs.Prelude.{◌≡◌, ℕ, false, IfOk, IfSome};
+ghost use Rattle.std.specs.Prelude.{◌≡◌, ℕ, false, length, IfOk, IfSome};
+ghost use Rattle.vx_base.specs.Bits.{both};
 ghost use Rattle.vx_base.specs.Kinds.{booleans};
 ghost use Rattle.vx_base.specs.Refusals.{Gives, Refuses};
-ghost use Rattle.vx_tree.specs.Tree.{bools, by_array, non_nullable};
+ghost use Rattle.vx_tree.specs.Tree.{by_array};
 ghost use Rattle.vx_tree.specs.Shapes.{state_of};
 ghost use Rattle.vx_tree.specs.Meaning.{tree_len, kind_of};
 ghost use Rattle.vx_tree.specs.Formed.{IsLenOf};
@@ -14,10 +15,10 @@ ghost use Rattle.vx_tree.specs.Validities.{pair_of, both_pairs, both_states, and
 use crate::array::{ArrayRef, Validity};
 use crate::validity::{constant_truth, told_by};
 use std::alloc::Global;
-use vx_base::{BitBuffer, BitBufferMut, VortexError};
+use vx_base::{BitBuffer, VortexError};
 
 // What becomes of the bits after the last row, where two arrays are joined by their bits.
-#[derive(Clone, Copy)]
+#[derive(Drop)]
 enum LastByte {
     Kept,
     Cleared,
@@ -119,31 +120,23 @@ fn bits_and(
     }
     let mine = array.plain_bits(alloc)?;
     let theirs = other.plain_bits(alloc)?;
-    told_with(alloc, mine.and(alloc, &theirs)?, last)
+    told_by(alloc, joined_bits(alloc, &mine, &theirs, last)?)
 }
 
-// Valid where the bit is set, with the last byte kept or cleared.
-fn told_with(alloc: Global, bits: BitBuffer, last: LastByte) -> Result<Validity, VortexError>
-    ensures { Gives result (λ w. valid_of w ≡ by_array (bools bits.bits non_nullable)) }
+// The bits that are set in both, with the last byte kept or cleared.
+fn joined_bits(
+    alloc: Global,
+    mine: &BitBuffer,
+    theirs: &BitBuffer,
+    last: LastByte,
+) -> Result<BitBuffer, VortexError>
+    requires { length mine.now.bits ≡ length theirs.now.bits }
+    ensures { Gives result (λ b. b.bits ≡ both mine.now.bits theirs.now.bits) }
 {
     match last {
-        LastByte::Kept => told_by(alloc, bits),
-        LastByte::Cleared => told_by(alloc, cleared(alloc, &bits)?),
+        LastByte::Kept => mine.and(alloc, theirs),
+        LastByte::Cleared => mine.and_zero_padded(alloc, theirs),
     }
-}
-
-// The booleans in bits of their own, with none set after the last.
-fn cleared(alloc: Global, bits: &BitBuffer) -> Result<BitBuffer, VortexError>
-    ensures { Gives result (λ b. b.bits ≡ bits.now.bits) }
-{
-    let len = bits.len();
-    let whole = len - len % 8;
-    let mut copy = BitBufferMut::with_capacity(alloc, len)?;
-    copy.append_slice(bits, 0, whole)?;
-    for i in whole..len {
-        copy.append(bits.value(i))?;
-    }
-    copy.freeze()
 }
 
 // The same of one value for all rows: the other array, or a constant false.

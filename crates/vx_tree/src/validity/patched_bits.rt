@@ -58,8 +58,8 @@ impl PatchedBits {
     }
 }
 
-// Writes bit `k` of the bytes. The byte is chosen and then written once, so that no branch is taken
-// by the value: a processor guesses such branches wrong where the values look random.
+// Writes bit `k` of the bytes. The byte is chosen by the value and then written once, which lets a
+// compiler do without a branch.
 #[inline]
 fn put_bit(bytes: &mut [u8], k: usize, value: bool)
     requires { k / 8 < length bytes.old }

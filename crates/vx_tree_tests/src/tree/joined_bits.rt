@@ -8,15 +8,16 @@ use std::process::Abort;
 use vx_base::{BitBuffer, BitBufferMut, Mask, VortexError};
 use vx_tree::{IntoArray, Layout, Validity};
 
-// 320 bits without a pattern, and then 160 that are set.
+// 320 bits without a pattern, then 160 that are set, and 160 that are not.
 fn noise(alloc: Global) -> Result<BitBuffer, VortexError> {
-    let mut bits = BitBufferMut::with_capacity(alloc, 480)?;
+    let mut bits = BitBufferMut::with_capacity(alloc, 640)?;
     let mut state = 1u32;
     for _ in 0..320 {
         state = state.wrapping_mul(1664525).wrapping_add(1013904223);
         bits.append(state >> 31 == 1)?;
     }
     bits.append_n(true, 160)?;
+    bits.append_n(false, 160)?;
     bits.freeze()
 }
 
@@ -104,13 +105,21 @@ fn expect_by_masks(
     Ok(())
 }
 
-// Where two arrays begin: both without a pattern, the second one all set, and both.
-const PLACES: [(usize, usize); 3] = [(0, 160), (0, 320), (320, 320)];
+// Where two arrays begin: both without a pattern, the second one alike throughout, and both.
+const PLACES: [(usize, usize); 7] = [
+    (0, 160),
+    (0, 320),
+    (0, 480),
+    (320, 320),
+    (320, 480),
+    (480, 320),
+    (480, 480),
+];
 
 #[test]
 fn bits_of_rows_valid_in_both(rt: HostRuntime) {
     let bits = noise(rt.alloc()).expect(&rt, "made");
-    for case in 0..192 {
+    for case in 0..448 {
         let (first, second) = PLACES[case / 64];
         let places = (first + case % 8, second + case / 8 % 8);
         expect_by_masks(&rt, rt.alloc(), &bits, places).expect(&rt, "joined");
