@@ -5,5 +5,6 @@ mod Fills
 mod FilledItems
 mod ItemArrays
 mod ItemFaults
+mod ShortTexts
 mod HeapCounts
 mod Rebuffering

@@ -12,6 +12,7 @@ ghost use Rattle.vx_text.specs.Items.{Item as ItemValue, item_fault, items_fault
 ghost use Rattle.vx_text.specs.Collected.{some_value, maybe_value, IsFirstFaulty, AreTooMany};
 
 use crate::filling::Filling;
+use crate::utf8::bytes_are_text;
 use crate::view_parts::is_utf8;
 use std::alloc::Global;
 use vx_base::{Buffer, ByteBuffer, DType, VortexError};
@@ -88,20 +89,6 @@ impl<'a> Item for Option<&'a str> {
             None => true,
         }
     }
-}
-
-// How long a value is at most that is read to its end, though its first byte may be faulty.
-const READ_WHOLE: usize = 1_024;
-
-// Whether bytes are text. Of short values bytes below 128 are told first, eight at a time, and then
-// the rest by blocks. Long ones are read no further than the first fault.
-fn bytes_are_text(bytes: &[u8]) -> bool
-    ensures { IsTrue result ↔ IsUtf8 bytes.now }
-{
-    if bytes.len() > READ_WHOLE {
-        return std::str::from_utf8(bytes).is_ok();
-    }
-    bytes.is_ascii() || simdutf8::is_utf8(bytes)
 }
 
 // Whether a `str` is text: its type says so, and no byte is looked at.

@@ -6,6 +6,7 @@ mod filling;
 mod from_items;
 mod items;
 mod rebuffer;
+mod utf8;
 mod var_bin_view;
 mod var_bin_view_data;
 mod var_bin_view_ext;

@@ -3,6 +3,7 @@
 mod iterated;
 mod parts;
 mod rebuffered;
+mod tested;
 mod views;
 
 use std::alloc::Global;

@@ -1,6 +1,0 @@
-use Rattle.std.proofs.Common.{rules}
-use Rattle.std.proofs.lemmas.Str.{IsUtf8-from_ascii}
-use Rattle.vx_text.proofs.items.bytes_are_text.Goals as goal
-
-pub returns-then-is_ascii : goal.returns-then-is_ascii
-returns-then-is_ascii c = (λ h. IsUtf8-from_ascii c.args.bytes.now c.if-is_ascii.ensures.cases, λ h. search rules)
