@@ -1,8 +1,8 @@
 -- Valid rows laid end to end, one row after another.
-use Rattle.std.proofs.Common.{◌≡◌, ◌⊎◌, ⊎_elim, ℕ, zero, suc, ◌+◌, ◌-◌, ◌<◌, ◌≤◌, Bool, true, false, cond, List, [], ◌∷◌, ◌++◌, length, take, replicate, get_or, sum, refl, sym, ◌∙◌, ap, subst, zero-add, add-one, arith}
+use Rattle.std.proofs.Common.{◌≡◌, ◌⊎◌, ⊎_elim, ℕ, zero, suc, ◌+◌, ◌-◌, ◌<◌, ◌≤◌, Bool, true, false, cond, List, [], ◌∷◌, ◌++◌, length, take, replicate, get_or, sum, min, refl, sym, ◌∙◌, ap, subst, zero-add, add-one, arith}
 use Rattle.std.specs.Prelude.{count_by}
 use Rattle.std.specs.List.{All, flat_map, range_with_len}
-use Rattle.std.proofs.lemmas.List.{append_assoc, append-nil, length-append, take_all}
+use Rattle.std.proofs.lemmas.List.{append_assoc, append-nil, length-append, length-take, take_all}
 use Rattle.std.proofs.lemmas.List.Concat.{flat_map-append}
 use Rattle.std.proofs.lemmas.List.Elements.{All-nil, All-push}
 use Rattle.std.proofs.lemmas.List.FromFn.{length-range_with_len}
@@ -91,12 +91,64 @@ pub joined_positions-more : (offsets sizes : List ℕ) (i : ℕ) → length size
     → joined_positions (take (i + 1) offsets) (take (i + 1) sizes) ≡ joined_positions (take i offsets) (take i sizes) ++ range_with_len (get_or offsets i 0) (get_or sizes i 0)
 joined_positions-more offsets sizes i same_len inside = rw add-one (joined_positions-next offsets sizes i same_len inside)
 
+-- ---- those that are pushed, and a range that may grow
+
+pub record ArePushed (offsets sizes : List ℕ) (rows : ℕ) (pushed : List ℕ) (start end : ℕ) : Type 0 where
+  pub forward : start ≤ end
+  pub joined : pushed ++ range_with_len start (end - start) ≡ joined_positions (take rows offsets) (take rows sizes)
+
+module _ (offsets sizes : List ℕ) (i : ℕ) (pushed : List ℕ) (start end : ℕ) (same_len : length sizes ≡ length offsets) (inside : i < length offsets) (so_far : ArePushed offsets sizes i pushed start end) where
+  -- a list that begins where the range ends, or has no element, makes it longer
+  ArePushed-grown : (end' : ℕ) → end' ≡ end + get_or sizes i 0 → (get_or offsets i 0 ≡ end) ⊎ (get_or sizes i 0 ≡ 0) → ArePushed offsets sizes (i + 1) pushed start end'
+  ArePushed-grown end' grown meets =
+      let offset : ℕ = get_or offsets i 0 in
+      let size : ℕ = get_or sizes i 0 in
+      let low : start ≤ end = so_far.forward in
+      let here : range_with_len end size ≡ range_with_len offset size = ⊎_elim (λ (at : offset ≡ end). ap (λ k. range_with_len k size) (sym at)) (λ (none : size ≡ 0). ap (range_with_len end) none ∙ sym (ap (range_with_len offset) none)) meets in
+      let place : start + (end - start) ≡ end = omega arith in
+      let count : end' - start ≡ (end - start) + size = omega arith in
+      let longer : range_with_len start (end' - start) ≡ range_with_len start (end - start) ++ range_with_len offset size =
+      ap (range_with_len start) count ∙ sym (range_append start (end - start) size) ∙ ap (λ k. range_with_len start (end - start) ++ range_with_len k size) place ∙ ap (λ ps. range_with_len start (end - start) ++ ps) here in
+      record {
+        forward = omega arith;
+        joined = ap (λ ps. pushed ++ ps) longer ∙ sym (append_assoc pushed (range_with_len start (end - start)) (range_with_len offset size))
+            ∙ ap (λ ps. ps ++ range_with_len offset size) so_far.joined ∙ sym (joined_positions-more offsets sizes i same_len inside);
+      }
+
+  pub ArePushed-grow : (pushed' : List ℕ) (start' end' : ℕ) → pushed' ≡ pushed → start' ≡ start → end' ≡ end + get_or sizes i 0 → (get_or offsets i 0 ≡ end) ⊎ (get_or sizes i 0 ≡ 0) → ArePushed offsets sizes (i + 1) pushed' start' end'
+  ArePushed-grow pushed' start' end' same_pushed same_start grown meets = rw (same_pushed, same_start) (ArePushed-grown end' grown meets)
+
+  -- any other begins a range, once that one is pushed
+  ArePushed-begun : (pushed' : List ℕ) (end' : ℕ) → pushed' ≡ pushed ++ range_with_len start (end - start) → end' ≡ get_or offsets i 0 + get_or sizes i 0 → ArePushed offsets sizes (i + 1) pushed' (get_or offsets i 0) end'
+  ArePushed-begun pushed' end' more end_is =
+      let offset : ℕ = get_or offsets i 0 in
+      let size : ℕ = get_or sizes i 0 in
+      let count : end' - offset ≡ size = omega arith in
+      record {
+        forward = omega arith;
+        joined = ap (λ ps. ps ++ range_with_len offset (end' - offset)) (more ∙ so_far.joined)
+            ∙ ap (λ n. joined_positions (take i offsets) (take i sizes) ++ range_with_len offset n) count ∙ sym (joined_positions-more offsets sizes i same_len inside);
+      }
+
+  pub ArePushed-next : (pushed' : List ℕ) (start' end' : ℕ) → pushed' ≡ pushed ++ range_with_len start (end - start) → start' ≡ get_or offsets i 0 → end' ≡ get_or offsets i 0 + get_or sizes i 0 → ArePushed offsets sizes (i + 1) pushed' start' end'
+  ArePushed-next pushed' start' end' more same_start end_is = rw same_start (ArePushed-begun pushed' end' more end_is)
+
+module _ (offsets sizes : List ℕ) (rows : ℕ) (pushed : List ℕ) (start end : ℕ) (same_len : length sizes ≡ length offsets) (so_far : ArePushed offsets sizes rows pushed start end) where
+  -- they are no more than the lists have elements
+  pub length-pushed : length pushed + (end - start) ≤ sum sizes
+  length-pushed =
+      let same : length (take rows sizes) ≡ length (take rows offsets) = length-take rows sizes ∙ ap (min rows) same_len ∙ sym (length-take rows offsets) in
+      omega (arith, ap length so_far.joined, length-append pushed (range_with_len start (end - start)), length-range_with_len start (end - start), length-joined_positions (take rows offsets) (take rows sizes) same, sum-take-le sizes rows)
+
+  pub ArePushed-all : length offsets ≤ rows → pushed ++ range_with_len start (end - start) ≡ joined_positions offsets sizes
+  ArePushed-all all =
+      so_far.joined ∙ ap (λ os. joined_positions os (take rows sizes)) (take_all rows offsets all) ∙ ap (joined_positions offsets) (take_all rows sizes (omega arith))
+
 -- ---- runs of them, the last of which may grow
 
 pub record AreRuns (offsets sizes : List ℕ) (rows : ℕ) (runs : List (ℕ × ℕ)) (start end : ℕ) : Type 0 where
-  pub forward : start ≤ end
+  pub pushed : ArePushed offsets sizes rows (flat_map run_positions runs) start end
   pub within : (n : ℕ) → EndWithin offsets sizes n → All (IsRunWithin n) runs × (end ≤ n)
-  pub joined : flat_map run_positions runs ++ range_with_len start (end - start) ≡ joined_positions (take rows offsets) (take rows sizes)
 
 -- one run more
 runs_push : (runs runs' : List (ℕ × ℕ)) (start end : ℕ) → runs' ≡ runs ++ (start, end) ∷ [] → flat_map run_positions runs' ≡ flat_map run_positions runs ++ range_with_len start (end - start)
@@ -110,56 +162,31 @@ runs_within runs runs' start end n pushed forward within =
 
 pub AreRuns-none : (offsets sizes : List ℕ) → AreRuns offsets sizes 0 [] 0 0
 AreRuns-none offsets sizes = record {
-  forward = omega arith;
+  pushed = record { forward = omega arith; joined = refl };
   within = λ n ends. (All-nil (IsRunWithin n), omega arith);
-  joined = refl;
 }
 
 module _ (offsets sizes : List ℕ) (i : ℕ) (runs : List (ℕ × ℕ)) (start end : ℕ) (same_len : length sizes ≡ length offsets) (inside : i < length offsets) (so_far : AreRuns offsets sizes i runs start end) where
   -- a list that begins where the last run ends, or has no element, makes it longer
-  AreRuns-grown : (end' : ℕ) → end' ≡ end + get_or sizes i 0 → (get_or offsets i 0 ≡ end) ⊎ (get_or sizes i 0 ≡ 0) → AreRuns offsets sizes (i + 1) runs start end'
-  AreRuns-grown end' grown meets =
-      let offset : ℕ = get_or offsets i 0 in
-      let size : ℕ = get_or sizes i 0 in
-      let low : start ≤ end = so_far.forward in
-      let here : range_with_len end size ≡ range_with_len offset size = ⊎_elim (λ (at : offset ≡ end). ap (λ k. range_with_len k size) (sym at)) (λ (none : size ≡ 0). ap (range_with_len end) none ∙ sym (ap (range_with_len offset) none)) meets in
-      let place : start + (end - start) ≡ end = omega arith in
-      let count : end' - start ≡ (end - start) + size = omega arith in
-      let longer : range_with_len start (end' - start) ≡ range_with_len start (end - start) ++ range_with_len offset size =
-      ap (range_with_len start) count ∙ sym (range_append start (end - start) size) ∙ ap (λ k. range_with_len start (end - start) ++ range_with_len k size) place ∙ ap (λ ps. range_with_len start (end - start) ++ ps) here in
-      record {
-        forward = omega arith;
-        within = λ n ends. (
-          (so_far.within n ends).0,
-          ⊎_elim (λ (at : offset ≡ end). omega (arith, ends i inside)) (λ (none : size ≡ 0). omega (arith, (so_far.within n ends).1)) meets,
-        );
-        joined = ap (λ ps. flat_map run_positions runs ++ ps) longer ∙ sym (append_assoc (flat_map run_positions runs) (range_with_len start (end - start)) (range_with_len offset size))
-            ∙ ap (λ ps. ps ++ range_with_len offset size) so_far.joined ∙ sym (joined_positions-more offsets sizes i same_len inside);
-      }
-
   pub AreRuns-grow : (runs' : List (ℕ × ℕ)) (start' end' : ℕ) → runs' ≡ runs → start' ≡ start → end' ≡ end + get_or sizes i 0 → (get_or offsets i 0 ≡ end) ⊎ (get_or sizes i 0 ≡ 0) → AreRuns offsets sizes (i + 1) runs' start' end'
-  AreRuns-grow runs' start' end' same_runs same_start grown meets = rw (same_runs, same_start) (AreRuns-grown end' grown meets)
+  AreRuns-grow runs' start' end' same_runs same_start grown meets = record {
+    pushed = ArePushed-grow offsets sizes i (flat_map run_positions runs) start end same_len inside so_far.pushed (flat_map run_positions runs') start' end' (ap (flat_map run_positions) same_runs) same_start grown meets;
+    within = λ n ends. (
+      subst (All (IsRunWithin n)) (sym same_runs) (so_far.within n ends).0,
+      ⊎_elim (λ (at : get_or offsets i 0 ≡ end). omega (arith, ends i inside)) (λ (none : get_or sizes i 0 ≡ 0). omega (arith, (so_far.within n ends).1)) meets,
+    );
+  }
 
   -- any other begins a run
-  AreRuns-begun : (runs' : List (ℕ × ℕ)) (end' : ℕ) → runs' ≡ runs ++ (start, end) ∷ [] → end' ≡ get_or offsets i 0 + get_or sizes i 0 → AreRuns offsets sizes (i + 1) runs' (get_or offsets i 0) end'
-  AreRuns-begun runs' end' pushed end_is =
-      let offset : ℕ = get_or offsets i 0 in
-      let size : ℕ = get_or sizes i 0 in
-      let count : end' - offset ≡ size = omega arith in
-      record {
-        forward = omega arith;
-        within = λ n ends. (runs_within runs runs' start end n pushed so_far.forward (so_far.within n ends), omega (arith, ends i inside));
-        joined = ap (λ ps. ps ++ range_with_len offset (end' - offset)) (runs_push runs runs' start end pushed ∙ so_far.joined)
-            ∙ ap (λ n. joined_positions (take i offsets) (take i sizes) ++ range_with_len offset n) count ∙ sym (joined_positions-more offsets sizes i same_len inside);
-      }
-
   pub AreRuns-next : (runs' : List (ℕ × ℕ)) (start' end' : ℕ) → runs' ≡ runs ++ (start, end) ∷ [] → start' ≡ get_or offsets i 0 → end' ≡ get_or offsets i 0 + get_or sizes i 0 → AreRuns offsets sizes (i + 1) runs' start' end'
-  AreRuns-next runs' start' end' pushed same_start end_is = rw same_start (AreRuns-begun runs' end' pushed end_is)
+  AreRuns-next runs' start' end' more same_start end_is = record {
+    pushed = ArePushed-next offsets sizes i (flat_map run_positions runs) start end same_len inside so_far.pushed (flat_map run_positions runs') start' end' (runs_push runs runs' start end more) same_start end_is;
+    within = λ n ends. (runs_within runs runs' start end n more so_far.pushed.forward (so_far.within n ends), omega (arith, ends i inside));
+  }
 
 pub AreRuns-all : (offsets sizes : List ℕ) (rows : ℕ) (runs runs' : List (ℕ × ℕ)) (start end : ℕ) → length sizes ≡ length offsets → length offsets ≤ rows → AreRuns offsets sizes rows runs start end → runs' ≡ runs ++ (start, end) ∷ []
     → AreListRuns offsets sizes runs'
 AreRuns-all offsets sizes rows runs runs' start end same_len all so_far pushed = record {
-  positions = runs_push runs runs' start end pushed ∙ so_far.joined
-      ∙ ap (λ os. joined_positions os (take rows sizes)) (take_all rows offsets all) ∙ ap (joined_positions offsets) (take_all rows sizes (omega arith));
-  within = λ n ends. runs_within runs runs' start end n pushed so_far.forward (so_far.within n ends);
+  positions = runs_push runs runs' start end pushed ∙ ArePushed-all offsets sizes rows (flat_map run_positions runs) start end same_len so_far.pushed all;
+  within = λ n ends. runs_within runs runs' start end n pushed so_far.pushed.forward (so_far.within n ends);
 }

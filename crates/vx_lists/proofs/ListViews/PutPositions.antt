@@ -57,11 +57,3 @@ list_put offsets sizes xs new i at offset size same_len inside offset_is size_is
     let before : List ℕ = joined_positions (take i offsets) (take i sizes) in
     put ∙ ap (λ ps. ps ++ range_with_len offset size) so_far ∙ ap (λ k. before ++ range_with_len k size) offset_is
     ∙ ap (λ n. before ++ range_with_len (get_or offsets i 0) n) size_is ∙ sym (joined_positions-more offsets sizes i same_len inside)
-
-pub list_pushed : (offsets sizes xs new : List ℕ) (i offset size : ℕ) → length sizes ≡ length offsets → i < length offsets → offset ≡ get_or offsets i 0 → size ≡ get_or sizes i 0
-    → xs ≡ joined_positions (take i offsets) (take i sizes) → new ≡ xs ++ range_with_len offset (offset + size - offset) → new ≡ joined_positions (take (i + 1) offsets) (take (i + 1) sizes)
-list_pushed offsets sizes xs new i offset size same_len inside offset_is size_is so_far pushed =
-    let count : offset + size - offset ≡ size = omega arith in
-    let before : List ℕ = joined_positions (take i offsets) (take i sizes) in
-    pushed ∙ ap (λ n. xs ++ range_with_len offset n) count ∙ ap (λ ps. ps ++ range_with_len offset size) so_far ∙ ap (λ k. before ++ range_with_len k size) offset_is
-    ∙ ap (λ n. before ++ range_with_len (get_or offsets i 0) n) size_is ∙ sym (joined_positions-more offsets sizes i same_len inside)

@@ -1,10 +1,12 @@
 // The positions of the elements of lists, one list after another. Eight are written at once, with no
-// branch on the size, and those past the end of a list are written over by the next.
+// branch on the size, and those past the end of a list are written over by the next. Where few lists
+// have elements, or there are very many positions, those of lists that meet are pushed together.
 
-ghost use Rattle.std.specs.Prelude.{ℕ, ◌≡◌, ◌+◌, ◌-◌, ◌<◌, ◌≤◌, ◌^◌, ◌++◌, length, sum, take};
+ghost use Rattle.std.specs.Prelude.{ℕ, ◌≡◌, ◌+◌, ◌-◌, ◌/◌, ◌<◌, ◌≤◌, ◌^◌, ◌++◌, [], length, sum, take, count_by, nat_lt};
 ghost use Rattle.std.specs.List.{range_with_len};
+ghost use Rattle.std.specs.Vec.{vec_len, vec_capacity};
 ghost use Rattle.vx_base.specs.Refusals.{Gives};
-ghost use Rattle.vx_lists.specs.ListViews.CountBytes.{counts_of};
+ghost use Rattle.vx_lists.specs.ListViews.CountBytes.{counts_of, AreCountBytes};
 ghost use Rattle.vx_lists.specs.ListViews.Layout.{joined_positions};
 ghost use Rattle.vx_lists.specs.ListViews.PlannedRuns.{AreListBytes};
 
@@ -15,8 +17,8 @@ use vx_base::{NativePType, PType, VortexError, call_native, number_count};
 // How many positions are written at once.
 const AT_ONCE: usize = 8;
 
-// More positions than these, of 8 bytes each, leave the cache before they are written over: memory
-// for them is not cleared first.
+// More positions than these, of 8 bytes each, leave the cache before they are written over: to clear
+// memory for them takes as long as eight at once save.
 const MANY: usize = 1 << 19;
 
 // The positions of the elements of these lists, `count` in all.
@@ -68,8 +70,7 @@ fn typed_positions<O: NativePType, S: NativePType>(
     ensures { Gives result (λ positions. positions.items
         ≡ joined_positions (counts_of O.PTYPE offsets.now) (counts_of S.PTYPE sizes.now)) }
 {
-    // Where most lists are empty, eight for each would be too many.
-    if count < number_count(sizes, S::PTYPE) || count > MANY {
+    if count > MANY || few_have_elements::<S>(sizes) {
         return pushed_positions::<O, S>(alloc, offsets, sizes, count);
     }
     let mut positions = vec![in alloc; 0usize; count]?;
@@ -77,37 +78,82 @@ fn typed_positions<O: NativePType, S: NativePType>(
     Ok(positions)
 }
 
-// The same, pushed one by one.
+// Whether less than a quarter of the lists have elements, so that eight positions for each list
+// would be too many.
+fn few_have_elements<S: NativePType>(sizes: &[u8]) -> bool
+    requires { AreCountBytes S.PTYPE sizes.now }
+    ensures { result ≡ nat_lt (count_by (λ n. nat_lt 0 n) (counts_of S.PTYPE sizes.now))
+        (length (counts_of S.PTYPE sizes.now) / 4) }
+{
+    let mut filled = 0;
+    let lists = number_count(sizes, S::PTYPE);
+    for row in 0..lists {
+        if 0 < count_of_bytes::<S>(sizes, row) {
+            filled += 1;
+        }
+    }
+    filled < lists / 4
+}
+
+// The same positions, pushed: those of lists that meet together.
 fn pushed_positions<O: NativePType, S: NativePType>(
     alloc: Global,
     offsets: &[u8],
     sizes: &[u8],
     count: usize,
 ) -> Result<Vec<usize>, VortexError>
-    requires { AreListBytes O.PTYPE offsets.now S.PTYPE sizes.now }
+    requires lists { AreListBytes O.PTYPE offsets.now S.PTYPE sizes.now }
+    requires count { count ≡ sum (counts_of S.PTYPE sizes.now) }
     ensures { Gives result (λ positions. positions.items
         ≡ joined_positions (counts_of O.PTYPE offsets.now) (counts_of S.PTYPE sizes.now)) }
 {
     let mut positions = Vec::with_capacity(alloc, count)?;
-    for row in 0..number_count(offsets, O::PTYPE) {
-        let start = count_of_bytes::<O>(offsets, row);
-        let size = count_of_bytes::<S>(sizes, row);
-        push_list(&mut positions, start, start + size)?;
-    }
+    push_lists::<O, S>(offsets, sizes, &mut positions);
     Ok(positions)
 }
 
-// Pushes the positions from `start` up to `end`.
+// Pushes the positions of the elements of these lists. Not inlined, for the same reason as
+// `put_lists`.
+#[inline(never)]
+fn push_lists<O: NativePType, S: NativePType>(
+    offsets: &[u8],
+    sizes: &[u8],
+    positions: &mut Vec<usize>,
+)
+    requires lists { AreListBytes O.PTYPE offsets.now S.PTYPE sizes.now }
+    requires empty { positions.old.items ≡ [] }
+    requires room { sum (counts_of S.PTYPE sizes.now) ≤ vec_capacity positions.old }
+    ensures { positions.new.items
+        ≡ joined_positions (counts_of O.PTYPE offsets.now) (counts_of S.PTYPE sizes.now) }
+{
+    let mut start = 0;
+    let mut end = 0;
+    for row in 0..number_count(offsets, O::PTYPE) {
+        let offset = count_of_bytes::<O>(offsets, row);
+        let size = count_of_bytes::<S>(sizes, row);
+        let meets = size == 0 || offset == end;
+        if meets {
+            end += size;
+        } else {
+            push_range(positions, start, end);
+            start = offset;
+            end = offset + size;
+        }
+    }
+    push_range(positions, start, end);
+}
+
+// Pushes the positions from `start` up to `end`, for which there is room.
 #[inline]
-fn push_list(positions: &mut Vec<usize>, start: usize, end: usize) -> Result<(), VortexError>
-    requires { start ≤ end }
-    ensures { Gives result (λ _.
-        positions.new.items ≡ positions.old.items ++ range_with_len start (end - start)) }
+fn push_range(positions: &mut Vec<usize>, start: usize, end: usize)
+    requires ordered { start ≤ end }
+    requires room { vec_len positions.old + (end - start) ≤ vec_capacity positions.old }
+    ensures items { positions.new.items ≡ positions.old.items ++ range_with_len start (end - start) }
+    ensures capacity { vec_capacity positions.new ≡ vec_capacity positions.old }
 {
     for position in start..end {
-        positions.push(position)?;
+        positions.push_reserved(position);
     }
-    Ok(())
 }
 
 // Writes the positions of the elements of these lists. Not inlined, so that the loop stands by
