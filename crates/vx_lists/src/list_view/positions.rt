@@ -70,7 +70,8 @@ fn typed_positions<O: NativePType, S: NativePType>(
     ensures { Gives result (λ positions. positions.items
         ≡ joined_positions (counts_of O.PTYPE offsets.now) (counts_of S.PTYPE sizes.now)) }
 {
-    if count > MANY || few_have_elements::<S>(sizes) {
+    let lists = number_count(sizes, S::PTYPE);
+    if count < lists || count > MANY || few_have_elements::<S>(sizes) {
         return pushed_positions::<O, S>(alloc, offsets, sizes, count);
     }
     let mut positions = vec![in alloc; 0usize; count]?;
