@@ -1,12 +1,13 @@
-// Lists of texts and of records that lie anywhere, laid end to end at once and run by run: each
-// element is the one that a loop over the offsets and the sizes comes to.
+// Lists of texts and of records that lie anywhere or one after another, laid end to end at once and
+// run by run: each element is the one that a loop over the offsets and the sizes comes to.
 
 ghost use Rattle.std.specs.Prelude.{◌≤◌};
 
 use super::has_ranges;
 use std::alloc::Global;
 use std::process::Abort;
-use vx_base::{FieldNames, NativePType, PType, VortexError, call_native};
+use vx_base::{FieldNames, NativePType, Nullability, PType, Scalar, VortexError, call_native};
+use vx_leaves::DictArray;
 use vx_lists::{ListViewArray, StructArray, StructArrayExt};
 use vx_test_help::{ints, valid_where};
 use vx_text::VarBinViewArray;
@@ -298,12 +299,22 @@ fn are_laid_out(
     types: usize,
 ) -> Result<bool, VortexError> {
     let given = lists.over(alloc, first(alloc, elements, count)?, types)?;
+    are_rebuilt(alloc, &given, &elements.words, lists)
+}
+
+// Whether the given lists do, taken at once and copied run by run, with the same types.
+fn are_rebuilt(
+    alloc: Global,
+    given: &ListViewArray,
+    words: &[String],
+    lists: &Lists,
+) -> Result<bool, VortexError> {
     let taken = given.rebuild_by_take(alloc)?;
     let copied = given.rebuild_by_runs(alloc)?;
     Ok(
         are_of_one_type(&taken, &copied)
-            && is_laid_out(alloc, &taken, &elements.words, lists)?
-            && is_laid_out(alloc, &copied, &elements.words, lists)?,
+            && is_laid_out(alloc, &taken, words, lists)?
+            && is_laid_out(alloc, &copied, words, lists)?,
     )
 }
 
@@ -420,5 +431,317 @@ fn records_of_lists_and_nulls(rt: HostRuntime) {
     for case in 0..32u8 {
         let count = COUNTS[case as usize / 4];
         expect_rows(&rt, rt.alloc(), &elements, count, case % 4).expect(&rt, "laid out");
+    }
+}
+
+// ---- lists one after another
+
+// Where a list of this size begins that lies behind the last one, or where it would go past the last
+// of `count` elements, with the first.
+fn next_offset(lists: &Lists, size: u8, count: u8) -> u8
+    requires { size ≤ count }
+    ensures { result ≤ count }
+{
+    let (Some(offset), Some(last)) = (lists.offsets.last(), lists.sizes.last()) else {
+        return 0;
+    };
+    let end = *offset as usize + *last as usize;
+    if end + size as usize <= count as usize {
+        end as u8
+    } else {
+        0
+    }
+}
+
+// One more list of this size, one after another or anywhere.
+fn push_placed(
+    lists: &mut Lists,
+    state: &mut u32,
+    size: u8,
+    is_next: bool,
+) -> Result<(), VortexError> {
+    let size = size.min(COUNT);
+    if !is_next {
+        return push_anywhere(lists, state, size, COUNT, true);
+    }
+    let offset = next_offset(lists, size, COUNT);
+    lists.push(offset, size, true)
+}
+
+// ---- few lists that have elements
+
+// So many lists, of which every fourth has elements until so many have.
+fn sparse_lists(
+    alloc: Global,
+    state: &mut u32,
+    rows: usize,
+    filled: usize,
+    is_next: bool,
+) -> Result<Lists, VortexError> {
+    let mut lists = Lists::new(alloc);
+    for row in 0..rows {
+        let has_elements = row % 4 == 0 && row / 4 < filled;
+        let size = if has_elements {
+            number_up_to(state, 20).max(1)
+        } else {
+            0
+        };
+        push_placed(&mut lists, state, size, is_next)?;
+    }
+    Ok(lists)
+}
+
+// Stops unless so many lists lie end to end, where a quarter of them have elements, one fewer and
+// one more.
+fn expect_sparse(
+    rt: &impl Abort,
+    alloc: Global,
+    elements: &Elements,
+    rows: usize,
+) -> Result<(), VortexError> {
+    let mut state = rows as u32;
+    for case in 0..6 {
+        let filled = (rows / 4 + case / 2).saturating_sub(1);
+        let lists = sparse_lists(alloc, &mut state, rows, filled, case % 2 == 0)?;
+        assert!(rt;
+            are_laid_out(alloc, elements, COUNT, &lists, rows + case)?,
+            "{rows} lists, {filled} of them with elements"
+        );
+    }
+    Ok(())
+}
+
+// How many lists there are: a few, and some hundreds.
+const ROWS: [usize; 12] = [1, 3, 4, 5, 7, 8, 9, 16, 399, 400, 401, 403];
+
+#[test]
+fn texts_of_few_lists(rt: HostRuntime) {
+    let elements = texts(rt.alloc()).expect(&rt, "made");
+    for rows in ROWS {
+        expect_sparse(&rt, rt.alloc(), &elements, rows).expect(&rt, "laid out");
+    }
+}
+
+#[test]
+fn records_of_few_lists(rt: HostRuntime) {
+    let elements = records(rt.alloc()).expect(&rt, "made");
+    for rows in ROWS {
+        expect_sparse(&rt, rt.alloc(), &elements, rows).expect(&rt, "laid out");
+    }
+}
+
+// ---- very many positions
+
+// How many positions are written eight at once at most.
+const MANY: usize = 1 << 19;
+
+// Lists of up to twenty elements, `total` in all, where rows enough are asked for.
+fn many_lists(
+    alloc: Global,
+    state: &mut u32,
+    total: usize,
+    is_next: bool,
+) -> Result<Lists, VortexError> {
+    let mut lists = Lists::new(alloc);
+    let mut left = total;
+    for _ in 0..total {
+        if left == 0 {
+            break;
+        }
+        let size = left.min(number_up_to(state, 20) as usize);
+        push_placed(&mut lists, state, size as u8, is_next)?;
+        left -= size;
+    }
+    Ok(lists)
+}
+
+// Whether the array has the numbers of these elements, read where they lie.
+fn has_bytes_of(array: &ArrayRef, places: &[usize]) -> bool {
+    let Layout::Primitive { bytes, .. } = array.layout() else {
+        return false;
+    };
+    let bytes = bytes.as_slice();
+    for (byte, place) in bytes.iter().zip(places.iter()) {
+        if *byte as usize != *place {
+            return false;
+        }
+    }
+    bytes.len() == places.len()
+}
+
+// Whether every 64th row of the array has the text of its element.
+fn has_some_texts_of(array: &ArrayRef, words: &[String], places: &[usize]) -> bool {
+    for k in 0..places.len() / 64 {
+        let i = 64 * k;
+        let Some(word) = words.get(places[i]) else {
+            return false;
+        };
+        if array.bytes_at(i) != Some(word.as_bytes()) {
+            return false;
+        }
+    }
+    array.len() == places.len()
+}
+
+// Whether lists lie so, over texts or over records of a number and a text.
+fn has_many(
+    alloc: Global,
+    made: &ListViewArray,
+    words: &[String],
+    wanted: &LaidOut,
+) -> Result<bool, VortexError> {
+    let is_laid = made.is_zero_copy_to_list() && has_ranges(made, &wanted.ranges);
+    let places = &wanted.places;
+    if let Layout::VarBinView { .. } = made.elements().layout() {
+        return Ok(is_laid && has_some_texts_of(made.elements(), words, places));
+    }
+    let Ok(records) = StructArray::try_from_array(made.elements().try_clone(alloc)?) else {
+        return Ok(false);
+    };
+    let numbers = records.unmasked_field_by_name("number")?;
+    let texts = records.unmasked_field_by_name("text")?;
+    Ok(is_laid && has_bytes_of(numbers, places) && has_some_texts_of(texts, words, places))
+}
+
+// Stops unless the given lists lie so, taken at once and copied run by run.
+fn expect_many(
+    rt: &impl Abort,
+    alloc: Global,
+    given: &ListViewArray,
+    words: &[String],
+    wanted: &LaidOut,
+) -> Result<(), VortexError> {
+    let taken = given.rebuild_by_take(alloc)?;
+    let copied = given.rebuild_by_runs(alloc)?;
+    assert!(rt; are_of_one_type(&taken, &copied));
+    assert!(rt; has_many(alloc, &taken, words, wanted)?, "taken at once");
+    assert!(rt;
+        has_many(alloc, &copied, words, wanted)?,
+        "copied run by run"
+    );
+    Ok(())
+}
+
+// Stops unless lists of so many elements in all lie end to end.
+fn expect_total(
+    rt: &impl Abort,
+    alloc: Global,
+    elements: &Elements,
+    total: usize,
+    is_next: bool,
+) -> Result<(), VortexError> {
+    let mut state = total as u32;
+    let lists = many_lists(alloc, &mut state, total, is_next)?;
+    let wanted = LaidOut::new(alloc, &lists)?;
+    let places = wanted.places.len();
+    assert!(rt; places == total, "{places} elements, not {total}");
+    let given = lists.over(alloc, elements.array.try_clone(alloc)?, total)?;
+    expect_many(rt, alloc, &given, &elements.words, &wanted)
+}
+
+#[test]
+fn many_texts_one_after_another(rt: HostRuntime) {
+    let elements = texts(rt.alloc()).expect(&rt, "made");
+    expect_total(&rt, rt.alloc(), &elements, MANY + 1, true).expect(&rt, "laid out");
+}
+
+#[test]
+fn many_texts_anywhere(rt: HostRuntime) {
+    let elements = texts(rt.alloc()).expect(&rt, "made");
+    expect_total(&rt, rt.alloc(), &elements, MANY, false).expect(&rt, "laid out");
+}
+
+#[test]
+fn many_records_one_after_another(rt: HostRuntime) {
+    let elements = records(rt.alloc()).expect(&rt, "made");
+    expect_total(&rt, rt.alloc(), &elements, MANY, true).expect(&rt, "laid out");
+}
+
+#[test]
+fn many_records_anywhere(rt: HostRuntime) {
+    let elements = records(rt.alloc()).expect(&rt, "made");
+    expect_total(&rt, rt.alloc(), &elements, MANY + 1, false).expect(&rt, "laid out");
+}
+
+// ---- offsets and sizes of other layouts
+
+// These numbers, which are 250 at most, as values of a dictionary.
+fn coded(alloc: Global, items: &[u8]) -> Result<ArrayRef, VortexError> {
+    let mut values = Vec::new(alloc);
+    for value in 0..=COUNT {
+        values.push(value)?;
+    }
+    let codes = ints(alloc, items)?;
+    Ok(DictArray::try_new(alloc, codes, ints(alloc, &values)?)?.into_array())
+}
+
+// One number many times.
+fn repeated(alloc: Global, item: u8, rows: usize) -> Result<ArrayRef, VortexError> {
+    let item = Scalar::int(item as i128, PType::U8, Nullability::NonNullable);
+    ArrayRef::constant(alloc, item, rows)
+}
+
+// Stops unless lists lie end to end whose offsets and sizes are values of dictionaries.
+fn expect_coded(
+    rt: &impl Abort,
+    alloc: Global,
+    elements: &Elements,
+    lists: &Lists,
+) -> Result<(), VortexError> {
+    let (offsets, sizes) = (coded(alloc, &lists.offsets)?, coded(alloc, &lists.sizes)?);
+    let array = elements.array.try_clone(alloc)?;
+    let validity = valid_where(alloc, &lists.valid)?;
+    let given = ListViewArray::try_new(alloc, array, offsets, sizes, validity)?;
+    let is_right = are_rebuilt(alloc, &given, &elements.words, lists)?;
+    assert!(rt; is_right, "{} lists by codes", lists.lens.len());
+    Ok(())
+}
+
+#[test]
+fn lists_by_codes(rt: HostRuntime) {
+    let elements = texts(rt.alloc()).expect(&rt, "made");
+    let mut state = 5;
+    for rows in ROWS {
+        let many = lists_with_nulls(rt.alloc(), &mut state, rows, COUNT, 1).expect(&rt, "made");
+        expect_coded(&rt, rt.alloc(), &elements, &many).expect(&rt, "laid out");
+        let few = sparse_lists(rt.alloc(), &mut state, rows, 1, true).expect(&rt, "made");
+        expect_coded(&rt, rt.alloc(), &elements, &few).expect(&rt, "laid out");
+    }
+}
+
+// Stops unless lists that all have this size lie end to end.
+fn expect_repeated(
+    rt: &impl Abort,
+    alloc: Global,
+    elements: &Elements,
+    size: u8,
+    rows: usize,
+) -> Result<(), VortexError> {
+    let mut lists = Lists::new(alloc);
+    for _ in 0..rows {
+        lists.push(7, size, true)?;
+    }
+    let (offsets, sizes) = (repeated(alloc, 7, rows)?, repeated(alloc, size, rows)?);
+    let array = elements.array.try_clone(alloc)?;
+    let given = ListViewArray::try_new(alloc, array, offsets, sizes, Validity::NonNullable)?;
+    let wanted = LaidOut::new(alloc, &lists)?;
+    expect_many(rt, alloc, &given, &elements.words, &wanted)
+}
+
+#[test]
+fn lists_that_are_alike(rt: HostRuntime) {
+    let elements = records(rt.alloc()).expect(&rt, "made");
+    for rows in ROWS {
+        for size in SIZES {
+            expect_repeated(&rt, rt.alloc(), &elements, size, rows).expect(&rt, "laid out");
+        }
+    }
+}
+
+#[test]
+fn many_lists_that_are_alike(rt: HostRuntime) {
+    let elements = texts(rt.alloc()).expect(&rt, "made");
+    for more in 0..2 {
+        expect_repeated(&rt, rt.alloc(), &elements, 128, MANY / 128 + more).expect(&rt, "laid out");
     }
 }
