@@ -1,7 +1,7 @@
 // List views and lists of one size.
 
 use crate::rows::has_rows;
-use crate::samples::{first_and_last, ints, lists_of, lists_of_texts, pairs};
+use crate::samples::{first_and_last, ints, lists_of, lists_of_texts, mostly_empty_lists, pairs};
 use crate::typed::{is_same, typed};
 use std::alloc::Global;
 use vx_base::VortexError;
@@ -152,6 +152,44 @@ fn list_views_of_texts_that_are_rebuilt(rt: HostRuntime) -> Result<(), End> {
     let given: ListViewArray = typed(lists_of_texts(rt.alloc())?)?;
     let copy: ListViewArray = typed(lists_of_texts(rt.alloc())?)?;
     judged(rebuild_calls(rt.alloc(), &given), is_same(&given, &copy))
+}
+
+// Whether lists have the rows of eight given ones.
+fn has_eight(
+    alloc: Global,
+    some: &ListViewArray,
+    lists: &ListViewArray,
+) -> Result<bool, VortexError> {
+    let places = [
+        Some(0),
+        Some(1),
+        Some(2),
+        Some(3),
+        Some(4),
+        Some(5),
+        Some(6),
+        Some(7),
+    ];
+    has_rows(alloc, some.as_array(), lists.as_array(), &places)
+}
+
+// `ListViewArray::rebuild_by_take`, `ListViewArray::rebuild_by_runs` and `ListViewArray::rebuild`.
+fn eight_rebuilt(alloc: Global, lists: &ListViewArray) -> Result<bool, VortexError> {
+    let taken = lists.rebuild_by_take(alloc)?;
+    let runs = lists.rebuild_by_runs(alloc)?;
+    let made = lists.rebuild(alloc, ListViewRebuildMode::MakeExact)?;
+    Ok(
+        has_eight(alloc, &taken, lists)?
+            && has_eight(alloc, &runs, lists)?
+            && has_eight(alloc, &made, lists)?,
+    )
+}
+
+#[test]
+fn list_views_with_few_elements_that_are_rebuilt(rt: HostRuntime) -> Result<(), End> {
+    let given: ListViewArray = typed(mostly_empty_lists(rt.alloc())?)?;
+    let copy: ListViewArray = typed(mostly_empty_lists(rt.alloc())?)?;
+    judged(eight_rebuilt(rt.alloc(), &given), is_same(&given, &copy))
 }
 
 // The lists [1, 2], null, [5, 6].

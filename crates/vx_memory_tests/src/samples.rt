@@ -96,14 +96,25 @@ pub(crate) fn records(alloc: Global) -> Result<ArrayRef, VortexError> {
     Ok(records.into_array())
 }
 
-// Such lists of four texts.
-pub(crate) fn lists_of_texts(alloc: Global) -> Result<ArrayRef, VortexError> {
+// Four texts.
+fn four_texts(alloc: Global) -> Result<ArrayRef, VortexError> {
     let items = ["a", LONG, "", "b"];
     let items = items.iter().copied();
-    lists_of(
-        alloc,
-        VarBinViewArray::from_iter_str(alloc, items)?.into_array(),
-    )
+    Ok(VarBinViewArray::from_iter_str(alloc, items)?.into_array())
+}
+
+// Such lists of four texts.
+pub(crate) fn lists_of_texts(alloc: Global) -> Result<ArrayRef, VortexError> {
+    lists_of(alloc, four_texts(alloc)?)
+}
+
+// Eight lists of texts, of which the last alone has elements: the last two of four.
+pub(crate) fn mostly_empty_lists(alloc: Global) -> Result<ArrayRef, VortexError> {
+    let elements = four_texts(alloc)?;
+    let offsets = ints(alloc, &[0u8, 0, 0, 0, 0, 0, 0, 2])?;
+    let sizes = ints(alloc, &[0u8, 0, 0, 0, 0, 0, 0, 2])?;
+    let validity = Validity::NonNullable;
+    Ok(ListViewArray::try_new(alloc, elements, offsets, sizes, validity)?.into_array())
 }
 
 // Records of a list view of texts.
