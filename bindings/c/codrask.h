@@ -2,8 +2,10 @@
  *
  * A column is a table of nodes. Each node is an array, and it stands before the nodes of its parts. codrask_check tells
  * whether a table is a column, and if not, its first fault: which node, which row. What the calls of the first part answer
- * is proved; docs/FROM_C.md says what is trusted of their caller. The second part reads Arrow's C Data Interface: it makes
- * tables, and leaves every test to the first. */
+ * is proved; docs/FROM_C.md says what is trusted of their caller. The second part reads and writes Arrow's C Data Interface: it makes
+ * tables, and leaves every test of a column to the first.
+ *
+ * For machines of 64 bits whose numbers stand in memory with the lowest byte first, and for gcc or clang. */
 #ifndef CODRASK_H
 #define CODRASK_H
 
@@ -41,8 +43,8 @@ enum codrask_kind {
     CODRASK_UTF8_VIEW = 9,        /* views, buffers: texts */
     CODRASK_BINARY_VIEW = 10,     /* views, buffers: byte lists */
     CODRASK_DICTIONARY = 11,      /* parts: codes, values */
-    CODRASK_FIXED_SIZE_LIST = 12, /* size; parts: elements */
-    CODRASK_LIST_VIEW = 13,       /* parts: elements, offsets, sizes */
+    CODRASK_FIXED_SIZE_LIST = 12, /* size; parts: elements. For Arrow, buffers: none, or the name of the elements */
+    CODRASK_LIST_VIEW = 13,       /* parts: elements, offsets, sizes. For Arrow, buffers as above */
     CODRASK_STRUCT = 14           /* buffers: a name for each column; parts: columns */
 };
 
@@ -71,7 +73,7 @@ struct codrask_node {
 
 /* The first fault of a table. */
 struct codrask_fault {
-    uint32_t number; /* 0 where there is none; 1 to 23 as codrask_fault_name tells; 32 to 36 of the table itself */
+    uint32_t number; /* 0 where there is none; 1 to 23 as codrask_fault_name tells; 32 to 36 of the table itself; from 64 on of Arrow */
     size_t node;     /* the node that has it, counted from 0 */
     size_t place;    /* the row that has it, or the position that lies past a length; else 0 */
 };
@@ -97,8 +99,16 @@ enum codrask_number {
     CODRASK_TOO_MANY_NODES = 36, /* more than 4096 */
     CODRASK_BAD_MODE = 37,       /* of a step: its kind has no such mode */
     CODRASK_TOO_MANY_STEPS = 38, /* more than 1024 */
-    CODRASK_BAD_ARROW = 64,      /* of Arrow: not a schema and an array that are read here, or a column that is not written */
-    CODRASK_NOT_END_TO_END = 65  /* of codrask_to_arrow: lists that offsets alone cannot tell */
+    /* of Arrow: the calls of the second part alone have them */
+    CODRASK_BAD_ARROW = 64,        /* not a schema and an array that are read here, or a column that is not written */
+    CODRASK_NOT_END_TO_END = 65,   /* lists that offsets alone cannot tell: one does not begin where the one before it ends */
+    CODRASK_TOO_MANY_BYTES = 66,   /* more than the limit: codrask_limits */
+    CODRASK_TOO_MANY_BUFFERS = 67, /* more than 65536 buffers of views */
+    CODRASK_TOO_DEEP = 68,         /* more than 64 levels */
+    CODRASK_RELEASED = 69,         /* a struct whose release is null: it was released, or never made */
+    CODRASK_BAD_NULL_COUNT = 70,   /* a null count that is neither -1 nor the number of nulls */
+    CODRASK_UNEXPECTED_NULL = 71,  /* a null where the schema lets no row be null */
+    CODRASK_BAD_FLAGS = 72         /* flags that are none of codrask_arrow_flags */
 };
 
 /* The version of the proved calls and of the table: 1. */
@@ -231,37 +241,90 @@ struct ArrowArray {
 
 #endif
 
-/* A table over the buffers of an Arrow array, which has to outlive it. */
+/* How many bytes a call may take: reading, those of the slices of the table, each as often as a node has it; writing, those of
+ * the buffers that are made, and of the slices of the table. Where `bytes` is 0 or the limits are a null pointer, they are 8 MiB, or
+ * 8 times the distinct bytes that the call is given, whichever is more. More is CODRASK_TOO_MANY_BYTES, at the first node at which
+ * it is more, before memory is taken for it. The names of a table have at most 4 MiB, whatever the limits are. */
+struct codrask_limits {
+    size_t bytes;
+};
+
+/* A table over the buffers of an Arrow array, which have to outlive it. It has copies of all names: the schema, and the structs of
+ * the array, need not. */
 struct codrask_table {
     struct codrask_node *nodes;
     size_t count;
     void *memory; /* what the table itself has */
 };
 
-/* Makes a table of an Arrow array: booleans ("b"), the eight types of integers, also as dates and times, texts and byte
- * lists by offsets ("u", "U", "z", "Z") or by views ("vu", "vz"), lists ("+l", "+L", "+vl", "+vL", "+w:N"), structs ("+s") and dictionaries, at
- * any offset. Answers 0, CODRASK_MEMORY, or CODRASK_BAD_ARROW where the format is another one (floats), a count is negative, a child
- * is missing, texts by offsets go past 4 GiB, or the nest is deeper than 64 levels. Which column it is, or which fault it has,
- * codrask_check tells. */
+/* Makes a table of an Arrow array: booleans ("b"), the eight types of integers, also as dates and times, texts and byte lists by
+ * offsets ("u", "U", "z", "Z") or by views ("vu", "vz"), lists ("+l", "+L", "+vl", "+vL", "+w:N"), structs ("+s") and dictionaries, at
+ * any offset. Which column it is, or which fault it has, codrask_check tells. Rows may be null where the schema says so, and nowhere
+ * else. What texts and lists by offsets do not refer to, before the first and after the last, is not in the table.
+ *
+ * Answers 0, or the number of a refusal, which *fault has with its node: the one that the array has, or would have, in the table.
+ * Nothing is to be given back then. First, from the first node to the last:
+ *
+ * CODRASK_RELEASED: the release of a schema or an array is null.
+ * CODRASK_BAD_ARROW: a null pointer in place of a struct; a format that is another one (floats) or none; a negative count, length
+ *   or offset, or more rows than 63 bits tell; other numbers of buffers or children than the format has; no array of buffers or
+ *   children; a dictionary in the schema or in the array alone, or with codes whose format is no integer.
+ * CODRASK_TOO_DEEP: the array is nested deeper than 64 levels.
+ * CODRASK_TOO_MANY_NODES: the table would have more than 4096 nodes; told of node 0, as codrask_check does.
+ * CODRASK_TOO_MANY_BUFFERS: all arrays of views have more than 65536 buffers.
+ * CODRASK_TOO_MANY_BYTES: of the names.
+ *
+ * Then CODRASK_TOO_MANY_BYTES by the limits. Then, from the first node to the last:
+ *
+ * CODRASK_BAD_NULL_COUNT: the null count is neither -1 nor the number of bits that are not set, of the rows of the array itself; of
+ *   rows that are not read, since what the array stands in has fewer, any number may be null. Without a bitmap none is.
+ * CODRASK_UNEXPECTED_NULL: a row that is read is null, or the null count is more than 0, where the schema is not nullable: that of the
+ *   array, or that of the dictionary whose values the array has. The place is the row.
+ * CODRASK_BAD_ARROW: a buffer of views has a negative size; the place is the buffer.
+ * CODRASK_OVERFLOW: a text by offsets has 2 GiB or more; the place is the row.
+ *
+ * CODRASK_MEMORY may come in place of any answer. */
+uint32_t codrask_read_arrow(const struct ArrowSchema *schema, const struct ArrowArray *array, const struct codrask_limits *limits,
+                            struct codrask_table *table, struct codrask_fault *fault);
+
+/* The same without limits of the caller's, and without telling the node. */
 uint32_t codrask_table_from_arrow(const struct ArrowSchema *schema, const struct ArrowArray *array, struct codrask_table *table);
+
+/* The name of the column itself, as the schema has it, or "". */
+const char *codrask_table_name(const struct codrask_table *table);
 
 /* Gives back what a table has. */
 void codrask_table_free(struct codrask_table *table);
 
-/* Makes the table, checks it, and gives it back. */
+/* Makes the table without limits of the caller's, checks it, and gives it back. */
 uint32_t codrask_check_arrow(const struct ArrowSchema *schema, const struct ArrowArray *array, struct codrask_fault *fault);
 
-/* How codrask_to_arrow writes. */
+/* How codrask_write_arrow writes. */
 enum codrask_arrow_flags {
     CODRASK_BY_VIEWS = 0,  /* texts and byte lists as "vu", "vz", lists as "+vL" */
     CODRASK_BY_OFFSETS = 1 /* as "u", "z" or, where they are large, "U", "Z"; as "+l" or "+L" */
 };
 
-/* Writes a column as an Arrow array that has blocks of its own, to be given back by its release, as its schema is by its
- * own. The table is checked first, and copied. Answers 0; the number of the first fault; CODRASK_NOT_END_TO_END where lists
- * are to be written by offsets and one does not begin where the one before it ends; CODRASK_BAD_ARROW where codes, offsets, sizes
- * or a validity are themselves a dictionary, or a name holds a byte 0. Where the answer is not 0, *fault has it, and nothing is
- * to be released. */
+/* Writes a column as an Arrow array that has blocks of its own, to be given back by its release, as its schema is by its own. The
+ * table is checked first, and copied. The column has a name, or where that is a null pointer, "". Answers 0, or the number of the
+ * first of these, and *fault has it; nothing is to be released then:
+ *
+ * CODRASK_BAD_FLAGS: flags that are no sum of codrask_arrow_flags.
+ * CODRASK_TOO_MANY_BYTES: the table has more bytes than the limits allow.
+ * The first fault of the table: what codrask_check tells of it.
+ * Then, array by array:
+ * CODRASK_OVERFLOW: a length, an offset or the end of a list has more than 63 bits; the size of lists of one size, or a view, more
+ *   than 31. The place is the row, or 0.
+ * CODRASK_NOT_END_TO_END: lists are to be written by offsets, and that of the place does not begin where the one before it ends.
+ * CODRASK_BAD_ARROW: codes, offsets, sizes or a validity are themselves a dictionary, or a name has a byte 0.
+ * CODRASK_TOO_MANY_BYTES: more than the limits allow would be written.
+ *
+ * CODRASK_MEMORY may come in place of any answer. */
+uint32_t codrask_write_arrow(const struct codrask_node *nodes, size_t node_count, uint32_t flags, const char *name,
+                             const struct codrask_limits *limits, struct ArrowSchema *schema, struct ArrowArray *array,
+                             struct codrask_fault *fault);
+
+/* The same without a name and without limits of the caller's. */
 uint32_t codrask_to_arrow(const struct codrask_node *nodes, size_t node_count, uint32_t flags, struct ArrowSchema *schema,
                           struct ArrowArray *array, struct codrask_fault *fault);
 

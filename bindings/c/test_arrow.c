@@ -1,33 +1,7 @@
 /* Arrow arrays by hand, as tables: each format that is read, at an offset, with nulls; and what is not read. The last line is
  * 'N passed, M failed'. */
-#include "codrask.h"
+#include "arrow_by_hand.h"
 
-#include <stdio.h>
-#include <string.h>
-
-static int passed, failed;
-
-#define COUNT(array) (sizeof(array) / sizeof *(array))
-
-static void expect(const char *what, const struct ArrowSchema *schema, const struct ArrowArray *array, uint32_t number, size_t node, size_t place) {
-    struct codrask_fault fault;
-    uint32_t answer = codrask_check_arrow(schema, array, &fault);
-    if (answer == number && fault.number == number && fault.node == node && fault.place == place) {
-        passed++;
-        return;
-    }
-    failed++;
-    printf("%s: %u %s at node %zu, place %zu, wanted %u at node %zu, place %zu\n", what, answer, codrask_fault_name(answer), fault.node,
-           fault.place, number, node, place);
-}
-
-static struct ArrowSchema schema(const char *format, int64_t flags, struct ArrowSchema **children, int64_t count) {
-    return (struct ArrowSchema){.format = format, .name = "x", .flags = flags, .children = children, .n_children = count};
-}
-
-static struct ArrowArray array(int64_t length, int64_t offset, const void **buffers, int64_t count, struct ArrowArray **children, int64_t parts) {
-    return (struct ArrowArray){.length = length, .null_count = -1, .offset = offset, .buffers = buffers, .n_buffers = count, .children = children, .n_children = parts};
-}
 
 static const uint8_t some_valid[] = {0xfd, 0xff};
 static const int64_t numbers[] = {1, 2, 3, 4, 5, 6, 7, 8, 9, 10};
@@ -40,7 +14,7 @@ static void flat(void) {
         struct ArrowSchema s = schema(formats[i], ARROW_FLAG_NULLABLE, NULL, 0);
         expect(formats[i], &s, &a, 0, 0, 0);
     }
-    const char *others[] = {"f", "g", "e", "n", "d:1,2", "+m", "+w:", "+w:-1", "", "+r", "ll"};
+    const char *others[] = {"f", "g", "e", "n", "d:1,2", "+m", "+w:", "+w:-1", "+w:2147483648", "", "+r", "ll", "ts", "tsgarbage", "tsm", "tDqqq", "tDmm", "tiM"};
     for (size_t i = 0; i < COUNT(others); i++) {
         struct ArrowSchema s = schema(others[i], 0, NULL, 0);
         expect(others[i], &s, &a, CODRASK_BAD_ARROW, 0, 0);
@@ -48,7 +22,8 @@ static void flat(void) {
     struct ArrowSchema s = schema("l", 0, NULL, 0);
     a.length = -1;
     expect("a negative length", &s, &a, CODRASK_BAD_ARROW, 0, 0);
-    a.length = 0, a.offset = 0, a.buffers = NULL, a.n_buffers = 0;
+    const void *missing[] = {NULL, NULL};
+    a.length = 0, a.offset = 0, a.buffers = missing;
     expect("no rows, no buffers", &s, &a, 0, 0, 0);
     a.length = 3;
     expect("rows without buffers", &s, &a, CODRASK_LENGTH_MISMATCH, 0, 0);
@@ -66,10 +41,12 @@ static void texts_by_offsets(void) {
     a.length = 2;
     expect("texts by offsets", &s, &a, 0, 0, 0);
     offsets[2] = 2;
+    expect("a row that begins before the first one", &s, &a, CODRASK_BAD_BUFFER, 0, 1);
+    a.offset = 0, a.length = 3;
     expect("a null row whose offset falls", &s, &a, 0, 0, 0);
-    a.offset = 0, a.length = 3, a.null_count = 0;
+    buffers[0] = NULL;
     expect("a row whose offset falls", &s, &a, CODRASK_BAD_BUFFER, 0, 1);
-    offsets[1] = 18, a.null_count = -1;
+    offsets[1] = 18, buffers[0] = some_valid;
     expect("an offset past the last one", &s, &a, CODRASK_BAD_BUFFER, 0, 0);
     offsets[1] = -1;
     expect("a negative offset", &s, &a, CODRASK_BAD_BUFFER, 0, 0);
@@ -78,8 +55,6 @@ static void texts_by_offsets(void) {
     int64_t large[] = {0, 3, 16, 5000000000, 5000000001};
     buffers[1] = large, s.format = "U";
     expect("texts by large offsets", &s, &a, 0, 0, 0);
-    a.offset = 3, a.length = 1;
-    expect("texts past 4 GiB", &s, &a, CODRASK_BAD_ARROW, 0, 0);
     buffers[1] = NULL;
     expect("rows without offsets", &s, &a, CODRASK_LENGTH_MISMATCH, 0, 0);
     a.offset = 0, a.length = 0, a.null_count = 0, s.format = "u";
@@ -99,15 +74,20 @@ static void lists(void) {
     expect("an offset that falls", &s, &a, CODRASK_NEGATIVE, 0, 1);
     offsets[3] = 5, offsets[4] = 11;
     expect("an offset past the elements", &s, &a, CODRASK_OUT_OF_BOUNDS, 0, 11);
+    offsets[3] = 10, offsets[4] = 9;
+    expect("an offset past the last one: both are counted from the first one", &s, &a, CODRASK_OUT_OF_BOUNDS, 0, 8);
+    offsets[3] = 5;
     int32_t sizes[] = {9, 2, 1, 9, 9};
     offsets[4] = 9, buffers[2] = sizes, s.format = "+vl", a.n_buffers = 3, a.length = 2;
     expect("list views", &s, &a, 0, 0, 0);
     sizes[2] = -1;
     expect("a negative size", &s, &a, CODRASK_NEGATIVE, 0, 1);
     int64_t large[] = {0, 3, 10};
-    buffers[1] = large, s.format = "+L", a.offset = 0;
+    buffers[1] = large, s.format = "+L", a.offset = 0, a.n_buffers = 2;
     expect("lists by large offsets", &s, &a, 0, 0, 0);
-    s.format = "+w:2", a.offset = 1, a.length = 4;
+    s.format = "+L", a.offset = 0, a.length = 0, buffers[1] = NULL;
+    expect("no lists, no offsets", &s, &a, 0, 0, 0);
+    s.format = "+w:2", a.offset = 1, a.length = 4, a.n_buffers = 1;
     expect("lists of one size", &s, &a, 0, 0, 0);
     a.length = 5;
     expect("lists of one size past the elements", &s, &a, CODRASK_LENGTH_MISMATCH, 0, 0);

@@ -121,6 +121,10 @@ static uint32_t try_call(call *made_call, long fail_at, struct codrask_fault *fa
     return number;
 }
 
+static bool is_same(const struct codrask_fault *one, const struct codrask_fault *other) {
+    return one->number == other->number && one->node == other->node && one->place == other->place;
+}
+
 /* Whether a call answers Memory where memory is refused, or as ever, and keeps nothing. */
 static bool gives_back(call *made_call, uint64_t seed) {
     struct codrask_fault fault, other;
@@ -129,7 +133,7 @@ static bool gives_back(call *made_call, uint64_t seed) {
     bool good = held == 0;
     for (long i = 0; i < calls; i++) {
         uint32_t number = try_call(made_call, i, &other);
-        good = good && held == 0 && (number == CODRASK_MEMORY || (number == wanted && !memcmp(&fault, &other, sizeof fault)));
+        good = good && held == 0 && (number == CODRASK_MEMORY || (number == wanted && is_same(&fault, &other)));
     }
     if (!good)
         printf("seed %llu: %ld calls, %ld blocks held\n", (unsigned long long)seed, calls, held);

@@ -1,22 +1,22 @@
 /* Columns as Arrow arrays. A table is tested by codrask_check before it is read, and copied: what is made has blocks of its
  * own, and each array and schema gives back just its own. */
-#include "codrask.h"
+#include "inside.h"
 
-#include <stdbool.h>
 #include <stdio.h>
 #include <stdlib.h>
 #include <string.h>
 
-/* A block that a schema or an array has, before what is used of it. */
-struct block {
-    struct block *next, *padding;
+/* What a schema or an array has beside itself; while it is released, also what it was. */
+struct schema_owner {
+    struct ArrowSchema was;
+    struct schema_owner *next;
+    struct block *blocks;
 };
 
-/* What is being made, and the nodes that it is made of, which have passed. */
-struct maker {
-    const struct codrask_node *nodes;
-    size_t at;
-    uint32_t flags;
+struct array_owner {
+    struct ArrowArray was;
+    struct array_owner *next;
+    struct block *blocks;
 };
 
 struct pair {
@@ -24,14 +24,31 @@ struct pair {
     struct ArrowArray *array;
 };
 
+/* What is still to be made: the array of the next node, or the offsets and sizes of lists whose elements are made. */
+struct part {
+    struct pair pair;
+    size_t lists;
+    bool ends;
+};
+
+/* What is being made, and the nodes that it is made of, which have passed. The parts that are still to be made wait, the next one
+ * last. So no nest is too deep for a stack. */
+struct maker {
+    const struct codrask_node *nodes;
+    size_t at, node_count;
+    uint32_t flags;
+    size_t made, most;
+    struct part *waiting;
+    size_t waiting_count;
+    size_t node, row; /* where a fault is */
+};
+
 /* ---- memory ---- */
 
 /* A block of zeroes for a schema or an array; it has a byte at least. */
-static void *block_of(void **blocks, size_t count, size_t width) {
-    size_t size;
-    if (__builtin_mul_overflow(count, width, &size) || __builtin_add_overflow(size, sizeof(struct block) + 1, &size))
-        return NULL;
-    struct block *block = calloc(1, size);
+static void *block_of(struct block **blocks, size_t count, size_t width) {
+    size_t size = codrask_add(codrask_multiply(count, width), sizeof(struct block) + 1);
+    struct block *block = size < PTRDIFF_MAX ? calloc(1, size) : NULL;
     if (!block)
         return NULL;
     block->next = *blocks;
@@ -39,32 +56,97 @@ static void *block_of(void **blocks, size_t count, size_t width) {
     return block + 1;
 }
 
-static void free_blocks(void *first) {
-    for (struct block *block = first; block;) {
+static void *schema_block(struct pair p, size_t count, size_t width) {
+    struct schema_owner *owner = p.schema->private_data;
+    return block_of(&owner->blocks, count, width);
+}
+
+static void *array_block(struct pair p, size_t count, size_t width) {
+    struct array_owner *owner = p.array->private_data;
+    return block_of(&owner->blocks, count, width);
+}
+
+static void free_blocks(struct block *block) {
+    while (block) {
         struct block *next = block->next;
         free(block);
         block = next;
     }
 }
 
-static void release_schema(struct ArrowSchema *schema) {
-    for (int64_t i = 0; i < schema->n_children; i++)
-        if (schema->children[i]->release)
-            schema->children[i]->release(schema->children[i]);
-    if (schema->dictionary && schema->dictionary->release)
-        schema->dictionary->release(schema->dictionary);
+static void release_schema(struct ArrowSchema *schema);
+static void release_array(struct ArrowArray *array);
+
+/* Takes a schema over, to be given back. One that was taken out has no release; one of others is released by theirs. */
+static void take_schema(struct ArrowSchema *schema, struct schema_owner **owners) {
+    if (!schema || !schema->release)
+        return;
+    if (schema->release != release_schema) {
+        schema->release(schema);
+        return;
+    }
+    struct schema_owner *owner = schema->private_data;
+    owner->was = *schema;
+    owner->next = *owners;
+    *owners = owner;
     schema->release = NULL;
-    free_blocks(schema->private_data);
+}
+
+static void release_schema(struct ArrowSchema *schema) {
+    struct schema_owner *owner = NULL;
+    take_schema(schema, &owner);
+    while (owner) {
+        struct schema_owner *this = owner;
+        owner = this->next;
+        for (int64_t i = 0; i < this->was.n_children; i++)
+            take_schema(this->was.children[i], &owner);
+        take_schema(this->was.dictionary, &owner);
+        free_blocks(this->blocks);
+        free(this);
+    }
+}
+
+/* The same of an array. */
+static void take_array(struct ArrowArray *array, struct array_owner **owners) {
+    if (!array || !array->release)
+        return;
+    if (array->release != release_array) {
+        array->release(array);
+        return;
+    }
+    struct array_owner *owner = array->private_data;
+    owner->was = *array;
+    owner->next = *owners;
+    *owners = owner;
+    array->release = NULL;
 }
 
 static void release_array(struct ArrowArray *array) {
-    for (int64_t i = 0; i < array->n_children; i++)
-        if (array->children[i]->release)
-            array->children[i]->release(array->children[i]);
-    if (array->dictionary && array->dictionary->release)
-        array->dictionary->release(array->dictionary);
-    array->release = NULL;
-    free_blocks(array->private_data);
+    struct array_owner *owner = NULL;
+    take_array(array, &owner);
+    while (owner) {
+        struct array_owner *this = owner;
+        owner = this->next;
+        for (int64_t i = 0; i < this->was.n_children; i++)
+            take_array(this->was.children[i], &owner);
+        take_array(this->was.dictionary, &owner);
+        free_blocks(this->blocks);
+        free(this);
+    }
+}
+
+/* A schema and an array that have nothing yet, and can be released. */
+static uint32_t open_pair(struct pair p) {
+    struct schema_owner *schema = calloc(1, sizeof *schema);
+    struct array_owner *array = calloc(1, sizeof *array);
+    if (!schema || !array) {
+        free(schema);
+        free(array);
+        return CODRASK_MEMORY;
+    }
+    *p.schema = (struct ArrowSchema){.format = "", .name = "", .release = release_schema, .private_data = schema};
+    *p.array = (struct ArrowArray){.release = release_array, .private_data = array};
+    return 0;
 }
 
 /* ---- what a node has ---- */
@@ -80,12 +162,27 @@ static size_t width_of(uint32_t kind) {
 }
 
 /* A number of a node of counts. */
-static int64_t count_at(const struct codrask_node *node, size_t i) {
+static uint64_t count_at(const struct codrask_node *node, size_t i) {
     size_t width = width_of(node->kind);
     uint64_t value = 0;
     for (size_t k = 0; k < width; k++)
         value |= (uint64_t)node->bytes[i * width + k] << 8 * k;
-    return (int64_t)value;
+    return value;
+}
+
+static bool is_null(const struct codrask_node *node, const struct codrask_node *mask, size_t i) {
+    return node->validity == CODRASK_ALL_INVALID || (mask && !bit_at(mask, i));
+}
+
+/* The field `i` of a view, of 4 bytes. */
+static uint32_t view_field(const struct codrask_view *view, size_t i) {
+    uint32_t field;
+    memcpy(&field, view->bytes + 4 * i, 4);
+    return field;
+}
+
+static uint32_t size_of_view(const struct codrask_view *view) {
+    return view_field(view, 0);
 }
 
 /* The next node of counts, which is of numbers itself. */
@@ -94,44 +191,80 @@ static const struct codrask_node *counts(struct maker *m) {
     return width_of(node->kind) ? node : NULL;
 }
 
+/* Whether the array at a node may have nulls: of a dictionary, its codes or its values. */
+static bool may_be_null(const struct maker *m, size_t at) {
+    while (m->nodes[at].kind == CODRASK_DICTIONARY) {
+        uint32_t codes = m->nodes[++at].validity;
+        if (codes != CODRASK_NON_NULLABLE)
+            return true;
+        at++;
+    }
+    return m->nodes[at].validity != CODRASK_NON_NULLABLE;
+}
+
 /* ---- parts ---- */
 
+/* The row of the node that is being made has a fault. */
+static uint32_t refuse_row(struct maker *m, uint32_t number, size_t row) {
+    m->row = row;
+    return number;
+}
+
 static uint32_t set_format(struct pair p, const char *format) {
-    char *copy = block_of(&p.schema->private_data, strlen(format) + 1, 1);
+    char *copy = schema_block(p, strlen(format) + 1, 1);
     if (!copy)
         return CODRASK_MEMORY;
-    strcpy(copy, format);
+    memcpy(copy, format, strlen(format) + 1);
     p.schema->format = copy;
+    return 0;
+}
+
+/* A copy of a name; Arrow's names end at a byte 0. */
+static uint32_t set_name(struct pair p, struct codrask_bytes name) {
+    if (memchr(name.bytes, 0, name.count))
+        return CODRASK_BAD_ARROW;
+    char *copy = schema_block(p, codrask_add(name.count, 1), 1);
+    if (!copy)
+        return CODRASK_MEMORY;
+    memcpy(copy, name.bytes, name.count);
+    p.schema->name = copy;
     return 0;
 }
 
 /* So many buffers, none of them there yet. */
 static uint32_t set_buffers(struct pair p, size_t count) {
-    p.array->buffers = block_of(&p.array->private_data, count, sizeof *p.array->buffers);
+    p.array->buffers = array_block(p, count, sizeof *p.array->buffers);
     p.array->n_buffers = (int64_t)count;
     return p.array->buffers ? 0 : CODRASK_MEMORY;
 }
 
-/* A new block as a buffer. */
-static void *add_buffer(struct pair p, size_t place, size_t count, size_t width) {
-    void *block = block_of(&p.array->private_data, count, width);
-    p.array->buffers[place] = block;
-    return block;
-}
-
-static uint32_t copy_buffer(struct pair p, size_t place, const void *bytes, size_t size) {
-    void *block = add_buffer(p, place, size, 1);
-    if (!block)
+/* A new block of zeroes as a buffer. */
+static uint32_t add_buffer(struct maker *m, struct pair p, size_t place, size_t count, size_t width, void *block) {
+    m->made = codrask_add(m->made, codrask_multiply(count, width));
+    if (m->made > m->most)
+        return CODRASK_TOO_MANY_BYTES;
+    void *made = array_block(p, count, width);
+    if (!made)
         return CODRASK_MEMORY;
-    memcpy(block, bytes, size);
+    p.array->buffers[place] = made;
+    memcpy(block, &made, sizeof made);
     return 0;
 }
 
+static uint32_t copy_buffer(struct maker *m, struct pair p, size_t place, const void *bytes, size_t size) {
+    void *block;
+    uint32_t error = add_buffer(m, p, place, size, 1, &block);
+    if (!error)
+        memcpy(block, bytes, size);
+    return error;
+}
+
 /* The truth values of a node, the first at bit 0; how many are false is counted. */
-static uint32_t copy_bits(struct pair p, size_t place, const struct codrask_node *node, int64_t *none) {
-    uint8_t *bits = add_buffer(p, place, node->length / 8 + 1, 1);
-    if (!bits)
-        return CODRASK_MEMORY;
+static uint32_t copy_bits(struct maker *m, struct pair p, size_t place, const struct codrask_node *node, int64_t *none) {
+    uint8_t *bits;
+    uint32_t error = add_buffer(m, p, place, node->length / 8 + 1, 1, &bits);
+    if (error)
+        return error;
     *none = 0;
     for (size_t i = 0; i < node->length; i++) {
         bool bit = bit_at(node, i);
@@ -143,32 +276,25 @@ static uint32_t copy_bits(struct pair p, size_t place, const struct codrask_node
 
 /* The bitmap of a node, whose array of truth values is the next node where there is one. */
 static uint32_t set_validity(struct maker *m, struct pair p, const struct codrask_node *node, const struct codrask_node **mask) {
+    uint8_t *zeroes;
     *mask = NULL;
     p.schema->flags = node->validity == CODRASK_NON_NULLABLE ? 0 : ARROW_FLAG_NULLABLE;
     if (node->validity == CODRASK_ALL_INVALID) {
         p.array->null_count = (int64_t)node->length;
-        return add_buffer(p, 0, node->length / 8 + 1, 1) ? 0 : CODRASK_MEMORY;
+        return add_buffer(m, p, 0, node->length / 8 + 1, 1, &zeroes);
     }
     if (node->validity != CODRASK_BY_ARRAY)
         return 0;
     *mask = &m->nodes[m->at++];
-    return (*mask)->kind == CODRASK_BOOL ? copy_bits(p, 0, *mask, &p.array->null_count) : CODRASK_BAD_ARROW;
+    return (*mask)->kind == CODRASK_BOOL ? copy_bits(m, p, 0, *mask, &p.array->null_count) : CODRASK_BAD_ARROW;
 }
 
-static bool is_null(const struct codrask_node *node, const struct codrask_node *mask, size_t i) {
-    return node->validity == CODRASK_ALL_INVALID || (mask && !bit_at(mask, i));
-}
-
-/* ---- layouts ---- */
-
-static uint32_t make(struct maker *m, struct pair p);
-
-/* Room for so many children, which are made one after another. */
+/* Room for so many children. */
 static uint32_t set_children(struct pair p, size_t count) {
-    struct ArrowSchema *schemas = block_of(&p.schema->private_data, count, sizeof *schemas);
-    struct ArrowArray *arrays = block_of(&p.array->private_data, count, sizeof *arrays);
-    p.schema->children = block_of(&p.schema->private_data, count, sizeof *p.schema->children);
-    p.array->children = block_of(&p.array->private_data, count, sizeof *p.array->children);
+    struct ArrowSchema *schemas = schema_block(p, count, sizeof *schemas);
+    struct ArrowArray *arrays = array_block(p, count, sizeof *arrays);
+    p.schema->children = schema_block(p, count, sizeof *p.schema->children);
+    p.array->children = array_block(p, count, sizeof *p.array->children);
     if (!schemas || !arrays || !p.schema->children || !p.array->children)
         return CODRASK_MEMORY;
     for (size_t i = 0; i < count; i++) {
@@ -176,12 +302,22 @@ static uint32_t set_children(struct pair p, size_t count) {
         p.array->children[i] = &arrays[i];
     }
     p.schema->n_children = p.array->n_children = (int64_t)count;
+    for (size_t i = 0; i < count; i++)
+        if (open_pair((struct pair){&schemas[i], &arrays[i]}))
+            return CODRASK_MEMORY;
     return 0;
 }
 
-static uint32_t make_child(struct maker *m, struct pair p, size_t i) {
-    return make(m, (struct pair){p.schema->children[i], p.array->children[i]});
+/* The array of the next node waits to be made before all that waits already. */
+static void wait_for(struct maker *m, struct pair p) {
+    m->waiting[m->waiting_count++] = (struct part){.pair = p};
 }
+
+static struct pair child_of(struct pair p, size_t i) {
+    return (struct pair){p.schema->children[i], p.array->children[i]};
+}
+
+/* ---- layouts ---- */
 
 static uint32_t make_flat(struct maker *m, struct pair p, const struct codrask_node *node) {
     static const char *const formats[] = {"b", "C", "S", "I", "L", "c", "s", "i", "l"};
@@ -190,38 +326,43 @@ static uint32_t make_flat(struct maker *m, struct pair p, const struct codrask_n
     uint32_t error = set_format(p, formats[node->kind]);
     if (error || (error = set_buffers(p, 2)) || (error = set_validity(m, p, node, &mask)))
         return error;
-    return node->kind == CODRASK_BOOL ? copy_bits(p, 1, node, &none) : copy_buffer(p, 1, node->bytes, node->byte_count);
+    return node->kind == CODRASK_BOOL ? copy_bits(m, p, 1, node, &none) : copy_buffer(m, p, 1, node->bytes, node->byte_count);
 }
 
-static uint32_t size_of_view(const struct codrask_view *view) {
-    uint32_t size;
-    memcpy(&size, view->bytes, 4);
-    return size;
+/* A view as Arrow has it: what follows a short value is zero, and a number has 31 bits. */
+static bool copy_view(struct codrask_view *to, const struct codrask_view *from) {
+    uint32_t size = size_of_view(from);
+    if (size <= 12) {
+        memcpy(to->bytes, from->bytes, 4 + size);
+        return true;
+    }
+    *to = *from;
+    return size <= INT32_MAX && view_field(from, 2) <= INT32_MAX && view_field(from, 3) <= INT32_MAX;
 }
 
 /* Views and what they refer to; the view of a null row is 16 zero bytes. */
 static uint32_t make_views(struct maker *m, struct pair p, const struct codrask_node *node) {
     const struct codrask_node *mask;
+    struct codrask_view *views;
+    int64_t *sizes;
     uint32_t error = set_format(p, node->kind == CODRASK_UTF8_VIEW ? "vu" : "vz");
-    if (error || (error = set_buffers(p, node->buffer_count + 3)) || (error = set_validity(m, p, node, &mask)))
+    if (error || (error = set_buffers(p, node->buffer_count + 3)) || (error = set_validity(m, p, node, &mask))
+        || (error = add_buffer(m, p, 1, node->length, sizeof *views, &views))
+        || (error = add_buffer(m, p, node->buffer_count + 2, node->buffer_count, sizeof *sizes, &sizes)))
         return error;
-    struct codrask_view *views = add_buffer(p, 1, node->length, sizeof *views);
-    int64_t *sizes = add_buffer(p, node->buffer_count + 2, node->buffer_count, sizeof *sizes);
-    if (!views || !sizes)
-        return CODRASK_MEMORY;
     for (size_t i = 0; i < node->length; i++)
-        if (!is_null(node, mask, i))
-            views[i] = node->views[i];
+        if (!is_null(node, mask, i) && !copy_view(&views[i], &node->views[i]))
+            return refuse_row(m, CODRASK_OVERFLOW, i);
     for (size_t i = 0; i < node->buffer_count; i++) {
         sizes[i] = (int64_t)node->buffers[i].count;
-        if ((error = copy_buffer(p, i + 2, node->buffers[i].bytes, node->buffers[i].count)))
+        if ((error = copy_buffer(m, p, i + 2, node->buffers[i].bytes, node->buffers[i].count)))
             return error;
     }
     return 0;
 }
 
-static void put_offset(void *offsets, size_t width, size_t i, int64_t value) {
-    int32_t of_32 = (int32_t)value;
+static void put_offset(void *offsets, size_t width, size_t i, uint64_t value) {
+    uint32_t of_32 = (uint32_t)value;
     if (width == 4)
         memcpy((uint8_t *)offsets + 4 * i, &of_32, 4);
     else
@@ -229,65 +370,81 @@ static void put_offset(void *offsets, size_t width, size_t i, int64_t value) {
 }
 
 static const uint8_t *value_at(const struct codrask_node *node, size_t i) {
-    const uint8_t *view = node->views[i].bytes;
-    uint32_t block, start;
-    if (size_of_view(&node->views[i]) <= 12)
-        return view + 4;
-    memcpy(&block, view + 8, 4);
-    memcpy(&start, view + 12, 4);
-    return node->buffers[block].bytes + start;
+    const struct codrask_view *view = &node->views[i];
+    return size_of_view(view) <= 12 ? view->bytes + 4 : node->buffers[view_field(view, 2)].bytes + view_field(view, 3);
+}
+
+/* How many bytes the values of the rows that are not null have. */
+static size_t total_of(const struct codrask_node *node, const struct codrask_node *mask) {
+    size_t total = 0;
+    for (size_t i = 0; i < node->length; i++)
+        if (!is_null(node, mask, i))
+            total = codrask_add(total, size_of_view(&node->views[i]));
+    return total;
 }
 
 /* The values one after another, with offsets. */
 static uint32_t make_values(struct maker *m, struct pair p, const struct codrask_node *node) {
+    static const char *const formats[] = {"u", "U", "z", "Z"};
     const struct codrask_node *mask;
+    void *offsets;
+    uint8_t *heap;
     uint32_t error = set_buffers(p, 3);
     if (error || (error = set_validity(m, p, node, &mask)))
         return error;
-    uint64_t total = 0;
-    for (size_t i = 0; i < node->length; i++)
-        if (!is_null(node, mask, i) && __builtin_add_overflow(total, size_of_view(&node->views[i]), &total))
-            return CODRASK_OVERFLOW;
-    size_t width = total <= INT32_MAX ? 4 : 8, end = 0;
-    const char *formats[] = {"u", "U", "z", "Z"};
-    if ((error = set_format(p, formats[2 * (node->kind == CODRASK_BINARY_VIEW) + (width == 8)])))
+    size_t total = total_of(node, mask), width = total <= INT32_MAX ? 4 : 8, end = 0;
+    if (total > INT64_MAX)
+        return CODRASK_OVERFLOW;
+    if ((error = set_format(p, formats[2 * (node->kind == CODRASK_BINARY_VIEW) + (width == 8)]))
+        || (error = add_buffer(m, p, 1, node->length + 1, width, &offsets)) || (error = add_buffer(m, p, 2, total, 1, &heap)))
         return error;
-    void *offsets = add_buffer(p, 1, node->length + 1, width);
-    uint8_t *heap = add_buffer(p, 2, total, 1);
-    if (!offsets || !heap)
-        return CODRASK_MEMORY;
     for (size_t i = 0; i < node->length; i++) {
         size_t size = is_null(node, mask, i) ? 0 : size_of_view(&node->views[i]);
         if (size)
             memcpy(heap + end, value_at(node, i), size);
-        put_offset(offsets, width, i + 1, (int64_t)(end += size));
+        put_offset(offsets, width, i + 1, end += size);
     }
     return 0;
 }
 
-/* Offsets alone, where the lists lie one after another. */
-static uint32_t end_to_end(struct pair p, const struct codrask_node *offsets, const struct codrask_node *sizes) {
-    size_t n = offsets->length;
-    int64_t end = n ? count_at(offsets, n - 1) + count_at(sizes, n - 1) : 0;
-    for (size_t i = 0; i + 1 < n; i++)
-        if (count_at(offsets, i) + count_at(sizes, i) != count_at(offsets, i + 1))
-            return CODRASK_NOT_END_TO_END;
-    size_t width = end <= INT32_MAX ? 4 : 8;
+/* Where list `i` ends; false where Arrow's signed numbers do not tell that. */
+static bool end_of_list(const struct codrask_node *offsets, const struct codrask_node *sizes, size_t i, uint64_t *end) {
+    uint64_t offset = count_at(offsets, i), size = count_at(sizes, i);
+    *end = offset + size;
+    return offset <= INT64_MAX && size <= INT64_MAX - offset;
+}
+
+/* Whether each list begins where the one before it ends; the end of the last one. */
+static uint32_t test_lists(struct maker *m, const struct codrask_node *offsets, const struct codrask_node *sizes, uint64_t *end) {
+    bool by_offsets = m->flags & CODRASK_BY_OFFSETS;
+    *end = offsets->length ? count_at(offsets, 0) : 0;
+    for (size_t i = 0; i < offsets->length; i++) {
+        if (by_offsets && count_at(offsets, i) != *end)
+            return refuse_row(m, CODRASK_NOT_END_TO_END, i);
+        if (!end_of_list(offsets, sizes, i, end))
+            return refuse_row(m, CODRASK_OVERFLOW, i);
+    }
+    return 0;
+}
+
+/* Offsets alone, of lists that lie one after another up to `end`. */
+static uint32_t offsets_of_lists(struct maker *m, struct pair p, const struct codrask_node *offsets, uint64_t end) {
+    size_t n = offsets->length, width = end <= INT32_MAX ? 4 : 8;
+    void *made;
     uint32_t error = set_format(p, width == 4 ? "+l" : "+L");
-    void *made = add_buffer(p, 1, n + 1, width);
-    if (error || !made)
-        return CODRASK_MEMORY;
+    if (error || (error = add_buffer(m, p, 1, n + 1, width, &made)))
+        return error;
     for (size_t i = 0; i < n; i++)
         put_offset(made, width, i, count_at(offsets, i));
     put_offset(made, width, n, end);
     return 0;
 }
 
-static uint32_t views_of_lists(struct pair p, const struct codrask_node *offsets, const struct codrask_node *sizes) {
+static uint32_t views_of_lists(struct maker *m, struct pair p, const struct codrask_node *offsets, const struct codrask_node *sizes) {
+    uint64_t *starts, *lengths;
     uint32_t error = set_format(p, "+vL");
-    int64_t *starts = add_buffer(p, 1, offsets->length, 8), *lengths = add_buffer(p, 2, offsets->length, 8);
-    if (error || !starts || !lengths)
-        return CODRASK_MEMORY;
+    if (error || (error = add_buffer(m, p, 1, offsets->length, 8, &starts)) || (error = add_buffer(m, p, 2, offsets->length, 8, &lengths)))
+        return error;
     for (size_t i = 0; i < offsets->length; i++) {
         starts[i] = count_at(offsets, i);
         lengths[i] = count_at(sizes, i);
@@ -295,45 +452,58 @@ static uint32_t views_of_lists(struct pair p, const struct codrask_node *offsets
     return 0;
 }
 
-static uint32_t make_lists(struct maker *m, struct pair p, const struct codrask_node *node) {
-    const struct codrask_node *mask;
-    bool by_offsets = m->flags & CODRASK_BY_OFFSETS;
-    uint32_t error = set_buffers(p, by_offsets ? 2 : 3);
-    if (error || (error = set_validity(m, p, node, &mask)) || (error = set_children(p, 1)) || (error = make_child(m, p, 0)))
-        return error;
+/* The offsets and sizes of lists: their nodes follow those of the elements. */
+static uint32_t make_ends(struct maker *m, struct pair p) {
+    uint64_t end;
     const struct codrask_node *offsets = counts(m), *sizes = offsets ? counts(m) : NULL;
     if (!sizes)
         return CODRASK_BAD_ARROW;
-    return by_offsets ? end_to_end(p, offsets, sizes) : views_of_lists(p, offsets, sizes);
+    uint32_t error = test_lists(m, offsets, sizes, &end);
+    if (error)
+        return error;
+    return m->flags & CODRASK_BY_OFFSETS ? offsets_of_lists(m, p, offsets, end) : views_of_lists(m, p, offsets, sizes);
+}
+
+/* The elements of lists, under the name that the node has for them. */
+static uint32_t make_elements(struct maker *m, struct pair p, const struct codrask_node *node) {
+    uint32_t error = set_children(p, 1);
+    if (error || (node->buffer_count && (error = set_name(child_of(p, 0), node->buffers[0]))))
+        return error;
+    wait_for(m, child_of(p, 0));
+    return 0;
+}
+
+static uint32_t make_lists(struct maker *m, struct pair p, const struct codrask_node *node) {
+    const struct codrask_node *mask;
+    uint32_t error = set_buffers(p, m->flags & CODRASK_BY_OFFSETS ? 2 : 3);
+    if (error || (error = set_validity(m, p, node, &mask)))
+        return error;
+    m->waiting[m->waiting_count++] = (struct part){.pair = p, .lists = m->node, .ends = true};
+    return make_elements(m, p, node);
 }
 
 static uint32_t make_fixed(struct maker *m, struct pair p, const struct codrask_node *node) {
     const struct codrask_node *mask;
     char format[16];
-    snprintf(format, sizeof format, "+w:%u", node->size);
+    if (node->size > INT32_MAX)
+        return CODRASK_OVERFLOW;
+    snprintf(format, sizeof format, "+w:%u", (unsigned)node->size);
     uint32_t error = set_format(p, format);
-    if (error || (error = set_buffers(p, 1)) || (error = set_validity(m, p, node, &mask)) || (error = set_children(p, 1)))
+    if (error || (error = set_buffers(p, 1)) || (error = set_validity(m, p, node, &mask)))
         return error;
-    return make_child(m, p, 0);
+    return make_elements(m, p, node);
 }
 
-static uint32_t set_name(struct ArrowSchema *schema, struct codrask_bytes name) {
-    char *copy = block_of(&schema->private_data, name.count + 1, 1);
-    if (!copy)
-        return CODRASK_MEMORY;
-    memcpy(copy, name.bytes, name.count);
-    schema->name = copy;
-    return memchr(copy, 0, name.count) ? CODRASK_BAD_ARROW : 0;
-}
-
-static uint32_t make_struct(struct maker *m, struct pair p, const struct codrask_node *node) {
+static uint32_t make_records(struct maker *m, struct pair p, const struct codrask_node *node) {
     const struct codrask_node *mask;
     uint32_t error = set_format(p, "+s");
     if (error || (error = set_buffers(p, 1)) || (error = set_validity(m, p, node, &mask)) || (error = set_children(p, node->buffer_count)))
         return error;
     for (size_t i = 0; i < node->buffer_count; i++)
-        if ((error = make_child(m, p, i)) || (error = set_name(p.schema->children[i], node->buffers[i])))
-            return error;
+        if ((error = set_name(child_of(p, i), node->buffers[i])))
+            return refuse_row(m, error, i);
+    for (size_t i = node->buffer_count; i-- > 0;)
+        wait_for(m, child_of(p, i));
     return 0;
 }
 
@@ -342,19 +512,27 @@ static uint32_t make_dictionary(struct maker *m, struct pair p) {
     const struct codrask_node *codes = counts(m);
     if (!codes)
         return CODRASK_BAD_ARROW;
+    bool nullable = may_be_null(m, m->node);
     uint32_t error = make_flat(m, p, codes);
     if (error)
         return error;
-    p.schema->dictionary = block_of(&p.schema->private_data, 1, sizeof *p.schema->dictionary);
-    p.array->dictionary = block_of(&p.array->private_data, 1, sizeof *p.array->dictionary);
-    if (!p.schema->dictionary || !p.array->dictionary)
+    struct pair values = {schema_block(p, 1, sizeof *values.schema), array_block(p, 1, sizeof *values.array)};
+    if (!values.schema || !values.array || open_pair(values))
         return CODRASK_MEMORY;
-    error = make(m, (struct pair){p.schema->dictionary, p.array->dictionary});
-    p.schema->flags |= p.schema->dictionary->flags & ARROW_FLAG_NULLABLE;
-    return error;
+    p.schema->dictionary = values.schema;
+    p.array->dictionary = values.array;
+    p.schema->flags = nullable ? ARROW_FLAG_NULLABLE : 0;
+    wait_for(m, values);
+    return 0;
 }
 
-static uint32_t make_layout(struct maker *m, struct pair p, const struct codrask_node *node) {
+/* The array of the next node. */
+static uint32_t make_next(struct maker *m, struct pair p) {
+    m->node = m->at;
+    const struct codrask_node *node = &m->nodes[m->at++];
+    if (node->length > INT64_MAX)
+        return CODRASK_OVERFLOW;
+    p.array->length = (int64_t)node->length;
     switch (node->kind) {
     case CODRASK_UTF8_VIEW:
     case CODRASK_BINARY_VIEW:
@@ -362,34 +540,81 @@ static uint32_t make_layout(struct maker *m, struct pair p, const struct codrask
     case CODRASK_DICTIONARY: return make_dictionary(m, p);
     case CODRASK_FIXED_SIZE_LIST: return make_fixed(m, p, node);
     case CODRASK_LIST_VIEW: return make_lists(m, p, node);
-    case CODRASK_STRUCT: return make_struct(m, p, node);
+    case CODRASK_STRUCT: return make_records(m, p, node);
     default: return make_flat(m, p, node);
     }
 }
 
-/* The array of the next node; where it is refused, it can still be released. */
-static uint32_t make(struct maker *m, struct pair p) {
-    const struct codrask_node *node = &m->nodes[m->at++];
-    *p.schema = (struct ArrowSchema){.format = "", .name = "", .release = release_schema};
-    *p.array = (struct ArrowArray){.length = (int64_t)node->length, .release = release_array};
-    return make_layout(m, p, node);
+/* ---- the call ---- */
+
+/* Makes all that waits. */
+static uint32_t make_all(struct maker *m) {
+    while (m->waiting_count) {
+        struct part part = m->waiting[--m->waiting_count];
+        if (part.ends)
+            m->node = part.lists;
+        uint32_t error = part.ends ? make_ends(m, part.pair) : make_next(m, part.pair);
+        if (error)
+            return error;
+    }
+    return 0;
+}
+
+/* How many bytes may be made; the nodes themselves may not have more, since codrask_check copies them. */
+static uint32_t test_bytes(struct maker *m, const struct codrask_limits *limits) {
+    struct budget budget = {.ranges = NULL};
+    for (size_t i = 0; i < m->node_count; i++)
+        codrask_spend_node(&budget, &m->nodes[i]);
+    bool no_memory = budget.no_memory;
+    m->most = codrask_most_bytes(&budget, limits);
+    if (no_memory)
+        return CODRASK_MEMORY;
+    for (budget.spent = 0; m->node < m->node_count; m->node++) {
+        codrask_spend_node(&budget, &m->nodes[m->node]);
+        if (budget.spent > m->most)
+            return CODRASK_TOO_MANY_BYTES;
+    }
+    return 0;
+}
+
+/* Makes the array of a table that has passed. */
+static uint32_t make_column(struct maker *m, const char *name, struct pair p) {
+    struct codrask_bytes bytes = {(const uint8_t *)name, name ? strlen(name) : 0};
+    uint32_t error = open_pair(p);
+    if (error || (name && (error = set_name(p, bytes))))
+        return error;
+    m->waiting = calloc(2 * m->node_count, sizeof *m->waiting);
+    if (!m->waiting)
+        return CODRASK_MEMORY;
+    wait_for(m, p);
+    error = make_all(m);
+    free(m->waiting);
+    return error;
+}
+
+uint32_t codrask_write_arrow(const struct codrask_node *nodes, size_t node_count, uint32_t flags, const char *name,
+                             const struct codrask_limits *limits, struct ArrowSchema *schema, struct ArrowArray *array,
+                             struct codrask_fault *fault) {
+    struct maker m = {.nodes = nodes, .node_count = node_count, .flags = flags};
+    *schema = (struct ArrowSchema){.release = NULL};
+    *array = (struct ArrowArray){.release = NULL};
+    uint32_t error = flags & ~(uint32_t)CODRASK_BY_OFFSETS ? CODRASK_BAD_FLAGS : 0;
+    if (!error && node_count <= MOST_NODES)
+        error = test_bytes(&m, limits);
+    if (!error && (error = codrask_check(nodes, node_count, fault)))
+        return error;
+    m.node = 0;
+    if (!error)
+        error = make_column(&m, name, (struct pair){schema, array});
+    if (error && schema->release)
+        schema->release(schema);
+    if (error && array->release)
+        array->release(array);
+    *fault = (struct codrask_fault){error, error && error != CODRASK_MEMORY ? m.node : 0, m.row};
+    return error;
 }
 
 uint32_t codrask_to_arrow(const struct codrask_node *nodes, size_t node_count, uint32_t flags, struct ArrowSchema *schema,
                           struct ArrowArray *array, struct codrask_fault *fault) {
-    struct maker m = {nodes, 0, flags};
-    *schema = (struct ArrowSchema){.release = NULL};
-    *array = (struct ArrowArray){.release = NULL};
-    uint32_t error = codrask_check(nodes, node_count, fault);
-    if (error)
-        return error;
-    error = nodes->length > INT64_MAX ? CODRASK_OVERFLOW : make(&m, (struct pair){schema, array});
-    if (!error)
-        return 0;
-    if (schema->release)
-        schema->release(schema);
-    if (array->release)
-        array->release(array);
-    *fault = (struct codrask_fault){error, 0, 0};
-    return error;
+    return codrask_write_arrow(nodes, node_count, flags, NULL, NULL, schema, array, fault);
 }

@@ -25,11 +25,11 @@ static void turn(void) {
     default: {
         /* of bytes, views and heaps; never of the pointers that stand in blocks of their own */
         if (n->byte_count)
-            turn_byte((uint8_t *)n->bytes, n->byte_count);
+            turn_byte((uint8_t *)(uintptr_t)n->bytes, n->byte_count);
         else if (n->view_count)
-            turn_byte((uint8_t *)n->views, 16 * n->view_count);
+            turn_byte((uint8_t *)(uintptr_t)n->views, 16 * n->view_count);
         else if (n->buffer_count && n->buffers[0].count)
-            turn_byte((uint8_t *)n->buffers[0].bytes, n->buffers[0].count);
+            turn_byte((uint8_t *)(uintptr_t)n->buffers[0].bytes, n->buffers[0].count);
     }
     }
 }

@@ -1,0 +1,437 @@
+/* Arrow's C Data Interface as tables of nodes: the nodes, from the structs alone and the first and last of some offsets. No row is
+ * looked at here, and no memory is taken for rows. Nothing here decides whether a column is one: codrask_check does. */
+#include "inside.h"
+
+#include <stdlib.h>
+#include <string.h>
+
+_Alignas(max_align_t) const uint8_t codrask_nothing[64];
+
+/* The rows of an array from `from` on, at most `length`. Where `nullable` is false, what the array stands in has no nulls. */
+struct rows {
+    const struct ArrowSchema *schema;
+    const struct ArrowArray *array;
+    size_t from, length;
+    int depth;
+    bool nullable;
+};
+
+static uint32_t emit(struct reader *r, struct rows rows);
+
+/* ---- nodes ---- */
+
+uint32_t codrask_refuse(struct reader *reader, uint32_t number, size_t node, size_t place) {
+    reader->fault = (struct codrask_fault){number, node, place};
+    return number;
+}
+
+/* A fault of the array whose node is the next one. */
+static uint32_t refuse_next(struct reader *r, uint32_t number) {
+    return codrask_refuse(r, number, r->count, 0);
+}
+
+static uint32_t grow(struct reader *r) {
+    size_t room = r->room ? 2 * r->room : 16;
+    struct codrask_node *nodes = realloc(r->nodes, room * sizeof *nodes);
+    if (nodes)
+        r->nodes = nodes;
+    struct task *tasks = nodes ? realloc(r->tasks, room * sizeof *tasks) : NULL;
+    if (!tasks)
+        return codrask_refuse(r, CODRASK_MEMORY, 0, 0);
+    r->tasks = tasks;
+    r->room = room;
+    return 0;
+}
+
+/* A new node at the end of the table; its slices are empty, and nothing is to be made of it. Nodes may move. */
+static uint32_t new_node(struct reader *r, uint32_t kind, uint32_t validity, size_t length) {
+    if (r->count == MOST_NODES)
+        return codrask_refuse(r, CODRASK_TOO_MANY_NODES, 0, 0);
+    uint32_t error = r->count == r->room ? grow(r) : 0;
+    if (error)
+        return error;
+    struct codrask_node *node = &r->nodes[r->count];
+    memset(node, 0, sizeof *node);
+    node->kind = kind;
+    node->validity = validity;
+    node->length = length;
+    node->bytes = codrask_nothing;
+    node->views = (const void *)codrask_nothing;
+    node->buffers = (const void *)codrask_nothing;
+    r->tasks[r->count++] = (struct task){.work = NO_WORK};
+    return 0;
+}
+
+/* ---- buffers ---- */
+
+static const uint8_t *buffer(const struct ArrowArray *array, int64_t place) {
+    return array->buffers[place];
+}
+
+/* A slice of `count` times `width` bytes from row `from` on; an empty one where there is no buffer. False past all memory. */
+static bool slice(const uint8_t *bytes, size_t from, size_t count, size_t width, const uint8_t **start, size_t *size) {
+    size_t before = codrask_multiply(from, width);
+    *size = codrask_multiply(count, width);
+    if (codrask_add(before, *size) > (size_t)PTRDIFF_MAX)
+        return false;
+    *start = bytes ? bytes + before : codrask_nothing;
+    *size = bytes ? *size : 0;
+    return true;
+}
+
+/* The truth values from bit `from` on: the bytes that have them, and the bit of the first byte at which they begin. */
+static void bits(struct codrask_node *node, const uint8_t *bytes, size_t from, size_t length) {
+    if (!bytes || !length)
+        return;
+    node->bytes = bytes + from / 8;
+    node->offset = from % 8;
+    node->byte_count = (from % 8 + length - 1) / 8 + 1;
+}
+
+/* ---- what each array has ---- */
+
+/* Whether no child is missing. */
+static bool has_children(struct rows rows) {
+    for (int64_t i = 0; i < rows.schema->n_children; i++)
+        if (!rows.schema->children[i] || !rows.array->children[i])
+            return false;
+    return true;
+}
+
+/* Whether the counts of an array and its schema are those of its format, and what is counted is there. */
+static bool has_form(struct rows rows, const struct format *format) {
+    const struct ArrowSchema *schema = rows.schema;
+    const struct ArrowArray *array = rows.array;
+    bool views = format->layout == VIEWS;
+    if (schema->n_children != array->n_children || schema->n_children < 0 || (format->children >= 0 && schema->n_children != format->children))
+        return false;
+    if (array->n_buffers < format->buffers || (!views && array->n_buffers != format->buffers) || !array->buffers)
+        return false;
+    if (array->length < 0 || array->offset < 0 || array->null_count < -1 || array->length > INT64_MAX - array->offset)
+        return false;
+    if (!schema->dictionary != !array->dictionary || (schema->dictionary && !format->may_be_codes))
+        return false;
+    return !schema->n_children || (schema->children && array->children);
+}
+
+/* Tests the structs of an array, and reads its format. */
+static uint32_t test_structs(struct reader *r, struct rows rows, struct format *format) {
+    if (!rows.schema->release || !rows.array->release)
+        return refuse_next(r, CODRASK_RELEASED);
+    if (!rows.schema->format || !codrask_format_of(rows.schema->format, format) || !has_form(rows, format))
+        return refuse_next(r, CODRASK_BAD_ARROW);
+    if (rows.depth > DEEPEST)
+        return refuse_next(r, CODRASK_TOO_DEEP);
+    if (rows.schema->n_children >= MOST_NODES)
+        return codrask_refuse(r, CODRASK_TOO_MANY_NODES, 0, 0);
+    if (!has_children(rows))
+        return refuse_next(r, CODRASK_BAD_ARROW);
+    return 0;
+}
+
+/* The rows that the array has of these, counted from its buffers' first row; the nulls that the schema allows. */
+static struct rows rows_there(struct rows rows) {
+    size_t all = (size_t)rows.array->length;
+    if (rows.from > all)
+        rows.from = all;
+    if (rows.length > all - rows.from)
+        rows.length = all - rows.from;
+    rows.from += (size_t)rows.array->offset;
+    rows.nullable = rows.nullable && rows.schema->flags & ARROW_FLAG_NULLABLE;
+    return rows;
+}
+
+/* A new node of an array, and one of its validity where rows may be null. What the bitmap tells is tested with the rows. */
+static uint32_t open_node(struct reader *r, struct rows rows, uint32_t kind, size_t *place) {
+    const uint8_t *bitmap = buffer(rows.array, 0);
+    bool told = rows.nullable && bitmap && rows.array->null_count;
+    uint32_t error = new_node(r, kind, told ? CODRASK_BY_ARRAY : rows.nullable ? CODRASK_ALL_VALID : CODRASK_NON_NULLABLE, rows.length);
+    if (error)
+        return error;
+    *place = r->count - 1;
+    r->tasks[*place] = (struct task){.schema = rows.schema, .array = rows.array, .nullable = rows.nullable};
+    if (bitmap) {
+        r->tasks[*place].bitmap = bitmap + rows.from / 8;
+        r->tasks[*place].bit = rows.from % 8;
+    }
+    if (!told)
+        return 0;
+    if ((error = new_node(r, CODRASK_BOOL, CODRASK_NON_NULLABLE, rows.length)))
+        return error;
+    bits(&r->nodes[r->count - 1], bitmap, rows.from, rows.length);
+    return 0;
+}
+
+/* ---- names ---- */
+
+/* Whether a name leaves room for others. */
+static bool fits(struct reader *r, const char *name) {
+    if (!name)
+        return true;
+    const char *end = memchr(name, 0, MOST_NAME_BYTES - r->name_bytes + 1);
+    r->name_bytes += end ? (size_t)(end - name) : 0;
+    return end;
+}
+
+/* The names of the children are to be copied: one for each column, or that of the elements, where they have one. */
+static uint32_t ask_names(struct reader *r, struct rows rows, size_t place) {
+    size_t count = (size_t)rows.schema->n_children;
+    for (size_t i = 0; i < count; i++)
+        if (!fits(r, rows.schema->children[i]->name))
+            return codrask_refuse(r, CODRASK_TOO_MANY_BYTES, place, 0);
+    const char *first = count ? rows.schema->children[0]->name : NULL;
+    if (r->nodes[place].kind != CODRASK_STRUCT && !(first && *first))
+        return 0;
+    r->nodes[place].buffer_count = count;
+    if (r->tasks[place].work == NO_WORK)
+        r->tasks[place].work = MAKE_NAMES;
+    return 0;
+}
+
+/* ---- layouts ---- */
+
+/* The rows of a child, counted from its first one. */
+static uint32_t emit_child(struct reader *r, struct rows rows, size_t i, size_t from, size_t length) {
+    return emit(r, (struct rows){rows.schema->children[i], rows.array->children[i], from, length, rows.depth + 1, true});
+}
+
+static uint32_t emit_flat(struct reader *r, struct rows rows, const struct format *format) {
+    size_t place;
+    uint32_t error = open_node(r, rows, format->kind, &place);
+    if (error)
+        return error;
+    struct codrask_node *node = &r->nodes[place];
+    const uint8_t *bytes = buffer(rows.array, 1);
+    if (!format->width)
+        bits(node, bytes, rows.from, rows.length);
+    else if (!slice(bytes, rows.from, rows.length, format->width, &node->bytes, &node->byte_count))
+        return codrask_refuse(r, CODRASK_BAD_ARROW, place, 0);
+    return 0;
+}
+
+static uint32_t emit_views(struct reader *r, struct rows rows, const struct format *format) {
+    size_t place, size;
+    const uint8_t *start;
+    uint32_t error = open_node(r, rows, format->kind, &place);
+    if (error)
+        return error;
+    if (!slice(buffer(rows.array, 1), rows.from, rows.length, 16, &start, &size))
+        return codrask_refuse(r, CODRASK_BAD_ARROW, place, 0);
+    if (rows.array->n_buffers - 3 > (int64_t)(MOST_VIEW_BUFFERS - r->view_buffers))
+        return codrask_refuse(r, CODRASK_TOO_MANY_BUFFERS, place, 0);
+    struct codrask_node *node = &r->nodes[place];
+    node->views = (const void *)start;
+    node->view_count = size / 16;
+    node->buffer_count = (size_t)rows.array->n_buffers - 3;
+    r->view_buffers += node->buffer_count;
+    r->tasks[place].work = MAKE_HEAPS;
+    return 0;
+}
+
+int64_t codrask_offset_at(const uint8_t *offsets, size_t width, size_t i) {
+    int32_t of_32;
+    int64_t of_64;
+    if (width == 4) {
+        memcpy(&of_32, offsets + 4 * i, 4);
+        return of_32;
+    }
+    memcpy(&of_64, offsets + 8 * i, 8);
+    return of_64;
+}
+
+/* The offsets of some rows: one more than there are rows, and none where there is no row or no buffer. */
+static bool offsets_of(struct rows rows, size_t width, struct task *task) {
+    size_t size;
+    task->width = width;
+    if (!rows.length || !buffer(rows.array, 1))
+        return true;
+    if (!slice(buffer(rows.array, 1), rows.from, rows.length + 1, width, &task->offsets, &size))
+        return false;
+    task->base = codrask_offset_at(task->offsets, width, 0);
+    task->end = codrask_offset_at(task->offsets, width, rows.length);
+    return true;
+}
+
+/* Texts or byte lists by offsets. Their bytes begin where the first one does; where that tells no place, with the heap. The last
+ * offset of the array itself, of which not all rows may be read, tells how long the heap is. */
+static uint32_t emit_values(struct reader *r, struct rows rows, const struct format *format) {
+    size_t place;
+    uint32_t error = open_node(r, rows, format->kind, &place);
+    if (error)
+        return error;
+    struct task *task = &r->tasks[place];
+    if (!offsets_of(rows, format->width, task))
+        return codrask_refuse(r, CODRASK_BAD_ARROW, place, 0);
+    if (!task->offsets)
+        return 0;
+    int64_t heap_end = codrask_offset_at(buffer(rows.array, 1), format->width, (size_t)(rows.array->offset + rows.array->length));
+    task->work = MAKE_VIEWS;
+    task->heap = buffer(rows.array, 2);
+    if (task->end > heap_end)
+        task->end = heap_end;
+    if (task->end < 0 || !task->heap)
+        task->end = 0;
+    if (task->base < 0 || task->base > task->end)
+        task->base = 0;
+    return 0;
+}
+
+/* The numbers of a buffer as a node of their own. */
+static uint32_t emit_numbers(struct reader *r, const uint8_t *bytes, size_t from, size_t length, size_t width) {
+    uint32_t error = new_node(r, width == 4 ? CODRASK_I32 : CODRASK_I64, CODRASK_NON_NULLABLE, length);
+    if (error)
+        return error;
+    struct codrask_node *node = &r->nodes[r->count - 1];
+    return slice(bytes, from, length, width, &node->bytes, &node->byte_count) ? 0 : codrask_refuse(r, CODRASK_BAD_ARROW, r->count - 1, 0);
+}
+
+/* A node of numbers that are still to be made. */
+static uint32_t emit_task(struct reader *r, size_t length, struct task task, enum work work) {
+    uint32_t error = new_node(r, CODRASK_I64, CODRASK_NON_NULLABLE, task.offsets ? length : 0);
+    task.work = task.offsets ? work : NO_WORK;
+    if (!error)
+        r->tasks[r->count - 1] = task;
+    return error;
+}
+
+/* Lists by offsets. Their elements begin where the first list does; where that tells no place, with the child. */
+static uint32_t emit_lists(struct reader *r, struct rows rows, const struct format *format) {
+    size_t place;
+    struct task ends = {.work = NO_WORK};
+    uint32_t error = open_node(r, rows, format->kind, &place);
+    if (error || (error = ask_names(r, rows, place)))
+        return error;
+    if (!offsets_of(rows, format->width, &ends))
+        return codrask_refuse(r, CODRASK_BAD_ARROW, place, 0);
+    bool within = 0 <= ends.base && ends.base <= ends.end && ends.end <= rows.array->children[0]->length;
+    ends.base = within ? ends.base : 0;
+    if ((error = emit_child(r, rows, 0, (size_t)ends.base, within ? (size_t)(ends.end - ends.base) : SIZE_MAX)))
+        return error;
+    if (ends.base || !ends.offsets)
+        error = emit_task(r, rows.length, ends, MAKE_OFFSETS);
+    else
+        error = emit_numbers(r, ends.offsets, 0, rows.length, ends.width);
+    return error ? error : emit_task(r, rows.length, ends, MAKE_SIZES);
+}
+
+static uint32_t emit_list_views(struct reader *r, struct rows rows, const struct format *format) {
+    size_t place;
+    uint32_t error = open_node(r, rows, format->kind, &place);
+    if (error || (error = ask_names(r, rows, place)) || (error = emit_child(r, rows, 0, 0, SIZE_MAX)))
+        return error;
+    error = emit_numbers(r, buffer(rows.array, 1), rows.from, rows.length, format->width);
+    return error ? error : emit_numbers(r, buffer(rows.array, 2), rows.from, rows.length, format->width);
+}
+
+static uint32_t emit_fixed(struct reader *r, struct rows rows, const struct format *format) {
+    size_t place;
+    uint32_t error = open_node(r, rows, format->kind, &place);
+    if (error || (error = ask_names(r, rows, place)))
+        return error;
+    r->nodes[place].size = format->size;
+    return emit_child(r, rows, 0, codrask_multiply(rows.from, format->size), codrask_multiply(rows.length, format->size));
+}
+
+static uint32_t emit_records(struct reader *r, struct rows rows, const struct format *format) {
+    size_t place;
+    uint32_t error = open_node(r, rows, format->kind, &place);
+    if (error || (error = ask_names(r, rows, place)))
+        return error;
+    for (size_t i = 0; i < (size_t)rows.schema->n_children; i++)
+        if ((error = emit_child(r, rows, i, rows.from, rows.length)))
+            return error;
+    return 0;
+}
+
+/* Codes and values: the codes have the nulls, and values have none where codes may not. */
+static uint32_t emit_dictionary(struct reader *r, struct rows rows, const struct format *format) {
+    uint32_t error = new_node(r, CODRASK_DICTIONARY, CODRASK_NON_NULLABLE, rows.length);
+    if (error || (error = emit_flat(r, rows, format)))
+        return error;
+    return emit(r, (struct rows){rows.schema->dictionary, rows.array->dictionary, 0, SIZE_MAX, rows.depth + 1, rows.nullable});
+}
+
+static uint32_t emit(struct reader *r, struct rows rows) {
+    struct format format;
+    uint32_t error = test_structs(r, rows, &format);
+    if (error)
+        return error;
+    rows = rows_there(rows);
+    if (rows.schema->dictionary)
+        return emit_dictionary(r, rows, &format);
+    switch (format.layout) {
+    case FLAT: return emit_flat(r, rows, &format);
+    case VALUES: return emit_values(r, rows, &format);
+    case VIEWS: return emit_views(r, rows, &format);
+    case LISTS: return emit_lists(r, rows, &format);
+    case LIST_VIEWS: return emit_list_views(r, rows, &format);
+    case FIXED_LISTS: return emit_fixed(r, rows, &format);
+    default: return emit_records(r, rows, &format);
+    }
+}
+
+/* ---- how many bytes ---- */
+
+/* The first node at which all take more bytes than they may. */
+static uint32_t spend_again(struct reader *r, struct budget *budget, size_t most) {
+    budget->spent = 0;
+    for (size_t i = 0; i < r->count; i++) {
+        codrask_spend_task(budget, &r->nodes[i], &r->tasks[i]);
+        if (budget->spent > most)
+            return codrask_refuse(r, CODRASK_TOO_MANY_BYTES, i, 0);
+    }
+    return 0;
+}
+
+static uint32_t test_bytes(struct reader *r, const struct codrask_limits *limits) {
+    struct budget budget = {.ranges = NULL};
+    for (size_t i = 0; i < r->count; i++)
+        codrask_spend_task(&budget, &r->nodes[i], &r->tasks[i]);
+    bool no_memory = budget.no_memory;
+    size_t most = codrask_most_bytes(&budget, limits);
+    return no_memory ? codrask_refuse(r, CODRASK_MEMORY, 0, 0) : spend_again(r, &budget, most);
+}
+
+/* ---- the call ---- */
+
+static uint32_t read_all(struct reader *r, const struct ArrowSchema *schema, const struct ArrowArray *array, const struct codrask_limits *limits) {
+    if (!schema || !array)
+        return refuse_next(r, CODRASK_BAD_ARROW);
+    uint32_t error = emit(r, (struct rows){schema, array, 0, SIZE_MAX, 0, true});
+    if (error)
+        return error;
+    if (!fits(r, schema->name))
+        return codrask_refuse(r, CODRASK_TOO_MANY_BYTES, 0, 0);
+    r->memory = calloc(1, sizeof *r->memory);
+    if (!r->memory)
+        return codrask_refuse(r, CODRASK_MEMORY, 0, 0);
+    error = test_bytes(r, limits);
+    return error || (error = codrask_keep_name(r, schema->name)) ? error : codrask_make_rows(r);
+}
+
+uint32_t codrask_read_arrow(const struct ArrowSchema *schema, const struct ArrowArray *array, const struct codrask_limits *limits,
+                            struct codrask_table *table, struct codrask_fault *fault) {
+    struct reader r = {.nodes = NULL};
+    uint32_t error = read_all(&r, schema, array, limits);
+    free(r.tasks);
+    *table = (struct codrask_table){r.nodes, r.count, r.memory};
+    *fault = r.fault;
+    if (error)
+        codrask_table_free(table);
+    return error;
+}
+
+uint32_t codrask_table_from_arrow(const struct ArrowSchema *schema, const struct ArrowArray *array, struct codrask_table *table) {
+    struct codrask_fault fault;
+    return codrask_read_arrow(schema, array, NULL, table, &fault);
+}
+
+uint32_t codrask_check_arrow(const struct ArrowSchema *schema, const struct ArrowArray *array, struct codrask_fault *fault) {
+    struct codrask_table table;
+    uint32_t error = codrask_read_arrow(schema, array, NULL, &table, fault);
+    if (error)
+        return error;
+    error = codrask_check(table.nodes, table.count, fault);
+    codrask_table_free(&table);
+    return error;
+}

@@ -1,0 +1,289 @@
+/* Arrow's C Data Interface as tables of nodes: what rows are looked at for. Nulls are counted, and views, heaps, sizes, offsets and
+ * names are made, when it is known how many bytes all of them have. */
+#include "inside.h"
+
+#include <stdlib.h>
+#include <string.h>
+
+/* ---- memory ---- */
+
+/* A block that the table has. */
+static void *block_of(struct reader *r, size_t count, size_t width) {
+    size_t size = codrask_add(codrask_multiply(count, width), sizeof(struct block));
+    struct block *block = size < PTRDIFF_MAX ? malloc(size) : NULL;
+    if (!block)
+        return NULL;
+    block->next = r->memory->blocks;
+    r->memory->blocks = block;
+    return block + 1;
+}
+
+static uint32_t no_memory(struct reader *r) {
+    return codrask_refuse(r, CODRASK_MEMORY, 0, 0);
+}
+
+void codrask_free_memory(struct table_memory *memory) {
+    for (struct block *block = memory ? memory->blocks : NULL; block;) {
+        struct block *next = block->next;
+        free(block);
+        block = next;
+    }
+    free(memory);
+}
+
+uint32_t codrask_keep_name(struct reader *reader, const char *name) {
+    size_t size = name ? strlen(name) : 0;
+    char *copy = block_of(reader, size + 1, 1);
+    if (!copy)
+        return no_memory(reader);
+    if (size)
+        memcpy(copy, name, size);
+    copy[size] = 0;
+    reader->memory->name = copy;
+    return 0;
+}
+
+/* ---- how many bytes ---- */
+
+/* How many bytes a buffer of views has; 0 where that is not told. */
+static int64_t heap_size(const struct ArrowArray *array, size_t i) {
+    const uint8_t *sizes = array->buffers[array->n_buffers - 1];
+    return sizes && array->buffers[i + 2] ? codrask_offset_at(sizes, 8, i) : 0;
+}
+
+static void spend_heaps(struct budget *budget, const struct codrask_node *node, const struct task *task) {
+    size_t count = node->buffer_count;
+    codrask_spend(budget, node->views, 16 * node->view_count, 16 * node->view_count);
+    codrask_spend(budget, task->array->buffers, count * sizeof *task->array->buffers, count * sizeof *node->buffers);
+    for (size_t i = 0; i < count; i++) {
+        int64_t size = heap_size(task->array, i);
+        size_t bytes = size > 0 ? (size_t)size : 0;
+        codrask_spend(budget, task->array->buffers[i + 2], bytes, bytes);
+    }
+}
+
+static void spend_names(struct budget *budget, const struct codrask_node *node, const struct task *task) {
+    for (size_t i = 0; i < node->buffer_count; i++) {
+        const char *name = task->schema->children[i]->name;
+        size_t size = name ? strlen(name) : 0;
+        codrask_spend(budget, name, size, size + sizeof *node->buffers);
+    }
+}
+
+void codrask_spend_task(struct budget *budget, const struct codrask_node *node, const struct task *task) {
+    size_t looked_at = node->length ? (task->bit + node->length - 1) / 8 + 1 : 0;
+    if (task->bitmap && node->validity != CODRASK_BY_ARRAY)
+        codrask_spend(budget, task->bitmap, looked_at, looked_at);
+    if (task->offsets)
+        codrask_spend(budget, task->offsets, (node->length + 1) * task->width, 0);
+    switch (task->work) {
+    case MAKE_VIEWS:
+        codrask_spend(budget, task->heap ? task->heap + task->base : NULL, (size_t)(task->end - task->base), (size_t)(task->end - task->base));
+        codrask_spend(budget, NULL, 0, codrask_multiply(node->length, sizeof *node->views));
+        return;
+    case MAKE_OFFSETS:
+    case MAKE_SIZES: codrask_spend(budget, NULL, 0, codrask_multiply(node->length, 8)); return;
+    case MAKE_HEAPS: spend_heaps(budget, node, task); return;
+    case MAKE_NAMES: spend_names(budget, node, task); return;
+    case NO_WORK: codrask_spend_node(budget, node);
+    }
+}
+
+/* ---- nulls ---- */
+
+static bool is_set(const uint8_t *bits, size_t i) {
+    return bits[i / 8] >> i % 8 & 1;
+}
+
+/* How many of the bits from `from` up to `end` are not set. */
+static size_t count_unset(const uint8_t *bits, size_t from, size_t end) {
+    size_t unset = 0;
+    for (; from < end && from % 8; from++)
+        unset += !is_set(bits, from);
+    for (; from + 64 <= end; from += 64) {
+        uint64_t word;
+        memcpy(&word, bits + from / 8, 8);
+        unset += (size_t)__builtin_popcountll(~word);
+    }
+    for (; from < end; from++)
+        unset += !is_set(bits, from);
+    return unset;
+}
+
+/* The null count of an array is of all its rows, of which some may not be read: as many of them may be null as it has more. */
+static bool is_false_count(const struct ArrowArray *array, bool has_bitmap, size_t length, size_t nulls) {
+    if (!has_bitmap)
+        return array->null_count > 0;
+    return array->null_count >= 0 && ((size_t)array->null_count < nulls || (size_t)array->null_count - nulls > (size_t)array->length - length);
+}
+
+/* Tests the null count of an array, and that only rows are null which may be. */
+static uint32_t test_nulls(struct reader *r, size_t i) {
+    const struct task *task = &r->tasks[i];
+    size_t length = r->nodes[i].length, row = 0;
+    if (!task->array)
+        return 0;
+    size_t nulls = task->bitmap ? count_unset(task->bitmap, task->bit, task->bit + length) : 0;
+    if (is_false_count(task->array, task->bitmap, length, nulls))
+        return codrask_refuse(r, CODRASK_BAD_NULL_COUNT, i, 0);
+    if (task->nullable || (!nulls && task->array->null_count <= 0))
+        return 0;
+    while (nulls && is_set(task->bitmap, task->bit + row))
+        row++;
+    return codrask_refuse(r, CODRASK_UNEXPECTED_NULL, i, row);
+}
+
+/* ---- values between offsets ---- */
+
+/* The heaps of values that lie between offsets: each has fewer than 2^31 bytes, since an Arrow view counts no more. */
+struct cut {
+    struct codrask_bytes *heaps;
+    size_t count, room;
+    const uint8_t *heap;
+    int64_t start; /* where the last heap starts */
+};
+
+/* The view of a value that has no bytes which could be looked at: it names no buffer, and is refused. */
+static const struct codrask_view astray = {{13, 0, 0, 0, 0, 0, 0, 0, 0xff, 0xff, 0xff, 0xff}};
+
+/* Starts a heap. */
+static void open_heap(struct cut *cut, int64_t start) {
+    cut->start = start;
+    cut->heaps[cut->count++] = (struct codrask_bytes){cut->heap + start, 0};
+}
+
+/* The view of a value that stands in a heap; none where offsets fell before the heap, or too often. */
+static struct codrask_view view_of_long(struct cut *cut, int64_t start, int64_t after) {
+    struct codrask_view view;
+    if (after - cut->start > INT32_MAX && cut->count < cut->room)
+        open_heap(cut, start);
+    if (start < cut->start || after - cut->start > INT32_MAX)
+        return astray;
+    struct codrask_bytes *heap = &cut->heaps[cut->count - 1];
+    const uint32_t size = (uint32_t)(after - start), block = (uint32_t)(cut->count - 1), place = (uint32_t)(start - cut->start);
+    if (heap->count < (size_t)(after - cut->start))
+        heap->count = (size_t)(after - cut->start);
+    memcpy(view.bytes, &size, 4);
+    memcpy(view.bytes + 4, cut->heap + start, 4);
+    memcpy(view.bytes + 8, &block, 4);
+    memcpy(view.bytes + 12, &place, 4);
+    return view;
+}
+
+/* The view of a value: a short one stands in its view. */
+static struct codrask_view view_of(struct cut *cut, int64_t start, int64_t after) {
+    struct codrask_view view = {{0}};
+    const uint32_t size = (uint32_t)(after - start);
+    if (size > 12)
+        return view_of_long(cut, start, after);
+    memcpy(view.bytes, &size, 4);
+    memcpy(view.bytes + 4, cut->heap + start, size);
+    return view;
+}
+
+/* Values that lie between offsets, as views. */
+static uint32_t make_views(struct reader *r, size_t i, const struct task *task) {
+    size_t length = r->nodes[i].length, room = (size_t)(task->end - task->base) / INT32_MAX * 2 + 2;
+    struct codrask_view *views = block_of(r, length, sizeof *views);
+    struct cut cut = {block_of(r, room, sizeof *cut.heaps), 0, room, task->heap ? task->heap : codrask_nothing, 0};
+    if (!views || !cut.heaps)
+        return no_memory(r);
+    open_heap(&cut, task->base);
+    for (size_t row = 0; row < length; row++) {
+        int64_t start = codrask_offset_at(task->offsets, task->width, row), after = codrask_offset_at(task->offsets, task->width, row + 1);
+        bool inside = task->base <= start && start <= after && after <= task->end;
+        if (inside && after - start > INT32_MAX)
+            return codrask_refuse(r, CODRASK_OVERFLOW, i, row);
+        views[row] = inside ? view_of(&cut, start, after) : astray;
+    }
+    r->nodes[i].views = views;
+    r->nodes[i].view_count = length;
+    r->nodes[i].buffers = cut.heaps;
+    r->nodes[i].buffer_count = cut.count;
+    return 0;
+}
+
+/* ---- the rest ---- */
+
+/* The buffers of views. */
+static uint32_t make_heaps(struct reader *r, size_t i, const struct task *task) {
+    struct codrask_node *node = &r->nodes[i];
+    struct codrask_bytes *heaps = block_of(r, node->buffer_count, sizeof *heaps);
+    if (!heaps)
+        return no_memory(r);
+    for (size_t k = 0; k < node->buffer_count; k++) {
+        const uint8_t *bytes = task->array->buffers[k + 2];
+        int64_t size = heap_size(task->array, k);
+        if (size < 0)
+            return codrask_refuse(r, CODRASK_BAD_ARROW, i, k);
+        heaps[k] = (struct codrask_bytes){bytes ? bytes : codrask_nothing, (size_t)size};
+    }
+    node->buffers = heaps;
+    return 0;
+}
+
+/* An offset less the first one; where no number is that small, it stays too small. */
+static int64_t less(int64_t offset, int64_t base) {
+    int64_t made;
+    return __builtin_sub_overflow(offset, base, &made) ? INT64_MIN : made;
+}
+
+/* The offsets of lists, from 0 on, or their sizes: each offset but the first, less the one before it. */
+static uint32_t make_numbers(struct reader *r, size_t i, const struct task *task) {
+    size_t length = r->nodes[i].length;
+    int64_t *numbers = block_of(r, length, sizeof *numbers);
+    if (!numbers)
+        return no_memory(r);
+    for (size_t row = 0; row < length; row++) {
+        int64_t start = codrask_offset_at(task->offsets, task->width, row);
+        if (task->work == MAKE_OFFSETS)
+            numbers[row] = less(start, task->base);
+        else
+            numbers[row] = less(codrask_offset_at(task->offsets, task->width, row + 1), start);
+    }
+    r->nodes[i].bytes = (const void *)numbers;
+    r->nodes[i].byte_count = length * sizeof *numbers;
+    return 0;
+}
+
+/* Copies of the names of columns or elements. */
+static uint32_t make_names(struct reader *r, size_t i, const struct task *task) {
+    struct codrask_node *node = &r->nodes[i];
+    size_t bytes = 0;
+    for (size_t k = 0; k < node->buffer_count; k++)
+        bytes += task->schema->children[k]->name ? strlen(task->schema->children[k]->name) : 0;
+    struct codrask_bytes *names = block_of(r, 1, node->buffer_count * sizeof *names + bytes);
+    if (!names)
+        return no_memory(r);
+    uint8_t *copy = (uint8_t *)(names + node->buffer_count);
+    for (size_t k = 0; k < node->buffer_count; k++) {
+        const char *name = task->schema->children[k]->name;
+        names[k] = (struct codrask_bytes){copy, name ? strlen(name) : 0};
+        if (names[k].count)
+            memcpy(copy, name, names[k].count);
+        copy += names[k].count;
+    }
+    node->buffers = names;
+    return 0;
+}
+
+static uint32_t do_task(struct reader *r, size_t i) {
+    const struct task *task = &r->tasks[i];
+    switch (task->work) {
+    case MAKE_VIEWS: return make_views(r, i, task);
+    case MAKE_HEAPS: return make_heaps(r, i, task);
+    case MAKE_OFFSETS:
+    case MAKE_SIZES: return make_numbers(r, i, task);
+    case MAKE_NAMES: return make_names(r, i, task);
+    default: return 0;
+    }
+}
+
+uint32_t codrask_make_rows(struct reader *reader) {
+    for (size_t i = 0; i < reader->count; i++) {
+        uint32_t error = test_nulls(reader, i);
+        if (error || (error = do_task(reader, i)))
+            return error;
+    }
+    return 0;
+}
