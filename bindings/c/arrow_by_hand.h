@@ -9,7 +9,9 @@
 #include <stdlib.h>
 #include <string.h>
 
+#ifndef COUNT
 #define COUNT(array) (sizeof(array) / sizeof *(array))
+#endif
 
 static int passed, failed;
 

@@ -4,7 +4,9 @@
 
 #include "codrask.h"
 
+#ifndef COUNT
 #define COUNT(array) (sizeof(array) / sizeof *(array))
+#endif
 #define SLICE(array) (const uint8_t *)(array), sizeof(array)
 
 _Alignas(16) static const uint8_t none[16];

@@ -162,7 +162,7 @@ static void sum_schema(struct sum *sum, const struct ArrowSchema *schema, bool n
         sum_schema(sum, schema->dictionary, nullable, false);
 }
 
-static struct sum sum_of(const struct ArrowSchema *schema, const struct ArrowArray *array) {
+static inline struct sum sum_of(const struct ArrowSchema *schema, const struct ArrowArray *array) {
     struct sum sum = {0, true};
     sum_schema(&sum, schema, true, true);
     for (int64_t i = 0; i < array->length; i++)

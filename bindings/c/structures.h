@@ -56,11 +56,11 @@ static char *text(struct structure *s, const char *characters) {
     return copy;
 }
 
-static void keep_schema(struct ArrowSchema *schema) {
+static void leave_schema(struct ArrowSchema *schema) {
     schema->release = NULL;
 }
 
-static void keep_array(struct ArrowArray *array) {
+static void leave_array(struct ArrowArray *array) {
     array->release = NULL;
 }
 
@@ -72,11 +72,11 @@ static size_t new_slot(struct structure *s, const char *format, size_t length, s
     struct ArrowSchema *schema = exact(s, sizeof *schema);
     struct ArrowArray *array = exact(s, sizeof *array);
     schema->format = text(s, format);
-    schema->release = keep_schema;
+    schema->release = leave_schema;
     schema->n_children = array->n_children = (int64_t)children;
     schema->children = children ? exact(s, children * sizeof *schema->children) : NULL;
     array->children = children ? exact(s, children * sizeof *array->children) : NULL;
-    array->release = keep_array;
+    array->release = leave_array;
     array->length = (int64_t)length;
     array->offset = (int64_t)offset;
     array->n_buffers = (int64_t)buffers;

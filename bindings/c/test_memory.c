@@ -2,6 +2,7 @@
  * given back. Linked with --wrap of malloc, calloc, realloc and free. The last line is 'N passed, M failed'. */
 #include "by_hand.h"
 #include "tables.h"
+#include "turned_structures.h"
 
 #include <stdio.h>
 
@@ -51,15 +52,40 @@ static uint32_t check(struct codrask_fault *fault) {
     return codrask_check(made.nodes, made.count, fault);
 }
 
-static uint32_t to_arrow(struct codrask_fault *fault) {
+static uint32_t write_table(const struct codrask_node *nodes, size_t count, uint32_t flags, struct codrask_fault *fault) {
     struct ArrowSchema schema;
     struct ArrowArray array;
-    uint32_t number = codrask_to_arrow(made.nodes, made.count, CODRASK_BY_OFFSETS, &schema, &array, fault);
+    uint32_t number = codrask_write_arrow(nodes, count, flags, "a column", NULL, &schema, &array, fault);
     if (schema.release)
         schema.release(&schema);
     if (array.release)
         array.release(&array);
     return number;
+}
+
+static uint32_t by_offsets(struct codrask_fault *fault) {
+    return write_table(made.nodes, made.count, CODRASK_BY_OFFSETS, fault);
+}
+
+static uint32_t by_views(struct codrask_fault *fault) {
+    return write_table(made.nodes, made.count, CODRASK_BY_VIEWS, fault);
+}
+
+static struct structure structure;
+
+/* Reads an Arrow structure, and writes it again. */
+static uint32_t there_and_back(struct codrask_fault *fault) {
+    struct codrask_table table;
+    uint32_t number = codrask_read_arrow(structure.slots[0].schema, structure.slots[0].array, NULL, &table, fault);
+    if (number)
+        return number;
+    number = write_table(table.nodes, table.count, CODRASK_BY_VIEWS, fault);
+    codrask_table_free(&table);
+    return number;
+}
+
+static uint32_t check_structure(struct codrask_fault *fault) {
+    return codrask_check_arrow(structure.slots[0].schema, structure.slots[0].array, fault);
 }
 
 static uint32_t run(struct codrask_fault *fault) {
@@ -151,9 +177,18 @@ int main(void) {
         if (seed % 2)
             made.nodes[random_below(made.count)].length++;
         gives_back(check, seed) ? passed++ : failed++;
-        gives_back(to_arrow, seed) ? passed++ : failed++;
+        gives_back(by_offsets, seed) ? passed++ : failed++;
+        gives_back(by_views, seed) ? passed++ : failed++;
         gives_back(run, seed) ? passed++ : failed++;
         let_go(&made);
+    }
+    for (uint64_t seed = 1; seed <= 200; seed++) {
+        build_seed(&structure, seed);
+        if (seed % 4 == 0)
+            turn_structure(&structure);
+        gives_back(there_and_back, seed) ? passed++ : failed++;
+        gives_back(check_structure, seed) ? passed++ : failed++;
+        tear_down(&structure);
     }
     printf("%zu passed, %zu failed\n", passed, failed);
     return failed != 0;

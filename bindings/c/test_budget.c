@@ -1,0 +1,273 @@
+/* Structs of few bytes take at most 64 MiB and a second, each: what would make more of them is refused, by name; and what is given
+ * twice, or in many slices, is read. Linked with --wrap of malloc, calloc, realloc and free. The last line is 'N passed, M failed'. */
+#define _DEFAULT_SOURCE
+#include "arrow_by_hand.h"
+#include "by_hand.h"
+#include "turned_structures.h"
+
+#include <malloc.h>
+#include <time.h>
+
+void *__real_malloc(size_t size);
+void *__real_realloc(void *block, size_t size);
+void *__real_calloc(size_t count, size_t width);
+void __real_free(void *block);
+void *__wrap_malloc(size_t size);
+void *__wrap_realloc(void *old, size_t size);
+void *__wrap_calloc(size_t count, size_t width);
+void __wrap_free(void *old);
+
+static size_t held, most;
+
+static void *hold(void *block) {
+    held += block ? malloc_usable_size(block) : 0;
+    most = held > most ? held : most;
+    return block;
+}
+
+void *__wrap_malloc(size_t size) {
+    return hold(__real_malloc(size));
+}
+
+void *__wrap_realloc(void *old, size_t size) {
+    size_t before = old ? malloc_usable_size(old) : 0;
+    void *block = __real_realloc(old, size);
+    held -= block ? before : 0;
+    return hold(block);
+}
+
+void *__wrap_calloc(size_t count, size_t width) {
+    return hold(__real_calloc(count, width));
+}
+
+void __wrap_free(void *old) {
+    held -= old ? malloc_usable_size(old) : 0;
+    __real_free(old);
+}
+
+static size_t before;
+static clock_t start;
+
+static void begin(void) {
+    before = most = held;
+    start = clock();
+}
+
+/* Whether little was taken since, and all of it was given back. */
+static bool is_little(void) {
+    double seconds = (double)(clock() - start) / CLOCKS_PER_SEC;
+    bool good = most - before <= (size_t)64 << 20 && seconds <= 1 && held == before;
+    if (!good)
+        printf("%zu KiB and %.2f seconds, %zu bytes held\n", (most - before) >> 10, seconds, held - before);
+    return good;
+}
+
+static struct codrask_fault fault;
+
+static void read_little(const char *what, const struct ArrowSchema *schema, const struct ArrowArray *array, uint32_t number, size_t node) {
+    begin();
+    expect(what, schema, array, number, node, 0);
+    tell(what, is_little());
+}
+
+static void write_little(const char *what, const struct codrask_node *nodes, size_t count, uint32_t flags, uint32_t number, size_t node) {
+    struct ArrowSchema schema;
+    struct ArrowArray array;
+    begin();
+    uint32_t answer = codrask_to_arrow(nodes, count, flags, &schema, &array, &fault);
+    if (!answer) {
+        schema.release(&schema);
+        array.release(&array);
+    }
+    if (answer != number || fault.node != node)
+        printf("%u %s at node %zu\n", answer, codrask_fault_name(answer), fault.node);
+    tell(what, answer == number && fault.node == node && is_little());
+}
+
+/* ---- reading ---- */
+
+/* A struct that names one child twice, level under level. */
+static void doubled(void) {
+    static struct ArrowSchema schemas[31], *schema_parts[31][2];
+    static struct ArrowArray arrays[31], *parts[31][2];
+    static const void *none_there[1];
+    static const size_t levels[] = {11, 12, 22, 30};
+    for (size_t k = 0; k < COUNT(levels); k++) {
+        for (size_t i = 0; i <= levels[k]; i++) {
+            int64_t children = i < levels[k] ? 2 : 0;
+            schemas[i] = schema("+s", 0, schema_parts[i], children), arrays[i] = array(0, 0, none_there, 1, parts[i], children);
+            for (size_t c = 0; c < 2 && children; c++)
+                schema_parts[i][c] = &schemas[i + 1], parts[i][c] = &arrays[i + 1];
+        }
+        read_little("one child named twice", &schemas[0], &arrays[0], levels[k] < 12 ? 0 : CODRASK_TOO_MANY_NODES, 0);
+    }
+}
+
+/* So many columns that are one. */
+static void one_column(const char *what, struct ArrowSchema *column_schema, struct ArrowArray *column, size_t count, uint32_t number, size_t node) {
+    static struct ArrowSchema *schemas[4096];
+    static struct ArrowArray *arrays[4096];
+    static const void *none_there[1];
+    for (size_t i = 0; i < count; i++)
+        schemas[i] = column_schema, arrays[i] = column;
+    struct ArrowSchema s = schema("+s", 0, schemas, (int64_t)count);
+    struct ArrowArray a = array(column->length, 0, none_there, 1, arrays, (int64_t)count);
+    read_little(what, &s, &a, number, node);
+}
+
+static void repeated(void) {
+    static int32_t offsets[16001];
+    static uint8_t heap[64000];
+    const void *text[] = {NULL, offsets, heap}, *list[] = {NULL, offsets}, *bits[] = {heap, NULL};
+    for (int32_t i = 0; i <= 16000; i++)
+        offsets[i] = 4 * i;
+    memset(heap, 0xff, sizeof heap);
+    struct ArrowSchema number = schema("C", 0, NULL, 0), *children[] = {&number}, texts = schema("z", 0, NULL, 0), lists = schema("+l", 0, children, 1);
+    const void *flat[] = {NULL, heap};
+    struct ArrowArray elements = array(64000, 0, flat, 2, NULL, 0), *parts[] = {&elements};
+    struct ArrowArray text_array = array(16000, 0, text, 3, NULL, 0), list_array = array(16000, 0, list, 2, parts, 1);
+    one_column("20 columns that are one of texts", &texts, &text_array, 20, 0, 0);
+    one_column("4000 columns that are one of texts", &texts, &text_array, 4000, CODRASK_TOO_MANY_BYTES, 27);
+    one_column("1000 columns that are one of lists", &lists, &list_array, 1000, CODRASK_TOO_MANY_BYTES, 132);
+    struct ArrowSchema empty = schema("+s", 0, NULL, 0);
+    struct ArrowArray rows = array(512000, 0, bits, 1, NULL, 0);
+    one_column("4000 columns that are one bitmap", &empty, &rows, 4000, CODRASK_TOO_MANY_BYTES, 131);
+    static char name[1 << 20];
+    memset(name, 'x', sizeof name - 1);
+    struct ArrowArray few = array(1, 0, flat, 2, NULL, 0);
+    number.name = name;
+    one_column("4000 columns of one name", &number, &few, 4000, CODRASK_TOO_MANY_BYTES, 0);
+}
+
+/* Arrays over parts of one block of offsets, each at a place of its own. */
+static void overlapping(void) {
+    static int32_t offsets[32001];
+    static struct ArrowSchema texts, *schemas[4000];
+    static struct ArrowArray columns[4000], *arrays[4000];
+    const void *buffers[] = {NULL, offsets, NULL}, *none_there[] = {NULL};
+    texts = schema("u", 0, NULL, 0);
+    for (size_t i = 0; i < 4000; i++) {
+        columns[i] = array(16000, (int64_t)i, buffers, 3, NULL, 0);
+        schemas[i] = &texts, arrays[i] = &columns[i];
+    }
+    struct ArrowSchema s = schema("+s", 0, schemas, 4000);
+    struct ArrowArray a = array(16000, 0, none_there, 1, arrays, 4000);
+    read_little("4000 columns over one block of offsets", &s, &a, CODRASK_TOO_MANY_BYTES, 33);
+}
+
+static void one_buffer(void) {
+    static const void *buffers[4099];
+    static int64_t sizes[4096];
+    static uint8_t heap[500000];
+    static struct codrask_view view;
+    for (size_t i = 0; i < 4096; i++)
+        buffers[2 + i] = heap, sizes[i] = sizeof heap;
+    buffers[1] = &view, buffers[4098] = sizes;
+    struct ArrowSchema s = schema("vz", 0, NULL, 0);
+    struct ArrowArray a = array(1, 0, buffers, 4099, NULL, 0);
+    read_little("4096 buffers that are one", &s, &a, CODRASK_TOO_MANY_BYTES, 0);
+    struct codrask_table table;
+    struct codrask_limits all = {SIZE_MAX};
+    tell("the same where the caller allows it", !codrask_read_arrow(&s, &a, &all, &table, &fault) && table.nodes[0].buffer_count == 4096);
+    write_little("and written", table.nodes, table.count, CODRASK_BY_VIEWS, CODRASK_TOO_MANY_BYTES, 0);
+    codrask_table_free(&table);
+    a.n_buffers = 65540;
+    read_little("65537 buffers", &s, &a, CODRASK_TOO_MANY_BUFFERS, 0);
+}
+
+/* N slices of one column have as many bytes as the column. */
+static void slices(void) {
+    enum { ROWS = 100000 };
+    static int32_t offsets[ROWS + 1];
+    static uint8_t heap[13 * ROWS], bitmap[ROWS / 8];
+    const void *buffers[] = {bitmap, offsets, heap};
+    for (int32_t i = 0; i <= ROWS; i++)
+        offsets[i] = 13 * i;
+    memset(heap, 'x', sizeof heap);
+    memset(bitmap, 0xff, sizeof bitmap);
+    struct ArrowSchema s = schema("u", ARROW_FLAG_NULLABLE, NULL, 0);
+    size_t bytes = 0;
+    bool good = true;
+    begin();
+    for (int64_t from = 0; from < ROWS; from += 10) {
+        struct ArrowArray a = array(10, from, buffers, 3, NULL, 0);
+        struct codrask_table table;
+        good = good && !codrask_read_arrow(&s, &a, NULL, &table, &fault) && !codrask_check(table.nodes, table.count, &fault);
+        if (!good)
+            break;
+        bytes += table.nodes[0].buffers[0].count + table.nodes[1].byte_count;
+        codrask_table_free(&table);
+    }
+    tell("slices of one column", good && bytes <= sizeof heap + 2 * ROWS / 10 && is_little());
+}
+
+/* ---- limits of the caller's ---- */
+
+static void limits(void) {
+    static const uint8_t bytes[1000];
+    const void *flat[] = {NULL, bytes};
+    struct ArrowSchema s = schema("C", 0, NULL, 0), schema;
+    struct ArrowArray a = array(1000, 0, flat, 2, NULL, 0), written;
+    struct codrask_table table;
+    struct codrask_limits limit = {999};
+    tell("a limit of the caller's", codrask_read_arrow(&s, &a, &limit, &table, &fault) == CODRASK_TOO_MANY_BYTES && !table.nodes && !table.memory);
+    limit.bytes = 1000;
+    tell("just as many bytes", !codrask_read_arrow(&s, &a, &limit, &table, &fault));
+    tell("are written", !codrask_write_arrow(table.nodes, table.count, 0, "x", &limit, &schema, &written, &fault));
+    schema.release(&schema);
+    written.release(&written);
+    limit.bytes = 999;
+    tell("and not more", codrask_write_arrow(table.nodes, table.count, 0, "x", &limit, &schema, &written, &fault) == CODRASK_TOO_MANY_BYTES && !schema.release);
+    codrask_table_free(&table);
+}
+
+/* ---- writing ---- */
+
+static void written(void) {
+    static uint8_t heap[1 << 20];
+    static struct codrask_view views[100000];
+    const uint32_t size = sizeof heap;
+    for (size_t i = 0; i < COUNT(views); i++)
+        memcpy(views[i].bytes, &size, 4);
+    struct codrask_bytes bytes = {heap, sizeof heap};
+    struct codrask_node n = node(CODRASK_BINARY_VIEW, 0, COUNT(views));
+    n.views = views, n.view_count = COUNT(views), n.buffers = &bytes, n.buffer_count = 1;
+    write_little("one value of a mebibyte 100000 times, by views", &n, 1, CODRASK_BY_VIEWS, 0, 0);
+    write_little("one value of a mebibyte 100000 times, by offsets", &n, 1, CODRASK_BY_OFFSETS, CODRASK_TOO_MANY_BYTES, 0);
+    struct codrask_bytes name = {(const uint8_t *)"x", 1};
+    struct codrask_node rows[] = {node(CODRASK_STRUCT, CODRASK_ALL_VALID, (size_t)1 << 40), node(CODRASK_STRUCT, CODRASK_ALL_INVALID, (size_t)1 << 40)};
+    rows[0].buffers = &name, rows[0].buffer_count = 1;
+    write_little("2^40 rows that are null", rows, 2, CODRASK_BY_VIEWS, CODRASK_TOO_MANY_BYTES, 1);
+}
+
+/* ---- structures of few bytes ---- */
+
+static void structures(void) {
+    static struct structure made;
+    for (uint64_t seed = 1; seed <= 500; seed++) {
+        struct codrask_table table;
+        build_seed(&made, seed);
+        turn_structure(&made);
+        begin();
+        uint32_t number = codrask_read_arrow(made.slots[0].schema, made.slots[0].array, NULL, &table, &fault);
+        if (!number) {
+            codrask_check(table.nodes, table.count, &fault);
+            codrask_table_free(&table);
+        }
+        tell("a structure", is_little());
+        tear_down(&made);
+    }
+}
+
+int main(void) {
+    doubled();
+    repeated();
+    overlapping();
+    one_buffer();
+    slices();
+    limits();
+    written();
+    structures();
+    printf("%d passed, %d failed\n", passed, failed);
+    return failed != 0;
+}

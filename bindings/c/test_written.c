@@ -1,0 +1,122 @@
+/* What is written of tables by hand, by name: padding, names, flags, and which node is refused. The last line is 'N passed, M failed'. */
+#include "arrow_by_hand.h"
+#include "by_hand.h"
+
+static struct ArrowSchema written_schema;
+static struct ArrowArray written;
+static struct codrask_fault fault;
+
+static uint32_t write_named(const struct codrask_node *nodes, size_t count, uint32_t flags, const char *name) {
+    return codrask_write_arrow(nodes, count, flags, name, NULL, &written_schema, &written, &fault);
+}
+
+static void give_back(void) {
+    if (written_schema.release)
+        written_schema.release(&written_schema);
+    if (written.release)
+        written.release(&written);
+}
+
+static void refuse(const char *what, const struct codrask_node *nodes, size_t count, uint32_t flags, uint32_t number, size_t at, size_t place) {
+    uint32_t answer = write_named(nodes, count, flags, "x");
+    bool good = answer == number && fault.number == number && fault.node == at && fault.place == place && !written.release && !written_schema.release;
+    if (!good)
+        printf("%u %s at node %zu, place %zu\n", answer, codrask_fault_name(answer), fault.node, fault.place);
+    tell(what, good);
+    give_back();
+}
+
+/* What follows a short value is zero, also where it was not. */
+static void padding(void) {
+    struct codrask_view views[] = {{{1, 0, 0, 0, 'a', 'b', 'c', 0xff, 1, 2, 3, 4, 5, 6, 7, 8}}, {{0, 0, 0, 0, 9, 9}}}, clean[] = {{{1, 0, 0, 0, 'a'}}, {{0}}};
+    struct codrask_node n = node(CODRASK_UTF8_VIEW, 0, 2);
+    n.views = views, n.view_count = 2;
+    tell("padding is zero", !write_named(&n, 1, CODRASK_BY_VIEWS, NULL) && !memcmp(written.buffers[1], clean, sizeof clean));
+    give_back();
+}
+
+static void names(void) {
+    int64_t values[] = {1, 2};
+    struct codrask_bytes columns[] = {{(const uint8_t *)"lists", 5}, {(const uint8_t *)"pairs", 5}}, elements[] = {{(const uint8_t *)"item", 4}};
+    struct codrask_node t[] = {node(CODRASK_STRUCT, 0, 1), node(CODRASK_LIST_VIEW, 0, 1), numbers(CODRASK_I64, 2, SLICE(values)), numbers(CODRASK_I64, 1, values, 8),
+                               numbers(CODRASK_I64, 1, values, 8), node(CODRASK_FIXED_SIZE_LIST, 0, 1), numbers(CODRASK_I64, 2, SLICE(values))};
+    struct codrask_table table = {NULL, 0, NULL};
+    t[0].buffers = columns, t[0].buffer_count = 2;
+    t[1].buffers = t[5].buffers = elements, t[1].buffer_count = t[5].buffer_count = 1, t[5].size = 2;
+    bool good = !write_named(t, 7, CODRASK_BY_VIEWS, "the root") && !strcmp(written_schema.name, "the root")
+                && !strcmp(written_schema.children[0]->children[0]->name, "item") && !strcmp(written_schema.children[1]->children[0]->name, "item");
+    tell("names of the root and of elements are written", good);
+    good = good && !codrask_table_from_arrow(&written_schema, &written, &table);
+    give_back();
+    tell("and read", good && !strcmp(codrask_table_name(&table), "the root") && table.nodes[1].buffer_count == 1 && !memcmp(table.nodes[1].buffers[0].bytes, "item", 4));
+    codrask_table_free(&table);
+    elements[0].count = 5;
+    refuse("a name with a byte 0", t, 7, CODRASK_BY_VIEWS, CODRASK_BAD_ARROW, 1, 0);
+    elements[0].count = 4, columns[1].count = 6;
+    refuse("a column whose name has a byte 0", t, 7, CODRASK_BY_VIEWS, CODRASK_BAD_ARROW, 0, 1);
+}
+
+static void flags(void) {
+    int64_t values[] = {1, 2};
+    struct codrask_node n = numbers(CODRASK_I64, 2, SLICE(values));
+    const uint32_t none_of_them[] = {2, 3, 4, (uint32_t)1 << 31};
+    for (size_t i = 0; i < COUNT(none_of_them); i++)
+        refuse("flags that are no flags", &n, 1, none_of_them[i], CODRASK_BAD_FLAGS, 0, 0);
+    refuse("flags are tested first", &n, 0, 2, CODRASK_BAD_FLAGS, 0, 0);
+    refuse("no node", &n, 0, 0, CODRASK_NOT_ONE_ARRAY, 0, 0);
+}
+
+/* The node that is refused, and not the root. */
+static void nodes(void) {
+    uint8_t codes[] = {1, 0};
+    int64_t values[] = {0, 1};
+    struct codrask_bytes name = {(const uint8_t *)"x", 1};
+    struct codrask_node dictionary[] = {node(CODRASK_DICTIONARY, 0, 2), numbers(CODRASK_U8, 2, SLICE(codes)), numbers(CODRASK_I64, 2, SLICE(values))};
+    struct codrask_node t[] = {node(CODRASK_STRUCT, 0, 2), node(CODRASK_LIST_VIEW, 0, 2), numbers(CODRASK_I64, 2, SLICE(values)), dictionary[0], dictionary[1],
+                               dictionary[2], numbers(CODRASK_I64, 2, SLICE(values))};
+    t[0].buffers = &name, t[0].buffer_count = 1;
+    values[1] = 0;
+    refuse("offsets by a dictionary", t, 7, CODRASK_BY_VIEWS, CODRASK_BAD_ARROW, 1, 0);
+    values[1] = 1;
+    struct codrask_node lists[] = {t[0], t[1], t[2], numbers(CODRASK_U8, 2, SLICE(codes)), numbers(CODRASK_U8, 2, SLICE(codes))};
+    codes[0] = 0, codes[1] = 1;
+    lists[4] = numbers(CODRASK_U8, 2, codes + 0, 2);
+    uint8_t ones[] = {0, 0};
+    lists[4].bytes = ones;
+    refuse("lists that do not lie end to end", lists, 5, CODRASK_BY_OFFSETS, CODRASK_NOT_END_TO_END, 1, 1);
+    struct codrask_node codes_of_codes[] = {node(CODRASK_DICTIONARY, 0, 2), dictionary[0], dictionary[1], dictionary[2], numbers(CODRASK_I64, 2, SLICE(values))};
+    refuse("codes by a dictionary", codes_of_codes, 5, CODRASK_BY_VIEWS, CODRASK_BAD_ARROW, 0, 0);
+}
+
+/* A child that a consumer took out, and one that it put in with a release of its own. */
+static int own_releases;
+
+static void own_release(struct ArrowArray *array) {
+    own_releases++;
+    array->release = NULL;
+}
+
+static void taken_out(void) {
+    int64_t values[] = {1, 2};
+    struct codrask_bytes columns[] = {{(const uint8_t *)"a", 1}, {(const uint8_t *)"b", 1}};
+    struct codrask_node t[] = {node(CODRASK_STRUCT, 0, 2), numbers(CODRASK_I64, 2, SLICE(values)), numbers(CODRASK_I64, 2, SLICE(values))};
+    t[0].buffers = columns, t[0].buffer_count = 2;
+    bool good = !write_named(t, 3, CODRASK_BY_VIEWS, NULL);
+    struct ArrowArray first = *written.children[0], second = *written.children[1];
+    written.children[0]->release = NULL;
+    written.children[1]->release = own_release;
+    give_back();
+    tell("a child that was taken out, and one with another release", good && own_releases == 1 && !memcmp(first.buffers[1], values, 16));
+    first.release(&first);
+    second.release(&second);
+}
+
+int main(void) {
+    padding();
+    names();
+    flags();
+    nodes();
+    taken_out();
+    printf("%d passed, %d failed\n", passed, failed);
+    return failed != 0;
+}
