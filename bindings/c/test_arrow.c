@@ -91,6 +91,14 @@ static void lists(void) {
     expect("lists of one size", &s, &a, 0, 0, 0);
     a.length = 5;
     expect("lists of one size past the elements", &s, &a, CODRASK_LENGTH_MISMATCH, 0, 0);
+    static const char *const sizes_of_none[] = {"+w:", "+w:-1", "+w:2x", "+w:2147483648", "+w:18446744073709551618", "w:2", "+w2"};
+    a.length = 0, a.offset = 0;
+    for (size_t i = 0; i < COUNT(sizes_of_none); i++) {
+        s.format = sizes_of_none[i];
+        expect(s.format, &s, &a, CODRASK_BAD_ARROW, 0, 0);
+    }
+    s.format = "+w:2147483647";
+    expect("lists of the greatest size", &s, &a, 0, 0, 0);
     s.n_children = 0;
     expect("lists without elements", &s, &a, CODRASK_BAD_ARROW, 0, 0);
 }

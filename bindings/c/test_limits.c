@@ -120,6 +120,24 @@ static void empty(void) {
     free(nothing);
 }
 
+/* Records of 4095 columns are 4096 nodes; the bitmap of one is a node more. */
+static void most_nodes(void) {
+    static const uint8_t bits[1];
+    const void *buffers[] = {NULL, bits}, *with_bitmap[] = {bits, bits};
+    static struct ArrowSchema *schemas[4096];
+    static struct ArrowArray *arrays[4096];
+    struct ArrowSchema column = schema("b", ARROW_FLAG_NULLABLE, NULL, 0), s = schema("+s", 0, schemas, 4095);
+    struct ArrowArray whole = array(1, 0, buffers, 2, NULL, 0), nulls = array(1, 0, with_bitmap, 2, NULL, 0), a = array(1, 0, buffers, 1, arrays, 4095);
+    for (size_t i = 0; i < 4096; i++)
+        schemas[i] = &column, arrays[i] = &whole;
+    tell("4096 nodes", is_read(&s, &a) && table.count == 4096);
+    codrask_table_free(&table);
+    arrays[4094] = &nulls;
+    tell("4097 nodes", !is_read(&s, &a) && fault.number == CODRASK_TOO_MANY_NODES && fault.node == 0 && fault.place == 0 && !table.nodes);
+    s.n_children = a.n_children = 4096, arrays[4094] = &whole;
+    tell("4096 columns", !is_read(&s, &a) && fault.number == CODRASK_TOO_MANY_NODES && fault.node == 0 && !table.nodes);
+}
+
 /* ---- writing ---- */
 
 static void numbers_past_arrow(void) {
@@ -173,6 +191,7 @@ int main(void) {
     parts();
     long_heaps();
     empty();
+    most_nodes();
     numbers_past_arrow();
     small_stack();
     printf("%d passed, %d failed\n", passed, failed);
