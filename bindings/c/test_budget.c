@@ -201,6 +201,44 @@ static void slices(void) {
     tell("slices of one column", good && bytes <= sizeof heap + 2 * ROWS / 10 && is_little());
 }
 
+/* A million rows without values: the offsets are given, and four times as many bytes are made of them. */
+static void empty_rows(void) {
+    enum { ROWS = 1000000 };
+    static int32_t offsets[ROWS + 1];
+    static const uint8_t bytes[9];
+    const void *text[] = {NULL, offsets, NULL}, *list[] = {NULL, offsets}, *flat[] = {NULL, bytes};
+    struct ArrowSchema number = schema("C", 0, NULL, 0), *children[] = {&number}, texts = schema("u", 0, NULL, 0), lists = schema("+l", 0, children, 1);
+    struct ArrowArray elements = array(9, 0, flat, 2, NULL, 0), *parts[] = {&elements};
+    struct ArrowArray text_array = array(ROWS, 0, text, 3, NULL, 0), list_array = array(ROWS, 0, list, 2, parts, 1);
+    expect("a million empty texts", &texts, &text_array, 0, 0, 0);
+    for (size_t i = 0; i <= ROWS; i++)
+        offsets[i] = 9;
+    expect("a million empty lists", &lists, &list_array, 0, 0, 0);
+}
+
+/* Names have a limit of their own. */
+static void names(void) {
+    static char name[(4 << 20) + 2];
+    static const uint8_t bytes[1];
+    const void *flat[] = {NULL, bytes}, *none_there[] = {NULL};
+    struct codrask_limits all = {SIZE_MAX};
+    struct codrask_table table;
+    struct ArrowSchema number = schema("C", 0, NULL, 0), *schemas[] = {&number, &number}, s = schema("+s", 0, schemas, 2);
+    struct ArrowArray column = array(1, 0, flat, 2, NULL, 0), *columns[] = {&column, &column}, a = array(1, 0, none_there, 1, columns, 2);
+    memset(name, 'x', 2 << 20);
+    number.name = name;
+    s.name = "";
+    tell("names of 4 MiB", !codrask_read_arrow(&s, &a, &all, &table, &fault));
+    codrask_table_free(&table);
+    s.name = "x";
+    tell("and one byte", codrask_read_arrow(&s, &a, &all, &table, &fault) == CODRASK_TOO_MANY_BYTES && fault.node == 0);
+    s.name = "", name[2 << 20] = 'x';
+    tell("of a column", codrask_read_arrow(&s, &a, &all, &table, &fault) == CODRASK_TOO_MANY_BYTES && fault.node == 0);
+    memset(name, 'x', sizeof name - 1);
+    number.name = "x", s.name = name;
+    tell("of the root", codrask_read_arrow(&s, &a, &all, &table, &fault) == CODRASK_TOO_MANY_BYTES && fault.node == 0);
+}
+
 /* ---- limits of the caller's ---- */
 
 static void limits(void) {
@@ -219,6 +257,13 @@ static void limits(void) {
     limit.bytes = 999;
     tell("and not more", codrask_write_arrow(table.nodes, table.count, 0, "x", &limit, &schema, &written, &fault) == CODRASK_TOO_MANY_BYTES && !schema.release);
     codrask_table_free(&table);
+    struct codrask_node bits = truths(1000, bytes);
+    limit.bytes = 125;
+    tell("a bitmap of 126 bytes", codrask_write_arrow(&bits, 1, 0, "x", &limit, &schema, &written, &fault) == CODRASK_TOO_MANY_BYTES && !schema.release);
+    limit.bytes = 126;
+    tell("where as many are allowed", !codrask_write_arrow(&bits, 1, 0, "x", &limit, &schema, &written, &fault));
+    schema.release(&schema);
+    written.release(&written);
 }
 
 /* ---- writing ---- */
@@ -265,6 +310,8 @@ int main(void) {
     overlapping();
     one_buffer();
     slices();
+    empty_rows();
+    names();
     limits();
     written();
     structures();

@@ -105,6 +105,30 @@ static void texts(void) {
     const void *views_and_heap[] = {NULL, views, "ab", &size};
     a.n_buffers = 4, a.buffers = views_and_heap;
     expect("a buffer of a negative size", &s, &a, CODRASK_BAD_ARROW, 0, 0);
+    const int64_t large = 100000;
+    const struct codrask_view long_views[2] = {{{90000 & 0xff, 90000 >> 8 & 0xff, 90000 >> 16}}, {{0}}};
+    views_and_heap[1] = long_views, views_and_heap[2] = NULL, views_and_heap[3] = &large;
+    expect("a buffer that is a null pointer, and its size is not 0", &s, &a, CODRASK_BAD_START, 0, 0);
+}
+
+/* Of three texts two are read; the last offset of the array tells how long the heap is, also where one that is read passes it. */
+static void part_of_texts(void) {
+    char *heap = malloc(20);
+    int32_t offsets[] = {0, 0, 14, 20};
+    const void *none[] = {NULL}, *buffers[] = {NULL, offsets, heap};
+    struct ArrowArray column = array(3, 0, buffers, 3, NULL, 0), *columns[] = {&column}, root = array(2, 0, none, 1, columns, 1);
+    struct ArrowSchema inner = schema("u", 0, NULL, 0), *schemas[] = {&inner}, s = schema("+s", 0, schemas, 1);
+    memset(heap, 'x', 20);
+    expect("two texts of three", &s, &root, 0, 0, 0);
+    offsets[2] = 21;
+    expect("an offset past the last one of the array", &s, &root, CODRASK_BAD_BUFFER, 1, 1);
+    free(heap);
+    static const uint8_t second_null[] = {0xfd};
+    static const int32_t falling[] = {0, 40, 0, 20, 28, 40};
+    const void *fallen[] = {second_null, falling, "a text of forty characters, and no more."};
+    struct ArrowArray a = array(5, 0, fallen, 3, NULL, 0);
+    inner.flags = ARROW_FLAG_NULLABLE;
+    expect("a null row whose offset falls to the first text", &inner, &a, 0, 0, 0);
 }
 
 static void dictionaries(void) {
@@ -239,6 +263,7 @@ int main(void) {
     released();
     counts();
     texts();
+    part_of_texts();
     dictionaries();
     null_counts();
     null_counts_of_parts();

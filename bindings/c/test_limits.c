@@ -86,6 +86,14 @@ static void long_heaps(void) {
     }
     tell("a text past 2 GiB", good);
     codrask_table_free(&table);
+    int64_t falling[] = {0, half, 2 * half, 7, 27, half, 2 * half};
+    buffers[1] = falling, a.length = 6;
+    good = is_read(&s, &a) && table.nodes[0].buffer_count == 2;
+    for (size_t i = 0; good && i < 6; i++)
+        good = !memcmp(table.nodes[0].views[i].bytes + 8, "\xff\xff\xff\xff", 4) == (2 <= i && i <= 4);
+    tell("texts past 2 GiB whose offsets fall", good);
+    codrask_table_free(&table);
+    buffers[1] = offsets, a.length = 3;
     offsets[1] = 5 + (int64_t)GIB * 2;
     tell("a text of 2 GiB", codrask_read_arrow(&s, &a, NULL, &table, &fault) == CODRASK_OVERFLOW && fault.node == 0 && fault.place == 0);
     struct codrask_view views[2] = {{{0}}, {{20, 0, 0, 0, 0, 0, 0, 0, 0, 0, 0, 0, 0, 0, 0, 0xc0}}};
