@@ -260,6 +260,12 @@ static void limits(void) {
     struct codrask_node bits = truths(1000, bytes);
     limit.bytes = 125;
     tell("a bitmap of 126 bytes", codrask_write_arrow(&bits, 1, 0, "x", &limit, &schema, &written, &fault) == CODRASK_TOO_MANY_BYTES && !schema.release);
+    struct codrask_bytes heap = {bytes, sizeof bytes};
+    struct codrask_view view = {{13}};
+    struct codrask_node text = node(CODRASK_BINARY_VIEW, 0, 1);
+    text.views = &view, text.view_count = 1, text.buffers = &heap, text.buffer_count = 1;
+    limit.bytes = 500;
+    tell("a table of more bytes than are written", codrask_write_arrow(&text, 1, CODRASK_BY_OFFSETS, "x", &limit, &schema, &written, &fault) == CODRASK_TOO_MANY_BYTES);
     limit.bytes = 126;
     tell("where as many are allowed", !codrask_write_arrow(&bits, 1, 0, "x", &limit, &schema, &written, &fault));
     schema.release(&schema);

@@ -88,12 +88,34 @@ static void nodes(void) {
     refuse("codes by a dictionary", codes_of_codes, 5, CODRASK_BY_VIEWS, CODRASK_BAD_ARROW, 0, 0);
 }
 
+/* By offsets, and small ones where they are enough. */
+static void small_offsets(void) {
+    static const int32_t wanted[] = {0, 1, 3};
+    uint8_t starts[] = {0, 1}, sizes[] = {1, 2}, elements[] = {5, 6, 7};
+    struct codrask_view views[] = {{{1, 0, 0, 0, 'a'}}, {{2, 0, 0, 0, 'b', 'c'}}};
+    struct codrask_node n = node(CODRASK_UTF8_VIEW, 0, 2);
+    struct codrask_node t[] = {node(CODRASK_LIST_VIEW, 0, 2), numbers(CODRASK_U8, 3, SLICE(elements)), numbers(CODRASK_U8, 2, SLICE(starts)),
+                               numbers(CODRASK_U8, 2, SLICE(sizes))};
+    n.views = views, n.view_count = 2;
+    tell("texts by offsets", !write_named(&n, 1, CODRASK_BY_OFFSETS, NULL) && !strcmp(written_schema.format, "u") && written.n_buffers == 3
+                                 && !memcmp(written.buffers[1], wanted, sizeof wanted) && !memcmp(written.buffers[2], "abc", 3));
+    give_back();
+    tell("lists by offsets", !write_named(t, 4, CODRASK_BY_OFFSETS, NULL) && !strcmp(written_schema.format, "+l") && written.n_buffers == 2
+                                 && !memcmp(written.buffers[1], wanted, sizeof wanted));
+    give_back();
+}
+
 /* A child that a consumer took out, and one that it put in with a release of its own. */
 static int own_releases;
 
 static void own_release(struct ArrowArray *array) {
     own_releases++;
     array->release = NULL;
+}
+
+static void own_schema_release(struct ArrowSchema *schema) {
+    own_releases++;
+    schema->release = NULL;
 }
 
 static void taken_out(void) {
@@ -105,10 +127,13 @@ static void taken_out(void) {
     struct ArrowArray first = *written.children[0], second = *written.children[1];
     written.children[0]->release = NULL;
     written.children[1]->release = own_release;
+    struct ArrowSchema other = *written_schema.children[0];
+    written_schema.children[0]->release = own_schema_release;
     give_back();
-    tell("a child that was taken out, and one with another release", good && own_releases == 1 && !memcmp(first.buffers[1], values, 16));
+    tell("a child that was taken out, and two with another release", good && own_releases == 2 && !memcmp(first.buffers[1], values, 16));
     first.release(&first);
     second.release(&second);
+    other.release(&other);
 }
 
 int main(void) {
@@ -116,6 +141,7 @@ int main(void) {
     names();
     flags();
     nodes();
+    small_offsets();
     taken_out();
     printf("%d passed, %d failed\n", passed, failed);
     return failed != 0;
