@@ -207,6 +207,7 @@ const char *codrask_fault_name(uint32_t number);
 
 /* ---- Arrow's C Data Interface ---- */
 
+/* The structs of Arrow's C Data Interface, over arrays of its Columnar Format 1.4. */
 #ifndef ARROW_C_DATA_INTERFACE
 #define ARROW_C_DATA_INTERFACE
 

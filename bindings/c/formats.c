@@ -1,8 +1,6 @@
 /* The formats of Arrow's C Data Interface that are read. */
 #include "inside.h"
 
-#include <string.h>
-
 /* Whether a text is one character of these. */
 static bool is_one_of(const char *text, const char *characters) {
     return text[0] && !text[1] && strchr(characters, text[0]);

@@ -5,6 +5,7 @@
 #include "codrask.h"
 
 #include <stdbool.h>
+#include <string.h>
 
 _Static_assert(sizeof(size_t) == 8, "lengths have 64 bits");
 _Static_assert(__BYTE_ORDER__ == __ORDER_LITTLE_ENDIAN__, "numbers stand in memory with their lowest byte first");
@@ -114,7 +115,16 @@ extern const uint8_t codrask_nothing[64]; /* what an empty slice points at */
 uint32_t codrask_refuse(struct reader *reader, uint32_t number, size_t node, size_t place);
 
 /* Offset `i` of a width, at any address. */
-int64_t codrask_offset_at(const uint8_t *offsets, size_t width, size_t i);
+static inline int64_t codrask_offset_at(const uint8_t *offsets, size_t width, size_t i) {
+    int32_t of_32;
+    int64_t of_64;
+    if (width == 4) {
+        memcpy(&of_32, offsets + 4 * i, 4);
+        return of_32;
+    }
+    memcpy(&of_64, offsets + 8 * i, 8);
+    return of_64;
+}
 
 /* What a node whose task is not done yet is given, and has when it is. */
 void codrask_spend_task(struct budget *budget, const struct codrask_node *node, const struct task *task);

@@ -3,7 +3,6 @@
 #include "inside.h"
 
 #include <stdlib.h>
-#include <string.h>
 
 _Alignas(max_align_t) const uint8_t codrask_nothing[64];
 
@@ -226,17 +225,6 @@ static uint32_t emit_views(struct reader *r, struct rows rows, const struct form
     r->view_buffers += node->buffer_count;
     r->tasks[place].work = MAKE_HEAPS;
     return 0;
-}
-
-int64_t codrask_offset_at(const uint8_t *offsets, size_t width, size_t i) {
-    int32_t of_32;
-    int64_t of_64;
-    if (width == 4) {
-        memcpy(&of_32, offsets + 4 * i, 4);
-        return of_32;
-    }
-    memcpy(&of_64, offsets + 8 * i, 8);
-    return of_64;
 }
 
 /* The offsets of some rows: one more than there are rows, and none where there is no row or no buffer. */

@@ -3,7 +3,6 @@
 #include "inside.h"
 
 #include <stdlib.h>
-#include <string.h>
 
 /* ---- memory ---- */
 

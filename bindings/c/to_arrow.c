@@ -4,7 +4,6 @@
 
 #include <stdio.h>
 #include <stdlib.h>
-#include <string.h>
 
 /* What a schema or an array has beside itself; while it is released, also what it was. */
 struct schema_owner {
@@ -163,11 +162,15 @@ static size_t width_of(uint32_t kind) {
 
 /* A number of a node of counts. */
 static uint64_t count_at(const struct codrask_node *node, size_t i) {
-    size_t width = width_of(node->kind);
-    uint64_t value = 0;
-    for (size_t k = 0; k < width; k++)
-        value |= (uint64_t)node->bytes[i * width + k] << 8 * k;
-    return value;
+    uint16_t of_16;
+    uint32_t of_32;
+    uint64_t of_64;
+    switch (width_of(node->kind)) {
+    case 1: return node->bytes[i];
+    case 2: memcpy(&of_16, node->bytes + 2 * i, 2); return of_16;
+    case 4: memcpy(&of_32, node->bytes + 4 * i, 4); return of_32;
+    default: memcpy(&of_64, node->bytes + 8 * i, 8); return of_64;
+    }
 }
 
 static bool is_null(const struct codrask_node *node, const struct codrask_node *mask, size_t i) {
@@ -414,54 +417,46 @@ static bool end_of_list(const struct codrask_node *offsets, const struct codrask
     return offset <= INT64_MAX && size <= INT64_MAX - offset;
 }
 
-/* Whether each list begins where the one before it ends; the end of the last one. */
-static uint32_t test_lists(struct maker *m, const struct codrask_node *offsets, const struct codrask_node *sizes, uint64_t *end) {
-    bool by_offsets = m->flags & CODRASK_BY_OFFSETS;
-    *end = offsets->length ? count_at(offsets, 0) : 0;
-    for (size_t i = 0; i < offsets->length; i++) {
-        if (by_offsets && count_at(offsets, i) != *end)
-            return refuse_row(m, CODRASK_NOT_END_TO_END, i);
-        if (!end_of_list(offsets, sizes, i, end))
-            return refuse_row(m, CODRASK_OVERFLOW, i);
-    }
-    return 0;
-}
-
-/* Offsets alone, of lists that lie one after another up to `end`. */
-static uint32_t offsets_of_lists(struct maker *m, struct pair p, const struct codrask_node *offsets, uint64_t end) {
-    size_t n = offsets->length, width = end <= INT32_MAX ? 4 : 8;
+/* Offsets alone, of lists of which each begins where the one before it ends. */
+static uint32_t offsets_of_lists(struct maker *m, struct pair p, const struct codrask_node *offsets, const struct codrask_node *sizes) {
+    size_t n = offsets->length;
+    uint64_t end = 0;
     void *made;
+    size_t width = n && (!end_of_list(offsets, sizes, n - 1, &end) || end > INT32_MAX) ? 8 : 4;
     uint32_t error = set_format(p, width == 4 ? "+l" : "+L");
     if (error || (error = add_buffer(m, p, 1, n + 1, width, &made)))
         return error;
-    for (size_t i = 0; i < n; i++)
+    for (size_t i = 0; i < n; i++) {
+        if (i && count_at(offsets, i) != end)
+            return refuse_row(m, CODRASK_NOT_END_TO_END, i);
+        if (!end_of_list(offsets, sizes, i, &end))
+            return refuse_row(m, CODRASK_OVERFLOW, i);
         put_offset(made, width, i, count_at(offsets, i));
+    }
     put_offset(made, width, n, end);
     return 0;
 }
 
 static uint32_t views_of_lists(struct maker *m, struct pair p, const struct codrask_node *offsets, const struct codrask_node *sizes) {
-    uint64_t *starts, *lengths;
+    uint64_t *starts, *lengths, end;
     uint32_t error = set_format(p, "+vL");
     if (error || (error = add_buffer(m, p, 1, offsets->length, 8, &starts)) || (error = add_buffer(m, p, 2, offsets->length, 8, &lengths)))
         return error;
     for (size_t i = 0; i < offsets->length; i++) {
+        if (!end_of_list(offsets, sizes, i, &end))
+            return refuse_row(m, CODRASK_OVERFLOW, i);
         starts[i] = count_at(offsets, i);
-        lengths[i] = count_at(sizes, i);
+        lengths[i] = end - starts[i];
     }
     return 0;
 }
 
 /* The offsets and sizes of lists: their nodes follow those of the elements. */
 static uint32_t make_ends(struct maker *m, struct pair p) {
-    uint64_t end;
     const struct codrask_node *offsets = counts(m), *sizes = offsets ? counts(m) : NULL;
     if (!sizes)
         return CODRASK_BAD_ARROW;
-    uint32_t error = test_lists(m, offsets, sizes, &end);
-    if (error)
-        return error;
-    return m->flags & CODRASK_BY_OFFSETS ? offsets_of_lists(m, p, offsets, end) : views_of_lists(m, p, offsets, sizes);
+    return m->flags & CODRASK_BY_OFFSETS ? offsets_of_lists(m, p, offsets, sizes) : views_of_lists(m, p, offsets, sizes);
 }
 
 /* The elements of lists, under the name that the node has for them. */
