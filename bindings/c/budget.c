@@ -46,7 +46,8 @@ static void spend_buffers(struct budget *budget, const struct codrask_node *node
 }
 
 void codrask_spend_node(struct budget *budget, const struct codrask_node *node) {
-    size_t views = codrask_multiply(node->view_count, sizeof *node->views), names = codrask_multiply(node->buffer_count, sizeof *node->buffers);
+    size_t views = codrask_multiply(node->view_count, sizeof *node->views),
+           names = codrask_multiply(node->buffer_count, sizeof *node->buffers);
     switch (node->kind) {
     case CODRASK_UTF8_VIEW:
     case CODRASK_BINARY_VIEW:

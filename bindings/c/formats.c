@@ -12,7 +12,8 @@ static bool is_integer(const char *text, struct format *format) {
     if (!is_one_of(text, letters))
         return false;
     size_t place = (size_t)(strchr(letters, text[0]) - letters);
-    *format = (struct format){.layout = FLAT, .kind = CODRASK_U8 + (uint32_t)place, .width = (size_t)1 << place % 4, .buffers = 2, .may_be_codes = true};
+    *format = (struct format){
+        .layout = FLAT, .kind = CODRASK_U8 + (uint32_t)place, .width = (size_t)1 << place % 4, .buffers = 2, .may_be_codes = true};
     return true;
 }
 

@@ -102,7 +102,8 @@ static bool has_form(struct rows rows, const struct format *format) {
     const struct ArrowSchema *schema = rows.schema;
     const struct ArrowArray *array = rows.array;
     bool views = format->layout == VIEWS;
-    if (schema->n_children != array->n_children || schema->n_children < 0 || (format->children >= 0 && schema->n_children != format->children))
+    if (schema->n_children != array->n_children || schema->n_children < 0
+        || (format->children >= 0 && schema->n_children != format->children))
         return false;
     if (array->n_buffers < format->buffers || (!views && array->n_buffers != format->buffers) || !array->buffers)
         return false;
@@ -382,7 +383,8 @@ static uint32_t test_bytes(struct reader *r, const struct codrask_limits *limits
 
 /* ---- the call ---- */
 
-static uint32_t read_all(struct reader *r, const struct ArrowSchema *schema, const struct ArrowArray *array, const struct codrask_limits *limits) {
+static uint32_t read_all(struct reader *r, const struct ArrowSchema *schema, const struct ArrowArray *array,
+                         const struct codrask_limits *limits) {
     if (!schema || !array)
         return refuse_next(r, CODRASK_BAD_ARROW);
     uint32_t error = emit(r, (struct rows){schema, array, 0, SIZE_MAX, 0, true});

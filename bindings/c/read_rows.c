@@ -77,7 +77,8 @@ void codrask_spend_task(struct budget *budget, const struct codrask_node *node, 
         codrask_spend(budget, task->offsets, (node->length + 1) * task->width, 0);
     switch (task->work) {
     case MAKE_VIEWS:
-        codrask_spend(budget, task->heap ? task->heap + task->base : NULL, (size_t)(task->end - task->base), (size_t)(task->end - task->base));
+        codrask_spend(budget, task->heap ? task->heap + task->base : NULL, (size_t)(task->end - task->base),
+                      (size_t)(task->end - task->base));
         codrask_spend(budget, NULL, 0, codrask_multiply(node->length, sizeof *node->views));
         return;
     case MAKE_OFFSETS:
@@ -113,7 +114,8 @@ static size_t count_unset(const uint8_t *bits, size_t from, size_t end) {
 static bool is_false_count(const struct ArrowArray *array, bool has_bitmap, size_t length, size_t nulls) {
     if (!has_bitmap)
         return array->null_count > 0;
-    return array->null_count >= 0 && ((size_t)array->null_count < nulls || (size_t)array->null_count - nulls > (size_t)array->length - length);
+    return array->null_count >= 0
+           && ((size_t)array->null_count < nulls || (size_t)array->null_count - nulls > (size_t)array->length - length);
 }
 
 /* Tests the null count of an array, and that only rows are null which may be. */

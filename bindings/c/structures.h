@@ -229,8 +229,10 @@ static size_t build_flat(struct structure *s, size_t length, size_t offset, bool
     static const struct {
         const char *format;
         size_t width;
-    } formats[] = {{"b", 0}, {"c", 1}, {"C", 1}, {"s", 2}, {"S", 2}, {"i", 4}, {"I", 4}, {"l", 8}, {"L", 8}, {"tdD", 4}, {"tdm", 8}, {"tts", 4}, {"ttm", 4},
-                   {"ttu", 8}, {"ttn", 8}, {"tss:", 8}, {"tsm:UTC", 8}, {"tsu:Europe/Rome", 8}, {"tsn:", 8}, {"tDs", 8}, {"tDm", 8}, {"tDu", 8}, {"tDn", 8}};
+    } formats[] = {{"b", 0},    {"c", 1},   {"C", 1},   {"s", 2},    {"S", 2},       {"i", 4},
+                   {"I", 4},    {"l", 8},   {"L", 8},   {"tdD", 4},  {"tdm", 8},     {"tts", 4},
+                   {"ttm", 4},  {"ttu", 8}, {"ttn", 8}, {"tss:", 8}, {"tsm:UTC", 8}, {"tsu:Europe/Rome", 8},
+                   {"tsn:", 8}, {"tDs", 8}, {"tDm", 8}, {"tDu", 8},  {"tDn", 8}};
     size_t which = roll(sizeof formats / sizeof *formats);
     size_t at = new_slot(s, formats[which].format, length, offset, 2, 0);
     put_nulls(s, at, nulls);

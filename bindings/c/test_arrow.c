@@ -14,7 +14,8 @@ static void flat(void) {
         struct ArrowSchema s = schema(formats[i], ARROW_FLAG_NULLABLE, NULL, 0);
         expect(formats[i], &s, &a, 0, 0, 0);
     }
-    const char *others[] = {"f", "g", "e", "n", "d:1,2", "+m", "+w:", "+w:-1", "+w:2147483648", "", "+r", "ll", "ts", "tsgarbage", "tsm", "tDqqq", "tDmm", "tiM"};
+    const char *others[] = {"f", "g",  "e",  "n",  "d:1,2",     "+m",  "+w:",   "+w:-1", "+w:2147483648",
+                            "",  "+r", "ll", "ts", "tsgarbage", "tsm", "tDqqq", "tDmm",  "tiM"};
     for (size_t i = 0; i < COUNT(others); i++) {
         struct ArrowSchema s = schema(others[i], 0, NULL, 0);
         expect(others[i], &s, &a, CODRASK_BAD_ARROW, 0, 0);
@@ -106,8 +107,13 @@ static void lists(void) {
 static void records(void) {
     const uint8_t codes[] = {0, 1, 2, 1};
     const int64_t heap_len[] = {13};
-    struct { int32_t size; char prefix[4]; int32_t block, start; } views[] = {{3, "abc", 0, 0}, {13, "a lo", 0, 0}, {0, "", 0, 0}, {3, "xyz", 0, 0}};
-    const void *code_buffers[] = {NULL, codes}, *value_buffers[] = {NULL, numbers}, *text_buffers[] = {some_valid, views, "a longer text", heap_len};
+    struct {
+        int32_t size;
+        char prefix[4];
+        int32_t block, start;
+    } views[] = {{3, "abc", 0, 0}, {13, "a lo", 0, 0}, {0, "", 0, 0}, {3, "xyz", 0, 0}};
+    const void *code_buffers[] = {NULL, codes}, *value_buffers[] = {NULL, numbers},
+               *text_buffers[] = {some_valid, views, "a longer text", heap_len};
     const void *no_buffers[] = {NULL};
     struct ArrowArray values = array(3, 1, value_buffers, 2, NULL, 0), dictionary = array(4, 0, code_buffers, 2, NULL, 0);
     struct ArrowArray texts = array(4, 0, text_buffers, 4, NULL, 0), *parts[] = {&dictionary, &texts};

@@ -43,7 +43,8 @@ static bool there_and_back(uint32_t flags) {
     if (answer) {
         refused++;
         not_end_to_end += answer == CODRASK_NOT_END_TO_END;
-        bool own = answer == CODRASK_BAD_ARROW || answer == CODRASK_OVERFLOW || (answer == CODRASK_NOT_END_TO_END && flags == CODRASK_BY_OFFSETS);
+        bool own =
+            answer == CODRASK_BAD_ARROW || answer == CODRASK_OVERFLOW || (answer == CODRASK_NOT_END_TO_END && flags == CODRASK_BY_OFFSETS);
         bool same = other.number == number && other.node == fault.node && other.place == fault.place;
         return !schema.release && !array.release && other.number == answer && (number ? same : own);
     }

@@ -104,7 +104,8 @@ static void doubled(void) {
 }
 
 /* So many columns that are one. */
-static void one_column(const char *what, struct ArrowSchema *column_schema, struct ArrowArray *column, size_t count, uint32_t number, size_t node) {
+static void one_column(const char *what, struct ArrowSchema *column_schema, struct ArrowArray *column, size_t count, uint32_t number,
+                       size_t node) {
     static struct ArrowSchema *schemas[4096];
     static struct ArrowArray *arrays[4096];
     static const void *none_there[1];
@@ -122,7 +123,8 @@ static void repeated(void) {
     for (int32_t i = 0; i <= 16000; i++)
         offsets[i] = 4 * i;
     memset(heap, 0xff, sizeof heap);
-    struct ArrowSchema number = schema("C", 0, NULL, 0), *children[] = {&number}, texts = schema("z", 0, NULL, 0), lists = schema("+l", 0, children, 1);
+    struct ArrowSchema number = schema("C", 0, NULL, 0), *children[] = {&number}, texts = schema("z", 0, NULL, 0),
+                       lists = schema("+l", 0, children, 1);
     const void *flat[] = {NULL, heap};
     struct ArrowArray elements = array(64000, 0, flat, 2, NULL, 0), *parts[] = {&elements};
     struct ArrowArray text_array = array(16000, 0, text, 3, NULL, 0), list_array = array(16000, 0, list, 2, parts, 1);
@@ -207,7 +209,8 @@ static void empty_rows(void) {
     static int32_t offsets[ROWS + 1];
     static const uint8_t bytes[9];
     const void *text[] = {NULL, offsets, NULL}, *list[] = {NULL, offsets}, *flat[] = {NULL, bytes};
-    struct ArrowSchema number = schema("C", 0, NULL, 0), *children[] = {&number}, texts = schema("u", 0, NULL, 0), lists = schema("+l", 0, children, 1);
+    struct ArrowSchema number = schema("C", 0, NULL, 0), *children[] = {&number}, texts = schema("u", 0, NULL, 0),
+                       lists = schema("+l", 0, children, 1);
     struct ArrowArray elements = array(9, 0, flat, 2, NULL, 0), *parts[] = {&elements};
     struct ArrowArray text_array = array(ROWS, 0, text, 3, NULL, 0), list_array = array(ROWS, 0, list, 2, parts, 1);
     expect("a million empty texts", &texts, &text_array, 0, 0, 0);
@@ -248,24 +251,28 @@ static void limits(void) {
     struct ArrowArray a = array(1000, 0, flat, 2, NULL, 0), written;
     struct codrask_table table;
     struct codrask_limits limit = {999};
-    tell("a limit of the caller's", codrask_read_arrow(&s, &a, &limit, &table, &fault) == CODRASK_TOO_MANY_BYTES && !table.nodes && !table.memory);
+    tell("a limit of the caller's",
+         codrask_read_arrow(&s, &a, &limit, &table, &fault) == CODRASK_TOO_MANY_BYTES && !table.nodes && !table.memory);
     limit.bytes = 1000;
     tell("just as many bytes", !codrask_read_arrow(&s, &a, &limit, &table, &fault));
     tell("are written", !codrask_write_arrow(table.nodes, table.count, 0, "x", &limit, &schema, &written, &fault));
     schema.release(&schema);
     written.release(&written);
     limit.bytes = 999;
-    tell("and not more", codrask_write_arrow(table.nodes, table.count, 0, "x", &limit, &schema, &written, &fault) == CODRASK_TOO_MANY_BYTES && !schema.release);
+    tell("and not more", codrask_write_arrow(table.nodes, table.count, 0, "x", &limit, &schema, &written, &fault) == CODRASK_TOO_MANY_BYTES
+                             && !schema.release);
     codrask_table_free(&table);
     struct codrask_node bits = truths(1000, bytes);
     limit.bytes = 125;
-    tell("a bitmap of 126 bytes", codrask_write_arrow(&bits, 1, 0, "x", &limit, &schema, &written, &fault) == CODRASK_TOO_MANY_BYTES && !schema.release);
+    tell("a bitmap of 126 bytes",
+         codrask_write_arrow(&bits, 1, 0, "x", &limit, &schema, &written, &fault) == CODRASK_TOO_MANY_BYTES && !schema.release);
     struct codrask_bytes heap = {bytes, sizeof bytes};
     struct codrask_view view = {{13}};
     struct codrask_node text = node(CODRASK_BINARY_VIEW, 0, 1);
     text.views = &view, text.view_count = 1, text.buffers = &heap, text.buffer_count = 1;
     limit.bytes = 500;
-    tell("a table of more bytes than are written", codrask_write_arrow(&text, 1, CODRASK_BY_OFFSETS, "x", &limit, &schema, &written, &fault) == CODRASK_TOO_MANY_BYTES);
+    tell("a table of more bytes than are written",
+         codrask_write_arrow(&text, 1, CODRASK_BY_OFFSETS, "x", &limit, &schema, &written, &fault) == CODRASK_TOO_MANY_BYTES);
     limit.bytes = 126;
     tell("where as many are allowed", !codrask_write_arrow(&bits, 1, 0, "x", &limit, &schema, &written, &fault));
     schema.release(&schema);
@@ -286,7 +293,8 @@ static void written(void) {
     write_little("one value of a mebibyte 100000 times, by views", &n, 1, CODRASK_BY_VIEWS, 0, 0);
     write_little("one value of a mebibyte 100000 times, by offsets", &n, 1, CODRASK_BY_OFFSETS, CODRASK_TOO_MANY_BYTES, 0);
     struct codrask_bytes name = {(const uint8_t *)"x", 1};
-    struct codrask_node rows[] = {node(CODRASK_STRUCT, CODRASK_ALL_VALID, (size_t)1 << 40), node(CODRASK_STRUCT, CODRASK_ALL_INVALID, (size_t)1 << 40)};
+    struct codrask_node rows[] = {node(CODRASK_STRUCT, CODRASK_ALL_VALID, (size_t)1 << 40),
+                                  node(CODRASK_STRUCT, CODRASK_ALL_INVALID, (size_t)1 << 40)};
     rows[0].buffers = &name, rows[0].buffer_count = 1;
     write_little("2^40 rows that are null", rows, 2, CODRASK_BY_VIEWS, CODRASK_TOO_MANY_BYTES, 1);
 }

@@ -47,7 +47,8 @@ static void released(void) {
 }
 
 static void counts(void) {
-    int64_t *const each[] = {&r.elements.length, &r.elements.offset, &r.elements.n_buffers, &r.elements.n_children, &r.elements_schema.n_children};
+    int64_t *const each[] = {&r.elements.length, &r.elements.offset, &r.elements.n_buffers, &r.elements.n_children,
+                             &r.elements_schema.n_children};
     for (size_t i = 0; i < COUNT(each); i++) {
         *each[i] = -1;
         refuse("a negative count", CODRASK_BAD_ARROW, 3);
@@ -204,7 +205,8 @@ static void null_counts_of_parts(void) {
 
 /* Nullable is what the schema says: batches with nulls and without are of one type. */
 static void nullable(void) {
-    static const uint32_t wanted[] = {CODRASK_NON_NULLABLE, CODRASK_NON_NULLABLE, CODRASK_ALL_VALID, CODRASK_BY_ARRAY, CODRASK_ALL_VALID, CODRASK_ALL_VALID};
+    static const uint32_t wanted[] = {CODRASK_NON_NULLABLE, CODRASK_NON_NULLABLE, CODRASK_ALL_VALID,
+                                      CODRASK_BY_ARRAY,     CODRASK_ALL_VALID,    CODRASK_ALL_VALID};
     for (size_t i = 0; i < COUNT(wanted); i++) {
         const void *buffers[] = {i % 2 ? all_valid : NULL, numbers};
         struct ArrowSchema s = schema("l", i < 2 ? 0 : ARROW_FLAG_NULLABLE, NULL, 0), written_schema;
@@ -253,8 +255,9 @@ static void names(void) {
     memset(name, 0xff, 9), memset(other, 0xff, 9);
     free(name), free(other);
     memset(&r.root_schema, 0xff, sizeof r.root_schema);
-    tell("names after the schema is gone", good && !codrask_check(table.nodes, table.count, &fault) && !memcmp(table.nodes[0].buffers[0].bytes, "a column", 8)
-                                               && !memcmp(table.nodes[2].buffers[0].bytes, "elements", 8) && !strcmp(codrask_table_name(&table), "x"));
+    tell("names after the schema is gone",
+         good && !codrask_check(table.nodes, table.count, &fault) && !memcmp(table.nodes[0].buffers[0].bytes, "a column", 8)
+             && !memcmp(table.nodes[2].buffers[0].bytes, "elements", 8) && !strcmp(codrask_table_name(&table), "x"));
     codrask_table_free(&table);
     make_records();
 }

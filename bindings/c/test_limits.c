@@ -39,7 +39,8 @@ static bool is_refused(const struct codrask_node *nodes, size_t count, uint32_t 
         struct ArrowSchema schema;
         struct ArrowArray array;
         uint32_t answer = codrask_to_arrow(nodes, count, flags, &schema, &array, &fault);
-        good = good && answer == number && fault.number == number && fault.node == at && fault.place == place && !schema.release && !array.release;
+        good = good && answer == number && fault.number == number && fault.node == at && fault.place == place && !schema.release
+               && !array.release;
     }
     return good;
 }
@@ -52,19 +53,22 @@ static void parts(void) {
     int32_t offsets[] = {(int32_t)quarter - 22, (int32_t)quarter}, list[] = {(int32_t)(quarter / 8) - 1, (int32_t)(quarter / 8)};
     const void *text[] = {NULL, offsets, heap}, *numbers[] = {NULL, heap}, *lists[] = {NULL, list};
     struct ArrowSchema s = schema("z", 0, NULL, 0), number = schema("l", 0, NULL, 0), *children[] = {&number};
-    struct ArrowArray a = array(1, 0, text, 3, NULL, 0), elements = array((int64_t)(quarter / 8), 0, numbers, 2, NULL, 0), *arrays[] = {&elements};
+    struct ArrowArray a = array(1, 0, text, 3, NULL, 0), elements = array((int64_t)(quarter / 8), 0, numbers, 2, NULL, 0),
+                      *arrays[] = {&elements};
     tell("one text at the end of a heap", is_read(&s, &a) && table.nodes[0].buffer_count == 1 && table.nodes[0].buffers[0].count == 22
                                               && table.nodes[0].buffers[0].bytes == heap + quarter - 22);
     codrask_table_free(&table);
     s = schema("+l", 0, children, 1), a = array(1, 0, lists, 2, arrays, 1);
     tell("one list at the end of its elements", is_read(&s, &a) && table.nodes[1].length == 1 && table.nodes[1].byte_count == 8
-                                                    && table.nodes[1].bytes == heap + quarter - 8 && *(const int64_t *)(const void *)table.nodes[2].bytes == 0);
+                                                    && table.nodes[1].bytes == heap + quarter - 8
+                                                    && *(const int64_t *)(const void *)table.nodes[2].bytes == 0);
     codrask_table_free(&table);
     s = schema("b", 0, NULL, 0), a = array(1, (int64_t)GIB, numbers, 2, NULL, 0);
     tell("one bit at an offset", is_read(&s, &a) && table.nodes[0].byte_count == 1 && table.nodes[0].bytes == heap + GIB / 8);
     codrask_table_free(&table);
     s = schema("l", ARROW_FLAG_NULLABLE, NULL, 0), numbers[0] = heap, a = array(1, 1000003, numbers, 2, NULL, 0);
-    tell("one bit of a bitmap", is_read(&s, &a) && table.nodes[1].byte_count == 1 && table.nodes[1].offset == 3 && table.nodes[1].bytes == heap + 125000);
+    tell("one bit of a bitmap",
+         is_read(&s, &a) && table.nodes[1].byte_count == 1 && table.nodes[1].offset == 3 && table.nodes[1].bytes == heap + 125000);
     codrask_table_free(&table);
     munmap(heap, quarter);
 }
@@ -81,8 +85,10 @@ static void long_heaps(void) {
     for (size_t i = 0; good && i < 3; i++) {
         uint32_t field[4];
         memcpy(field, table.nodes[0].views[i].bytes, 16);
-        good = field[0] == offsets[i + 1] - offsets[i] && field[2] < 2 && field[3] <= INT32_MAX && table.nodes[0].buffers[field[2]].count <= INT32_MAX
-               && table.nodes[0].buffers[field[2]].bytes + field[3] == heap + offsets[i] && field[3] + field[0] <= table.nodes[0].buffers[field[2]].count;
+        good = field[0] == offsets[i + 1] - offsets[i] && field[2] < 2 && field[3] <= INT32_MAX
+               && table.nodes[0].buffers[field[2]].count <= INT32_MAX
+               && table.nodes[0].buffers[field[2]].bytes + field[3] == heap + offsets[i]
+               && field[3] + field[0] <= table.nodes[0].buffers[field[2]].count;
     }
     tell("a text past 2 GiB", good);
     codrask_table_free(&table);
@@ -102,8 +108,8 @@ static void long_heaps(void) {
     struct ArrowSchema schema;
     struct ArrowArray array;
     n.views = views, n.view_count = 2, n.buffers = &bytes, n.buffer_count = 1;
-    tell("a view past 2 GiB", codrask_to_arrow(&n, 1, CODRASK_BY_VIEWS, &schema, &array, &fault) == CODRASK_OVERFLOW && fault.node == 0 && fault.place == 1
-                                  && !schema.release && !array.release);
+    tell("a view past 2 GiB", codrask_to_arrow(&n, 1, CODRASK_BY_VIEWS, &schema, &array, &fault) == CODRASK_OVERFLOW && fault.node == 0
+                                  && fault.place == 1 && !schema.release && !array.release);
     munmap(heap, 4 * GIB);
 }
 
@@ -121,7 +127,8 @@ static void empty(void) {
         struct ArrowArray a = array(0, 0, buffers, counts[i], arrays, parts);
         bool good = is_read(&s, &a);
         for (size_t k = 0; good && k < table.count; k++)
-            good = (uintptr_t)table.nodes[k].buffers % _Alignof(struct codrask_bytes) == 0 && table.nodes[k].buffers && table.nodes[k].views && table.nodes[k].bytes;
+            good = (uintptr_t)table.nodes[k].buffers % _Alignof(struct codrask_bytes) == 0 && table.nodes[k].buffers && table.nodes[k].views
+                   && table.nodes[k].bytes;
         tell(formats[i], good);
         codrask_table_free(&table);
     }
@@ -135,7 +142,8 @@ static void most_nodes(void) {
     static struct ArrowSchema *schemas[4096];
     static struct ArrowArray *arrays[4096];
     struct ArrowSchema column = schema("b", ARROW_FLAG_NULLABLE, NULL, 0), s = schema("+s", 0, schemas, 4095);
-    struct ArrowArray whole = array(1, 0, buffers, 2, NULL, 0), nulls = array(1, 0, with_bitmap, 2, NULL, 0), a = array(1, 0, buffers, 1, arrays, 4095);
+    struct ArrowArray whole = array(1, 0, buffers, 2, NULL, 0), nulls = array(1, 0, with_bitmap, 2, NULL, 0),
+                      a = array(1, 0, buffers, 1, arrays, 4095);
     for (size_t i = 0; i < 4096; i++)
         schemas[i] = &column, arrays[i] = &whole;
     tell("4096 nodes", is_read(&s, &a) && table.count == 4096);
@@ -151,9 +159,10 @@ static void most_nodes(void) {
 static void numbers_past_arrow(void) {
     uint64_t offsets[] = {((uint64_t)1 << 63) - 1, 4}, sizes[] = {5, 1};
     uint8_t codes[] = {0};
-    struct codrask_node lists[] = {node(CODRASK_LIST_VIEW, 0, 2), node(CODRASK_STRUCT, 0, SIZE_MAX), numbers(CODRASK_U64, 2, SLICE(offsets)),
-                                   numbers(CODRASK_U64, 2, SLICE(sizes))};
-    struct codrask_node codes_and_values[] = {node(CODRASK_DICTIONARY, 0, 1), numbers(CODRASK_U8, 1, SLICE(codes)), node(CODRASK_STRUCT, 0, (size_t)1 << 63)};
+    struct codrask_node lists[] = {node(CODRASK_LIST_VIEW, 0, 2), node(CODRASK_STRUCT, 0, SIZE_MAX),
+                                   numbers(CODRASK_U64, 2, SLICE(offsets)), numbers(CODRASK_U64, 2, SLICE(sizes))};
+    struct codrask_node codes_and_values[] = {node(CODRASK_DICTIONARY, 0, 1), numbers(CODRASK_U8, 1, SLICE(codes)),
+                                              node(CODRASK_STRUCT, 0, (size_t)1 << 63)};
     struct codrask_node fixed[] = {node(CODRASK_FIXED_SIZE_LIST, 0, 1), node(CODRASK_STRUCT, 0, (size_t)1 << 31)};
     fixed[0].size = (uint32_t)1 << 31;
     tell("elements past 63 bits", is_refused(lists, 4, CODRASK_OVERFLOW, 1, 0));

@@ -109,13 +109,15 @@ static uint32_t run_each_kind(struct codrask_fault *fault) {
     static const uint8_t bits[] = {2};
     static const struct codrask_bytes names[] = {{(const uint8_t *)"a", 1}, {(const uint8_t *)"b", 1}};
     static const size_t twice[] = {2, 2};
-    struct codrask_node records[] = {node(CODRASK_STRUCT, CODRASK_BY_ARRAY, 2), truths(2, bits), numbers(CODRASK_I32, 2, SLICE(picks)), truths(2, bits)};
-    struct codrask_node lists[] = {node(CODRASK_LIST_VIEW, 0, 3), numbers(CODRASK_I64, 4, SLICE(elements)), numbers(CODRASK_I32, 3, SLICE(offsets)),
-                                   numbers(CODRASK_I32, 3, SLICE(sizes))};
+    struct codrask_node records[] = {node(CODRASK_STRUCT, CODRASK_BY_ARRAY, 2), truths(2, bits), numbers(CODRASK_I32, 2, SLICE(picks)),
+                                     truths(2, bits)};
+    struct codrask_node lists[] = {node(CODRASK_LIST_VIEW, 0, 3), numbers(CODRASK_I64, 4, SLICE(elements)),
+                                   numbers(CODRASK_I32, 3, SLICE(offsets)), numbers(CODRASK_I32, 3, SLICE(sizes))};
     struct codrask_node whole = numbers(CODRASK_I32, 2, SLICE(picks)), mask = truths(2, bits);
     struct codrask_column columns[] = {{records, 4}, {lists, 4}, {&whole, 1}, {&mask, 1}};
-    struct codrask_step steps[] = {step(CODRASK_SLICE, 1), step(CODRASK_TAKE, 0), step(CODRASK_FILTER, 0), step(CODRASK_MASK, 2), step(CODRASK_CONCAT, 0),
-                                   step(CODRASK_CANONICAL, 0), step(CODRASK_REBUILD, 1), step(CODRASK_NARROW, 2), step(CODRASK_PROJECT, 0),
+    struct codrask_step steps[] = {step(CODRASK_SLICE, 1),       step(CODRASK_TAKE, 0),          step(CODRASK_FILTER, 0),
+                                   step(CODRASK_MASK, 2),        step(CODRASK_CONCAT, 0),        step(CODRASK_CANONICAL, 0),
+                                   step(CODRASK_REBUILD, 1),     step(CODRASK_NARROW, 2),        step(CODRASK_PROJECT, 0),
                                    step(CODRASK_WITH_COLUMN, 0), step(CODRASK_REMOVE_COLUMN, 0), step(CODRASK_PUSH_VALIDITY, 0)};
     size_t wanted[COUNT(steps)];
     struct codrask_columns results = CODRASK_NO_COLUMNS;

@@ -46,8 +46,8 @@ static void expect(const char *what, uint64_t seed, enum verdict verdict) {
     bool good = is_as(verdict);
     good ? passed++ : failed++;
     if (!good)
-        printf("seed %llu, %s: %s; told %s at node %zu, place %zu\n", (unsigned long long)seed, what, words[verdict], codrask_fault_name(fault.number),
-               fault.node, fault.place);
+        printf("seed %llu, %s: %s; told %s at node %zu, place %zu\n", (unsigned long long)seed, what, words[verdict],
+               codrask_fault_name(fault.number), fault.node, fault.place);
 }
 
 int main(int count, char **words) {

@@ -17,9 +17,11 @@ static void give_back(void) {
         written.release(&written);
 }
 
-static void refuse(const char *what, const struct codrask_node *nodes, size_t count, uint32_t flags, uint32_t number, size_t at, size_t place) {
+static void refuse(const char *what, const struct codrask_node *nodes, size_t count, uint32_t flags, uint32_t number, size_t at,
+                   size_t place) {
     uint32_t answer = write_named(nodes, count, flags, "x");
-    bool good = answer == number && fault.number == number && fault.node == at && fault.place == place && !written.release && !written_schema.release;
+    bool good = answer == number && fault.number == number && fault.node == at && fault.place == place && !written.release
+                && !written_schema.release;
     if (!good)
         printf("%u %s at node %zu, place %zu\n", answer, codrask_fault_name(answer), fault.node, fault.place);
     tell(what, good);
@@ -28,7 +30,8 @@ static void refuse(const char *what, const struct codrask_node *nodes, size_t co
 
 /* What follows a short value is zero, also where it was not. */
 static void padding(void) {
-    struct codrask_view views[] = {{{1, 0, 0, 0, 'a', 'b', 'c', 0xff, 1, 2, 3, 4, 5, 6, 7, 8}}, {{0, 0, 0, 0, 9, 9}}}, clean[] = {{{1, 0, 0, 0, 'a'}}, {{0}}};
+    struct codrask_view views[] = {{{1, 0, 0, 0, 'a', 'b', 'c', 0xff, 1, 2, 3, 4, 5, 6, 7, 8}}, {{0, 0, 0, 0, 9, 9}}},
+                        clean[] = {{{1, 0, 0, 0, 'a'}}, {{0}}};
     struct codrask_node n = node(CODRASK_UTF8_VIEW, 0, 2);
     n.views = views, n.view_count = 2;
     tell("padding is zero", !write_named(&n, 1, CODRASK_BY_VIEWS, NULL) && !memcmp(written.buffers[1], clean, sizeof clean));
@@ -37,18 +40,26 @@ static void padding(void) {
 
 static void names(void) {
     int64_t values[] = {1, 2};
-    struct codrask_bytes columns[] = {{(const uint8_t *)"lists", 5}, {(const uint8_t *)"pairs", 5}}, elements[] = {{(const uint8_t *)"item", 4}};
-    struct codrask_node t[] = {node(CODRASK_STRUCT, 0, 1), node(CODRASK_LIST_VIEW, 0, 1), numbers(CODRASK_I64, 2, SLICE(values)), numbers(CODRASK_I64, 1, values, 8),
-                               numbers(CODRASK_I64, 1, values, 8), node(CODRASK_FIXED_SIZE_LIST, 0, 1), numbers(CODRASK_I64, 2, SLICE(values))};
+    struct codrask_bytes columns[] = {{(const uint8_t *)"lists", 5}, {(const uint8_t *)"pairs", 5}},
+                         elements[] = {{(const uint8_t *)"item", 4}};
+    struct codrask_node t[] = {node(CODRASK_STRUCT, 0, 1),
+                               node(CODRASK_LIST_VIEW, 0, 1),
+                               numbers(CODRASK_I64, 2, SLICE(values)),
+                               numbers(CODRASK_I64, 1, values, 8),
+                               numbers(CODRASK_I64, 1, values, 8),
+                               node(CODRASK_FIXED_SIZE_LIST, 0, 1),
+                               numbers(CODRASK_I64, 2, SLICE(values))};
     struct codrask_table table = {NULL, 0, NULL};
     t[0].buffers = columns, t[0].buffer_count = 2;
     t[1].buffers = t[5].buffers = elements, t[1].buffer_count = t[5].buffer_count = 1, t[5].size = 2;
     bool good = !write_named(t, 7, CODRASK_BY_VIEWS, "the root") && !strcmp(written_schema.name, "the root")
-                && !strcmp(written_schema.children[0]->children[0]->name, "item") && !strcmp(written_schema.children[1]->children[0]->name, "item");
+                && !strcmp(written_schema.children[0]->children[0]->name, "item")
+                && !strcmp(written_schema.children[1]->children[0]->name, "item");
     tell("names of the root and of elements are written", good);
     good = good && !codrask_table_from_arrow(&written_schema, &written, &table);
     give_back();
-    tell("and read", good && !strcmp(codrask_table_name(&table), "the root") && table.nodes[1].buffer_count == 1 && !memcmp(table.nodes[1].buffers[0].bytes, "item", 4));
+    tell("and read", good && !strcmp(codrask_table_name(&table), "the root") && table.nodes[1].buffer_count == 1
+                         && !memcmp(table.nodes[1].buffers[0].bytes, "item", 4));
     codrask_table_free(&table);
     elements[0].count = 5;
     refuse("a name with a byte 0", t, 7, CODRASK_BY_VIEWS, CODRASK_BAD_ARROW, 1, 0);
@@ -71,9 +82,15 @@ static void nodes(void) {
     uint8_t codes[] = {1, 0};
     int64_t values[] = {0, 1};
     struct codrask_bytes name = {(const uint8_t *)"x", 1};
-    struct codrask_node dictionary[] = {node(CODRASK_DICTIONARY, 0, 2), numbers(CODRASK_U8, 2, SLICE(codes)), numbers(CODRASK_I64, 2, SLICE(values))};
-    struct codrask_node t[] = {node(CODRASK_STRUCT, 0, 2), node(CODRASK_LIST_VIEW, 0, 2), numbers(CODRASK_I64, 2, SLICE(values)), dictionary[0], dictionary[1],
-                               dictionary[2], numbers(CODRASK_I64, 2, SLICE(values))};
+    struct codrask_node dictionary[] = {node(CODRASK_DICTIONARY, 0, 2), numbers(CODRASK_U8, 2, SLICE(codes)),
+                                        numbers(CODRASK_I64, 2, SLICE(values))};
+    struct codrask_node t[] = {node(CODRASK_STRUCT, 0, 2),
+                               node(CODRASK_LIST_VIEW, 0, 2),
+                               numbers(CODRASK_I64, 2, SLICE(values)),
+                               dictionary[0],
+                               dictionary[1],
+                               dictionary[2],
+                               numbers(CODRASK_I64, 2, SLICE(values))};
     t[0].buffers = &name, t[0].buffer_count = 1;
     values[1] = 0;
     refuse("offsets by a dictionary", t, 7, CODRASK_BY_VIEWS, CODRASK_BAD_ARROW, 1, 0);
@@ -84,7 +101,8 @@ static void nodes(void) {
     uint8_t ones[] = {0, 0};
     lists[4].bytes = ones;
     refuse("lists that do not lie end to end", lists, 5, CODRASK_BY_OFFSETS, CODRASK_NOT_END_TO_END, 1, 1);
-    struct codrask_node codes_of_codes[] = {node(CODRASK_DICTIONARY, 0, 2), dictionary[0], dictionary[1], dictionary[2], numbers(CODRASK_I64, 2, SLICE(values))};
+    struct codrask_node codes_of_codes[] = {node(CODRASK_DICTIONARY, 0, 2), dictionary[0], dictionary[1], dictionary[2],
+                                            numbers(CODRASK_I64, 2, SLICE(values))};
     refuse("codes by a dictionary", codes_of_codes, 5, CODRASK_BY_VIEWS, CODRASK_BAD_ARROW, 0, 0);
 }
 
@@ -94,8 +112,8 @@ static void small_offsets(void) {
     uint8_t starts[] = {0, 1}, sizes[] = {1, 2}, elements[] = {5, 6, 7};
     struct codrask_view views[] = {{{1, 0, 0, 0, 'a'}}, {{2, 0, 0, 0, 'b', 'c'}}};
     struct codrask_node n = node(CODRASK_UTF8_VIEW, 0, 2);
-    struct codrask_node t[] = {node(CODRASK_LIST_VIEW, 0, 2), numbers(CODRASK_U8, 3, SLICE(elements)), numbers(CODRASK_U8, 2, SLICE(starts)),
-                               numbers(CODRASK_U8, 2, SLICE(sizes))};
+    struct codrask_node t[] = {node(CODRASK_LIST_VIEW, 0, 2), numbers(CODRASK_U8, 3, SLICE(elements)),
+                               numbers(CODRASK_U8, 2, SLICE(starts)), numbers(CODRASK_U8, 2, SLICE(sizes))};
     n.views = views, n.view_count = 2;
     tell("texts by offsets", !write_named(&n, 1, CODRASK_BY_OFFSETS, NULL) && !strcmp(written_schema.format, "u") && written.n_buffers == 3
                                  && !memcmp(written.buffers[1], wanted, sizeof wanted) && !memcmp(written.buffers[2], "abc", 3));

@@ -46,7 +46,9 @@ static enum verdict turn_children(const struct slot *t, int64_t to) {
 }
 
 static enum verdict turn_format(struct structure *s, const struct slot *t) {
-    static const char *const others[] = {"f", "g", "e", "n", "ts", "tsgarbage", "tDqqq", "tsm", "tiM", "+w:", "+w:-1", "+w:2147483648", "uu", "", "+m", "+us:0", "d:1,2", "w:4", "+r", "+x"};
+    static const char *const others[] = {
+        "f",  "g", "e",  "n",     "ts",    "tsgarbage", "tDqqq", "tsm", "tiM", "+w:", "+w:-1", "+w:2147483648",
+        "uu", "",  "+m", "+us:0", "d:1,2", "w:4",       "+r",    "+x"};
     t->schema->format = roll(9) ? text(s, others[roll(COUNT(others))]) : NULL;
     return REFUSED;
 }
