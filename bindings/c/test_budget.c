@@ -292,6 +292,12 @@ static void written(void) {
     n.views = views, n.view_count = COUNT(views), n.buffers = &bytes, n.buffer_count = 1;
     write_little("one value of a mebibyte 100000 times, by views", &n, 1, CODRASK_BY_VIEWS, 0, 0);
     write_little("one value of a mebibyte 100000 times, by offsets", &n, 1, CODRASK_BY_OFFSETS, CODRASK_TOO_MANY_BYTES, 0);
+    static struct codrask_bytes names_of_many[60];
+    static struct codrask_node many[61];
+    for (size_t i = 0; i < 60; i++)
+        names_of_many[i] = (struct codrask_bytes){(const uint8_t *)"x", 1}, many[i + 1] = numbers(CODRASK_U8, sizeof heap, heap, sizeof heap);
+    many[0] = node(CODRASK_STRUCT, 0, sizeof heap), many[0].buffers = names_of_many, many[0].buffer_count = 60;
+    write_little("60 columns that are one mebibyte", many, 61, CODRASK_BY_VIEWS, CODRASK_TOO_MANY_BYTES, 9);
     struct codrask_bytes name = {(const uint8_t *)"x", 1};
     struct codrask_node rows[] = {node(CODRASK_STRUCT, CODRASK_ALL_VALID, (size_t)1 << 40),
                                   node(CODRASK_STRUCT, CODRASK_ALL_INVALID, (size_t)1 << 40)};

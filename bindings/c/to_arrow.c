@@ -575,6 +575,7 @@ static uint32_t test_bytes(struct maker *m, const struct codrask_limits *limits)
 /* Makes the array of a table that has passed. */
 static uint32_t make_column(struct maker *m, const char *name, struct pair p) {
     struct codrask_bytes bytes = {(const uint8_t *)name, name ? strlen(name) : 0};
+    m->node = 0;
     uint32_t error = open_pair(p);
     if (error || (name && (error = set_name(p, bytes))))
         return error;
@@ -598,7 +599,6 @@ uint32_t codrask_write_arrow(const struct codrask_node *nodes, size_t node_count
         error = test_bytes(&m, limits);
     if (!error && (error = codrask_check(nodes, node_count, fault)))
         return error;
-    m.node = 0;
     if (!error)
         error = make_column(&m, name, (struct pair){schema, array});
     if (error && schema->release)
