@@ -59,6 +59,8 @@ static void counts(void) {
     refuse("children that are fewer than none", CODRASK_BAD_ARROW, 3);
     r.elements.length = INT64_MAX, r.elements.offset = 1;
     refuse("more rows than are counted", CODRASK_BAD_ARROW, 3);
+    r.elements.offset = (int64_t)1 << 61;
+    refuse("rows past all memory", CODRASK_BAD_ARROW, 3);
     r.elements.n_buffers = 3;
     refuse("a buffer more", CODRASK_BAD_ARROW, 3);
     r.elements.n_buffers = 1;

@@ -50,6 +50,41 @@ static void expect(const char *what, uint64_t seed, enum verdict verdict) {
                codrask_fault_name(fault.number), fault.node, fault.place);
 }
 
+/* Counts the nodes before that of an array, where it is among the parts of another. */
+static bool find_node(const struct ArrowSchema *schema, const struct ArrowArray *array, const struct ArrowArray *wanted, bool nullable,
+                      size_t *node) {
+    if (array == wanted)
+        return true;
+    nullable = nullable && schema->flags & ARROW_FLAG_NULLABLE;
+    *node += 1 + !!schema->dictionary + (nullable && array->buffers[0] && array->null_count);
+    for (int64_t i = 0; i < array->n_children; i++)
+        if (find_node(schema->children[i], array->children[i], wanted, true, node))
+            return true;
+    if (schema->dictionary)
+        return find_node(schema->dictionary, array->dictionary, wanted, nullable, node);
+    *node += strchr("lLv", schema->format[1]) && schema->format[0] == '+' ? 2 : 0;
+    return false;
+}
+
+/* Whether a refusal tells the node that was turned: of nulls in a dictionary that of its codes. */
+static bool is_told_of(size_t node, bool dictionary) {
+    bool of_nulls = fault.number == CODRASK_BAD_NULL_COUNT || fault.number == CODRASK_UNEXPECTED_NULL;
+    return fault.number == CODRASK_TOO_MANY_NODES ? fault.node == 0 : fault.node == node + (of_nulls && dictionary);
+}
+
+/* Turns one thing of an array. What must be refused is told of its node. */
+static void expect_turned(uint64_t seed) {
+    const struct slot *t = &made.slots[roll(made.count)], *root = &made.slots[0];
+    size_t node = 0;
+    bool dictionary = t->schema->dictionary, found = find_node(root->schema, root->array, t->array, true, &node);
+    enum verdict verdict = turn_slot(&made, t);
+    expect("turned", seed, verdict);
+    if (verdict != REFUSED || (found && is_told_of(node, dictionary)))
+        return;
+    failed++;
+    printf("seed %llu: told %s at node %zu, and not at %zu\n", (unsigned long long)seed, codrask_fault_name(fault.number), fault.node, node);
+}
+
 int main(int count, char **words) {
     uint64_t seeds = count > 1 ? strtoull(words[1], NULL, 10) : 2000, first = count > 2 ? strtoull(words[2], NULL, 10) : 1;
     for (uint64_t seed = first; seed < first + seeds; seed++) {
@@ -59,7 +94,7 @@ int main(int count, char **words) {
         for (uint64_t turn = 0; turn < 4; turn++) {
             build_seed(&made, seed);
             dice += 31 * turn;
-            expect("turned", seed, turn_structure(&made));
+            expect_turned(seed);
             tear_down(&made);
         }
     }

@@ -142,9 +142,8 @@ static enum verdict turn_children_pointers(const struct slot *t, size_t which) {
     }
 }
 
-/* Turns one thing. */
-static inline enum verdict turn_structure(struct structure *s) {
-    const struct slot *t = &s->slots[roll(s->count)];
+/* Turns one thing of an array. */
+static enum verdict turn_slot(struct structure *s, const struct slot *t) {
     struct ArrowSchema *schema = t->schema;
     struct ArrowArray *array = t->array;
     switch (roll(40)) {
@@ -179,6 +178,11 @@ static inline enum verdict turn_structure(struct structure *s) {
     case 28: return turn_size(s, t);
     default: return turn_byte_of(t);
     }
+}
+
+/* Turns one thing of any array. */
+static inline enum verdict turn_structure(struct structure *s) {
+    return turn_slot(s, &s->slots[roll(s->count)]);
 }
 
 #endif
