@@ -175,6 +175,11 @@ static void one_buffer(void) {
     codrask_table_free(&table);
     a.n_buffers = 65540;
     read_little("65537 buffers", &s, &a, CODRASK_TOO_MANY_BUFFERS, 0);
+    static const void *empty[32771];
+    empty[1] = &view;
+    struct ArrowArray half = array(1, 0, empty, 32771, NULL, 0);
+    one_column("65536 buffers of two columns", &s, &half, 2, 0, 0);
+    one_column("and of a third one", &s, &half, 3, CODRASK_TOO_MANY_BUFFERS, 3);
 }
 
 /* N slices of one column have as many bytes as the column. */
@@ -272,6 +277,11 @@ static void limits(void) {
     text.views = &view, text.view_count = 1, text.buffers = &heap, text.buffer_count = 1;
     limit.bytes = 500;
     tell("a table of more bytes than are written",
+         codrask_write_arrow(&text, 1, CODRASK_BY_OFFSETS, "x", &limit, &schema, &written, &fault) == CODRASK_TOO_MANY_BYTES);
+    static struct codrask_view views[100];
+    text.views = views, text.view_count = text.length = 100, text.buffer_count = 0;
+    limit.bytes = 1000;
+    tell("a table of more views than are written",
          codrask_write_arrow(&text, 1, CODRASK_BY_OFFSETS, "x", &limit, &schema, &written, &fault) == CODRASK_TOO_MANY_BYTES);
     limit.bytes = 126;
     tell("where as many are allowed", !codrask_write_arrow(&bits, 1, 0, "x", &limit, &schema, &written, &fault));

@@ -108,6 +108,11 @@ static void texts(void) {
     const void *views_and_heap[] = {NULL, views, "ab", &size};
     a.n_buffers = 4, a.buffers = views_and_heap;
     expect("a buffer of a negative size", &s, &a, CODRASK_BAD_ARROW, 0, 0);
+    const int64_t sizes[] = {2, -1};
+    const void *two_heaps[] = {NULL, views, "ab", "ab", sizes}, *none[] = {NULL};
+    struct ArrowArray inner = array(2, 0, two_heaps, 5, NULL, 0), *columns[] = {&inner}, root = array(2, 0, none, 1, columns, 1);
+    struct ArrowSchema *schemas[] = {&s}, records = schema("+s", 0, schemas, 1);
+    expect("the second buffer of a column", &records, &root, CODRASK_BAD_ARROW, 1, 1);
     const int64_t large = 100000;
     const struct codrask_view long_views[2] = {{{90000 & 0xff, 90000 >> 8 & 0xff, 90000 >> 16}}, {{0}}};
     views_and_heap[1] = long_views, views_and_heap[2] = NULL, views_and_heap[3] = &large;

@@ -575,11 +575,10 @@ static uint32_t test_bytes(struct maker *m, const struct codrask_limits *limits)
 /* Makes the array of a table that has passed. */
 static uint32_t make_column(struct maker *m, const char *name, struct pair p) {
     struct codrask_bytes bytes = {(const uint8_t *)name, name ? strlen(name) : 0};
-    m->node = 0;
     uint32_t error = open_pair(p);
     if (error || (name && (error = set_name(p, bytes))))
         return error;
-    m->waiting = calloc(2 * m->node_count, sizeof *m->waiting);
+    m->waiting = calloc(m->node_count, sizeof *m->waiting); /* what waits has a node of its own */
     if (!m->waiting)
         return CODRASK_MEMORY;
     wait_for(m, p);
