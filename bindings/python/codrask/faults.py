@@ -1,0 +1,63 @@
+"""Why a column or a run is refused."""
+
+from .arguments import U32, integer
+from .library import load
+
+MEMORY, TOO_MANY_NODES = 1, 36
+
+
+def fault_name(number):
+    """The name of a fault's number; "" where it names nothing."""
+    return load().codrask_fault_name(integer("number", number, U32)).decode()
+
+
+def version():
+    """The version of the proved calls."""
+    return load().codrask_version()
+
+
+class Refused(ValueError):
+    """A column that is none: the number and the name of its first fault, the node that has it, and the row or position."""
+
+    def __init__(self, number, node=0, row=0):
+        self.number, self.node, self.row = integer("number", number, U32), integer("node", node), integer("row", row)
+        self.name = fault_name(number)
+        super().__init__(f"{self.name} (number {number}) at node {node}, row or position {row}")
+
+    def __reduce__(self):
+        return _again, (type(self), self.args, dict(self.__dict__))
+
+
+class Stopped(Refused):
+    """A run that is refused: the number and the name of its fault, and the column, the step or the result that has it; the
+    two others are None. `node` is a node of the column, `row` the row or position that the fault names."""
+
+    def __init__(self, number, part=0, which=0, node=0, row=0):
+        super().__init__(number, node, row)
+        part, which = integer("part", part, 3), integer("which", which)
+        self.column, self.step, self.result = (which if part == each else None for each in (1, 2, 3))
+        told = ("no part", f"column {which}", f"step {which}", f"result {which}")[part]
+        self.args = (f"{self.name} (number {number}) at {told}, row or position {row}",)
+
+
+def _again(kind, args, fields):
+    """A refusal as it was, also in a process that has no library."""
+    refusal = kind.__new__(kind, *args)
+    refusal.__dict__.update(fields)
+    return refusal
+
+
+def refusal(fault):
+    """What is raised for a fault of a column."""
+    return _lack() if fault.number == MEMORY else Refused(fault.number, fault.node, fault.place)
+
+
+def run_refusal(fault):
+    """What is raised for a fault of a run."""
+    if fault.number == MEMORY:
+        return _lack()
+    return Stopped(fault.number, fault.part, fault.which, fault.node, fault.place)
+
+
+def _lack():
+    return MemoryError("the library was refused memory")
