@@ -198,6 +198,41 @@ def test_text_astray():
     assert refused(batch.column("text")) == ("BadBuffer", 0, 2)
 
 
+def taken(buffer):
+    """The rows of 32-bit integers out of a buffer, or the kind of the error."""
+    try:
+        return Column.numbers("i32", buffer).to_pylist()
+    except (TypeError, ValueError) as error:
+        return type(error).__name__
+
+
+def test_numpy_buffers():
+    base = numpy.array([1, 2, 3], "i4")
+    assert [taken(base), taken(base[1:]), taken(base.view("u1"))] == [[1, 2, 3], [2, 3], [1, 2, 3]]
+    for kind in ("i8", "u4", "f4", ">i4", "m8[s]", "O", "i4,i4"):
+        assert taken(numpy.zeros(2, kind)) == ("ValueError" if kind == "m8[s]" else "TypeError"), kind
+    for shape in (base[::2], numpy.broadcast_to(base[:1], 3)):
+        assert taken(shape) == "ValueError", shape
+    for shape in (base.reshape(3, 1), numpy.int32(5)):
+        assert taken(shape) == "TypeError", shape
+
+
+def test_numpy_cannot_change_what_passed():
+    base = numpy.array([1, 2], "i4")
+    locked = base.view()
+    locked.flags.writeable = False
+    column = Column.numbers("i32", locked).check()
+    view = column.to_numpy()
+    base[:] = 9
+    try:
+        view.flags.writeable = True
+    except ValueError:
+        pass
+    else:
+        raise AssertionError("the array of a column can be written to")
+    assert (column.to_pylist(), view.tolist()) == ([1, 2], [1, 2])
+
+
 def test_numpy():
     view = Column.numbers("i16", array.array("h", [1, -2, 300])).to_numpy()
     assert view.dtype == numpy.int16 and view.tolist() == [1, -2, 300] and not view.flags.writeable

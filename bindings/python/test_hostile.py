@@ -19,7 +19,7 @@ from array import array
 
 import codrask
 from codrask import Column, Refused, Step, fault_name, run
-from codrask.library import ArrowSchema
+from codrask.library import ArrowArray, ArrowSchema
 
 CALLS = os.path.join(os.path.dirname(os.path.abspath(__file__)), "hostile_calls.txt")
 MOST_MEMORY = 3 << 30
@@ -42,6 +42,13 @@ class HostileText:
 
     def __repr__(self):
         raise KeyError("no text")
+
+
+class Lying:
+    """An integer that is none."""
+
+    def __index__(self):
+        return "5"
 
 
 class Told(str):
@@ -87,6 +94,18 @@ def use_memory():
 def take_over(pointer):
     """Takes a schema over, as who reads it may: what was there is marked as released."""
     ctypes.c_void_p.from_address(pointer + ArrowSchema.release.offset).value = None
+
+
+def one_of_many(count):
+    """Records of so many columns: all but the first are one column of 1 MiB, and the first has half of that."""
+    half, whole = Column.numbers("u8", bytes(1 << 19)), Column.numbers("u16", bytes(1 << 20))
+    return Column.records([("a", half)] + [("a", whole)] * (count - 1), 1 << 19)
+
+
+def same_buffer(pointer, child):
+    """Gives a child of an array the numbers of its second child."""
+    children = ArrowArray.from_address(pointer).children
+    children[child].contents.buffers[1] = children[1].contents.buffers[1]
 
 
 def threads_at(calls):

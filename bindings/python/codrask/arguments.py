@@ -27,9 +27,10 @@ def shown(given):
 def integer(argument, given, most=SIZE, least=0):
     """An integer within its bounds. A truth value is none."""
     taken = f"an integer from {least} to {most}"
-    if isinstance(given, bool) or not hasattr(type(given), "__index__"):
-        raise wrong(TypeError, argument, taken, shown(given))
-    number = int(operator.index(given))
+    try:
+        number = int(operator.index(None if isinstance(given, bool) else given))
+    except TypeError:
+        raise wrong(TypeError, argument, taken, shown(given)) from None
     if not least <= number <= most:
         raise wrong(ValueError, argument, taken, shown(number))
     return number
@@ -51,13 +52,13 @@ def truth(argument, given):
 
 
 def choice(argument, given, known):
-    """The place of a text in a row of known ones."""
+    """A text out of some known ones."""
     taken = f"one of {', '.join(known)}"
     if not isinstance(given, str):
         raise wrong(TypeError, argument, taken, shown(given))
     if given not in known:
         raise wrong(ValueError, argument, taken, shown(given))
-    return tuple(known).index(given)
+    return given
 
 
 def encoded(argument, given):

@@ -6,7 +6,7 @@ from . import nodes as of
 from .arguments import U32, address, choice, each, encoded, instance, integer, listed, shown, truth, wrong
 from .arrow import Arrow, held
 from .faults import MEMORY, TOO_MANY_NODES, Refused, refusal
-from .library import Fault, Table, load
+from .library import Fault, Limits, Table, load
 from .memory import raw, raw_or_numbers
 from .rows import rows_of
 
@@ -17,7 +17,7 @@ class Column:
     """A column as a table of nodes: each array stands before its parts. Nothing of it is tested until `check`, but how many
     nodes it has, and that each argument is one."""
 
-    __slots__ = ("_nodes", "_passed", "__weakref__")
+    __slots__ = ("_nodes", "_passed", "_name", "__weakref__")
 
     def __init__(self, *_arguments, **_fields):
         raise TypeError("a Column is made by one of its calls, as Column.numbers or Column.from_arrow")
@@ -32,26 +32,25 @@ class Column:
         raise TypeError("a Column is neither pickled nor copied deeply")
 
     @classmethod
-    def _made(cls, nodes):
+    def _made(cls, nodes, name=b""):
         column = object.__new__(cls)
-        column._nodes, column._passed = nodes, False
+        column._nodes, column._passed, column._name = nodes, False, name
         return column
 
     # ---- made of Arrow arrays
 
     @classmethod
-    def from_arrow(cls, schema_pointer, array_pointer, owner=None):
+    def from_arrow(cls, schema_pointer, array_pointer, owner=None, most_bytes=None):
         """The column at the addresses of an ArrowSchema and an ArrowArray, which stay the caller's: what they hold is copied,
-        and nothing of them is read after this call. `owner` is what keeps them alive until then."""
-        schema = address("schema_pointer", schema_pointer)
-        array = address("array_pointer", array_pointer)
-        table = Table()
+        and nothing of them is read after this call. `owner` is what keeps them alive until then. Raises `Refused` where they
+        are read as no table, or as one of more than `most_bytes`, by default 8 MiB or 8 times the distinct bytes that they have."""
+        schema, array = address("schema_pointer", schema_pointer), address("array_pointer", array_pointer)
+        limits, table, fault = _limits(most_bytes), Table(), Fault()
         with held(schema, array, owner):
-            error = load().codrask_table_from_arrow(schema, array, ctypes.byref(table))
-            if error:
-                raise refusal(Fault(error))
+            if load().codrask_read_arrow(schema, array, limits, ctypes.byref(table), ctypes.byref(fault)):
+                raise refusal(fault)
             try:
-                return cls._made(of.copied(table))
+                return cls._made(of.copied(table), load().codrask_table_name(ctypes.byref(table)))
             finally:
                 load().codrask_table_free(ctypes.byref(table))
 
@@ -78,7 +77,7 @@ class Column:
     @classmethod
     def numbers(cls, type_name, buffer, validity=None):
         """Numbers of a type, "u8" to "i64", the lowest byte first, out of a buffer of such numbers or of bytes."""
-        kind = of.NUMBERS[tuple(of.NUMBERS)[choice("type_name", type_name, of.NUMBERS)]]
+        kind = of.NUMBERS[choice("type_name", type_name, of.NUMBERS)]
         width = of.WIDTHS[kind]
         buffer = raw_or_numbers("buffer", buffer, type_name, width)
         return cls._of(kind, buffer.nbytes // width, validity, bytes=buffer)
@@ -132,8 +131,9 @@ class Column:
 
     def _pass(self, nodes):
         """Has these nodes from now on: the library let them pass."""
-        self._nodes = nodes
-        self._passed = True
+        if not self._passed:
+            self._nodes = nodes
+            self._passed = True
 
     def fault(self):
         """The first fault as `Refused`, or None where there is none. MemoryError where memory was refused."""
@@ -154,11 +154,15 @@ class Column:
             raise fault
         return self
 
-    def to_arrow(self, by_offsets=False):
-        """This column as an `Arrow`, in blocks of its own. Raises `Refused` where it is no column. Texts, byte lists and lists
-        are written by views, or by offsets, and then `NotEndToEnd` is raised where lists do not lie one after another."""
-        flags, nodes, fault, made = int(truth("by_offsets", by_offsets)), self._private(), Fault(), Arrow()
-        if load().codrask_to_arrow(of.given(nodes), len(nodes), flags, made._schema, made._array, ctypes.byref(fault)):
+    def to_arrow(self, by_offsets=False, most_bytes=None):
+        """This column as an `Arrow`, in blocks of its own. Raises `Refused` where it is no column, or takes more bytes than
+        `most_bytes`, by default 8 MiB or 8 times the distinct bytes that it has. Texts, byte lists and lists are written by
+        views, or by offsets, and then `NotEndToEnd` is raised where lists do not lie one after another. A column that was an
+        Arrow array keeps its name."""
+        flags, limits = int(truth("by_offsets", by_offsets)), _limits(most_bytes)
+        nodes, made, fault = self._private(), Arrow(), Fault()
+        into = made._schema, made._array, ctypes.byref(fault)
+        if load().codrask_write_arrow(of.given(nodes), len(nodes), flags, self._name, limits, *into):
             raise refusal(fault)
         self._pass(nodes)
         return made
@@ -203,6 +207,11 @@ def _validity(validity, parts):
         if validity is known:
             return number, tuple(parts)
     raise wrong(TypeError, "validity", "None, True, False or a Column", shown(validity))
+
+
+def _limits(most_bytes):
+    """How many bytes a call may take, None where the library tells."""
+    return None if most_bytes is None else ctypes.byref(Limits(integer("most_bytes", most_bytes, least=1)))
 
 
 def _pair(argument, given):

@@ -22,7 +22,7 @@ class Refused(ValueError):
     def __init__(self, number, node=0, row=0):
         self.number, self.node, self.row = integer("number", number, U32), integer("node", node), integer("row", row)
         self.name = fault_name(number)
-        super().__init__(f"{self.name} (number {number}) at node {node}, row or position {row}")
+        super().__init__(f"{self.name} (number {self.number}) at node {self.node}, row or position {self.row}")
 
     def __reduce__(self):
         return _again, (type(self), self.args, dict(self.__dict__))
@@ -37,7 +37,7 @@ class Stopped(Refused):
         part, which = integer("part", part, 3), integer("which", which)
         self.column, self.step, self.result = (which if part == each else None for each in (1, 2, 3))
         told = ("no part", f"column {which}", f"step {which}", f"result {which}")[part]
-        self.args = (f"{self.name} (number {number}) at {told}, row or position {row}",)
+        self.args = (f"{self.name} (number {number}) at {told}, row or position {self.row}",)
 
 
 def _again(kind, args, fields):

@@ -32,6 +32,10 @@ class Table(ctypes.Structure):
     _fields_ = [("nodes", ctypes.POINTER(Node)), ("count", ctypes.c_size_t), ("memory", ctypes.c_void_p)]
 
 
+class Limits(ctypes.Structure):
+    _fields_ = [("bytes", ctypes.c_size_t)]
+
+
 class Nodes(ctypes.Structure):
     _fields_ = [("nodes", ctypes.POINTER(Node)), ("count", ctypes.c_size_t)]
 
@@ -105,6 +109,27 @@ def find():
     return os.environ.get("CODRASK_LIBRARY") or os.path.join(os.path.dirname(__file__), "libcodrask.so")
 
 
+_number, _count, _to = ctypes.c_uint32, ctypes.c_size_t, ctypes.POINTER
+
+# each call: what it gives, and what it takes
+CALLS = {
+    "codrask_version": (_number, []),
+    "codrask_check": (_number, [_to(Node), _count, _to(Fault)]),
+    "codrask_run": (
+        _number,
+        [_to(Nodes), _count, _to(Step), _count, _to(_count), _count, _to(Columns), _to(RunFault)],
+    ),
+    "codrask_columns_free": (None, [_to(Columns)]),
+    "codrask_fault_name": (ctypes.c_char_p, [_number]),
+    "codrask_read_arrow": (_number, [ctypes.c_void_p, ctypes.c_void_p, _to(Limits), _to(Table), _to(Fault)]),
+    "codrask_table_name": (ctypes.c_char_p, [_to(Table)]),
+    "codrask_table_free": (None, [_to(Table)]),
+    "codrask_write_arrow": (
+        _number,
+        [_to(Node), _count, _number, ctypes.c_char_p, _to(Limits), _to(ArrowSchema), _to(ArrowArray), _to(Fault)],
+    ),
+}
+
 _loaded = None
 
 
@@ -112,38 +137,9 @@ def load():
     """The shared object, loaded once."""
     global _loaded
     if _loaded is None:
-        lib = ctypes.CDLL(find())
-        lib.codrask_version.restype = ctypes.c_uint32
-        lib.codrask_version.argtypes = []
-        lib.codrask_check.restype = ctypes.c_uint32
-        lib.codrask_check.argtypes = [ctypes.POINTER(Node), ctypes.c_size_t, ctypes.POINTER(Fault)]
-        lib.codrask_run.restype = ctypes.c_uint32
-        lib.codrask_run.argtypes = [
-            ctypes.POINTER(Nodes),
-            ctypes.c_size_t,
-            ctypes.POINTER(Step),
-            ctypes.c_size_t,
-            ctypes.POINTER(ctypes.c_size_t),
-            ctypes.c_size_t,
-            ctypes.POINTER(Columns),
-            ctypes.POINTER(RunFault),
-        ]
-        lib.codrask_columns_free.restype = None
-        lib.codrask_columns_free.argtypes = [ctypes.POINTER(Columns)]
-        lib.codrask_fault_name.restype = ctypes.c_char_p
-        lib.codrask_fault_name.argtypes = [ctypes.c_uint32]
-        lib.codrask_table_from_arrow.restype = ctypes.c_uint32
-        lib.codrask_table_from_arrow.argtypes = [ctypes.c_void_p, ctypes.c_void_p, ctypes.POINTER(Table)]
-        lib.codrask_table_free.restype = None
-        lib.codrask_table_free.argtypes = [ctypes.POINTER(Table)]
-        lib.codrask_to_arrow.restype = ctypes.c_uint32
-        lib.codrask_to_arrow.argtypes = [
-            ctypes.POINTER(Node),
-            ctypes.c_size_t,
-            ctypes.c_uint32,
-            ctypes.POINTER(ArrowSchema),
-            ctypes.POINTER(ArrowArray),
-            ctypes.POINTER(Fault),
-        ]
-        _loaded = lib
+        library = ctypes.CDLL(find())
+        for name, (result, arguments) in CALLS.items():
+            call = getattr(library, name)
+            call.restype, call.argtypes = result, arguments
+        _loaded = library
     return _loaded

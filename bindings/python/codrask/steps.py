@@ -62,7 +62,7 @@ class Step:
     @classmethod
     def rebuild(cls, array, mode=MODES[0]):
         """Lists, laid out anew."""
-        return cls._of(6, array=integer("array", array), mode=choice("mode", mode, MODES))
+        return cls._of(6, array=integer("array", array), mode=MODES.index(choice("mode", mode, MODES)))
 
     @classmethod
     def narrow(cls, array):
