@@ -96,6 +96,12 @@ def take_over(pointer):
     ctypes.c_void_p.from_address(pointer + ArrowSchema.release.offset).value = None
 
 
+def first_child(arrow):
+    """The addresses of the structures of an array's first child."""
+    structures = ArrowSchema.from_address(arrow.schema_pointer), ArrowArray.from_address(arrow.array_pointer)
+    return [ctypes.addressof(structure.children[0].contents) for structure in structures]
+
+
 def one_of_many(count):
     """Records of so many columns: all but the first are one column of 1 MiB, and the first has half of that."""
     half, whole = Column.numbers("u8", bytes(1 << 19)), Column.numbers("u16", bytes(1 << 20))

@@ -74,7 +74,8 @@ def _unreleased(part):
 
 @contextlib.contextmanager
 def held(schema_pointer, array_pointer, owner):
-    """Holds each `Arrow` that has a structure at these addresses, or is the owner: nobody releases it meanwhile."""
+    """Holds each `Arrow` that has a structure at these addresses, or is the owner: nobody releases it meanwhile. ValueError
+    where one of these structures was released, or one of the owner's, in which the others may lie."""
     addresses = (schema_pointer, array_pointer)
     known = [_by_address.get(address) for address in addresses] + [owner]
     owners = {id(one): one for one in known if isinstance(one, Arrow)}
@@ -83,7 +84,7 @@ def held(schema_pointer, array_pointer, owner):
             locks.enter_context(owners[place]._lock)
         for one in owners.values():
             for part in (one._schema, one._array):
-                if ctypes.addressof(part) in addresses:
+                if one is owner or ctypes.addressof(part) in addresses:
                     _unreleased(part)
         yield
 
