@@ -1,7 +1,7 @@
 // Many small batches: each is cut out of its columns, looked at by name, and joined again.
 
 use crate::columns::{Lie, lists_in, lists_of_numbers, numbers, records, table};
-use crate::digest::{Digest, with_array};
+use crate::digest::{Digest, with_array, with_texts};
 use crate::fault::Fault;
 use crate::random::Random;
 use crate::scale::Scale;
@@ -139,10 +139,11 @@ fn next_batch(
     let batch = tables.table.slice(alloc, start..end)?;
     let batch = chosen_batch(alloc, batch, &tables.chosen, "id")?;
     let digest = with_array(alloc, digest, batch.as_array())?;
-    Ok((batch, digest))
+    Ok((batch, digest.next_turn()))
 }
 
-// Some batches of the narrow table, a digest of each, and of all of them joined again.
+// Some batches of the narrow table, a digest of each, of the texts of the last one, which all
+// share, and of all of them joined again.
 fn with_joined(
     alloc: Global,
     random: &mut Random,
@@ -156,6 +157,9 @@ fn with_joined(
         let (batch, after) = next_batch(alloc, random, digest, scale, tables)?;
         batches.push(batch)?;
         digest = after;
+    }
+    if let Some(batch) = batches.last() {
+        digest = with_texts(digest, batch.as_array());
     }
     let joined = StructArray::try_concat(alloc, batches.iter())?;
     with_array(alloc, digest, joined.as_array())
@@ -181,7 +185,7 @@ fn with_wide(
 pub(crate) fn run(alloc: Global, random: &mut Random, scale: Scale) -> Result<Digest, Fault> {
     let tables = Tables::new(alloc, random, scale)?;
     let step = wide_rows(scale).saturating_sub(400) / scale.rounds.max(1);
-    let mut digest = Digest::new();
+    let mut digest = Digest::new(scale.rounds.saturating_mul(JOINED));
     for round in 0..scale.rounds {
         digest = with_joined(alloc, random, digest, scale, &tables)?;
         digest = with_wide(alloc, random, digest, round, step, &tables)?;

@@ -1,7 +1,7 @@
 // Lists laid end to end, as Arrow wants them, and texts put into buffers of their own.
 
 use crate::columns::{Lie, lists_in, lists_of_numbers, numbers, points};
-use crate::digest::{Digest, with_array, with_buffers};
+use crate::digest::{Digest, with_array, with_texts};
 use crate::fault::Fault;
 use crate::random::{Random, Share};
 use crate::scale::Scale;
@@ -98,9 +98,10 @@ fn rebuffered(alloc: Global, random: &mut Random, rows: &ArrayRef) -> Result<Arr
     }
 }
 
-// A digest of lists, and of their offsets in the narrowest type.
+// A digest of lists, of the texts in them, and of their offsets in the narrowest type.
 fn with_lists(alloc: Global, digest: Digest, lists: &ListViewArray) -> Result<Digest, Fault> {
     let digest = with_array(alloc, digest, lists.as_array())?;
+    let digest = with_texts(digest, lists.as_array());
     with_array(alloc, digest, &narrowed(alloc, lists.offsets())?)
 }
 
@@ -151,12 +152,13 @@ fn with_batch(
     let digest = with_rebuilt(alloc, digest, &columns.numbers, start, end, trim)?;
     let names = columns.names.slice(alloc, start..end)?;
     let names = rebuffered(alloc, random, &names)?;
-    Ok(with_buffers(digest, &names))
+    let digest = with_array(alloc, digest, &names)?;
+    Ok(with_texts(digest, &names).next_turn())
 }
 
 pub(crate) fn run(alloc: Global, random: &mut Random, scale: Scale) -> Result<Digest, Fault> {
     let columns = Columns::new(alloc, random, scale)?;
-    let mut digest = Digest::new();
+    let mut digest = Digest::new(scale.rounds);
     for _ in 0..scale.rounds {
         let rows = scale.cut(random);
         digest = with_batch(alloc, random, digest, &columns, rows.start, rows.end)?;

@@ -104,13 +104,13 @@ fn with_records(
 
 pub(crate) fn run(alloc: Global, random: &mut Random, scale: Scale) -> Result<Digest, Fault> {
     let table = records_with_nulls(alloc, random, scale.column)?;
-    let mut digest = Digest::new();
+    let mut digest = Digest::new(scale.rounds);
     for _ in 0..scale.rounds {
         let rows = scale.cut(random);
         digest = with_joined(alloc, random, digest, scale.batch)?;
         digest = with_truths(alloc, random, digest, scale.batch)?;
         let batch = table.as_array().slice(alloc, rows)?;
-        digest = with_records(alloc, random, digest, scale.batch, &batch)?;
+        digest = with_records(alloc, random, digest, scale.batch, &batch)?.next_turn();
     }
     Ok(digest)
 }

@@ -1,7 +1,7 @@
 // A query over a table: filters, takes, masks and joins, and the plain layout in the end.
 
 use crate::columns::{bool_array, table, truths};
-use crate::digest::{Digest, with_array};
+use crate::digest::{Digest, with_array, with_texts};
 use crate::fault::Fault;
 use crate::random::{Random, Share, bits_by_turns};
 use crate::scale::Scale;
@@ -136,6 +136,7 @@ fn with_batch(
     let digest = with_all(alloc, digest, &kept)?;
     let joined = joined(alloc, kept)?;
     let digest = with_array(alloc, digest, joined.as_array())?;
+    let digest = with_texts(digest, joined.as_array());
     let moved = moved(alloc, random, batch)?;
     let digest = with_all(alloc, digest, &moved)?;
     with_plain(alloc, digest, &moved)
@@ -146,13 +147,13 @@ pub(crate) fn run(alloc: Global, random: &mut Random, scale: Scale) -> Result<Di
     let Some(amounts) = table.unmasked_field_by_name_opt("amount") else {
         return Err(Fault::Usage);
     };
-    let mut digest = Digest::new();
+    let mut digest = Digest::new(scale.rounds);
     for _ in 0..scale.rounds {
         let rows = scale.cut(random);
         let amounts = amounts.slice(alloc, rows.start..rows.end)?;
         digest = digest.with_word(sum_of(&amounts)?);
         let batch = table.as_array().slice(alloc, rows)?;
-        digest = with_batch(alloc, random, digest, &batch)?;
+        digest = with_batch(alloc, random, digest, &batch)?.next_turn();
     }
     Ok(digest)
 }

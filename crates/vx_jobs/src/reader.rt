@@ -1,7 +1,7 @@
 // A reader takes in foreign parts: each batch is tested where it comes in.
 
 use crate::columns::{Lie, codes, numbers, places, records, some_null};
-use crate::digest::{Digest, with_array};
+use crate::digest::{Digest, with_array, with_texts};
 use crate::fault::Fault;
 use crate::random::Random;
 use crate::scale::Scale;
@@ -105,13 +105,14 @@ fn with_batch(
     let none = Validity::NonNullable;
     let table = records(alloc, &COLUMNS, columns, scale.batch, none)?;
     let digest = with_array(alloc, digest, table.as_array())?;
+    let digest = with_texts(digest, table.as_array());
     let long = foreign.long.batch(alloc, first..last, Validity::AllValid)?;
-    with_array(alloc, digest, &long)
+    Ok(with_texts(with_array(alloc, digest, &long)?, &long).next_turn())
 }
 
 pub(crate) fn run(alloc: Global, random: &mut Random, scale: Scale) -> Result<Digest, Fault> {
     let foreign = Foreign::new(alloc, random, scale)?;
-    let mut digest = Digest::new();
+    let mut digest = Digest::new(scale.rounds);
     for _ in 0..scale.rounds {
         digest = with_batch(alloc, random, digest, scale, &foreign)?;
     }

@@ -1,7 +1,7 @@
 // A writer makes columns of values that come one by one.
 
 use crate::columns::some_null;
-use crate::digest::{Digest, with_array, with_buffers};
+use crate::digest::{Digest, with_array, with_texts};
 use crate::fault::Fault;
 use crate::random::Random;
 use crate::scale::Scale;
@@ -165,19 +165,15 @@ impl<'a> Values<'a> {
         }
         let heap = self.heap.slice(alloc, 0..total)?;
         let (buffers, views) = build_views(alloc, 0, MAX_BUFFER_LEN, heap, lengths)?;
-        Ok(
-            digest
-                .with_word(buffers.len() as u64)
-                .with_views(views.as_slice()),
-        )
+        Ok(digest.with_buffers(&buffers).with_views(views.as_slice()))
     }
 }
 
-// A digest of columns, and of the buffers of those that are texts.
+// A digest of columns, and of the texts in them.
 fn with_columns(alloc: Global, digest: Digest, columns: &[ArrayRef]) -> Result<Digest, Fault> {
     let mut digest = digest;
     for column in columns {
-        digest = with_buffers(with_array(alloc, digest, column)?, column);
+        digest = with_texts(with_array(alloc, digest, column)?, column);
     }
     Ok(digest)
 }
@@ -187,7 +183,7 @@ pub(crate) fn run(alloc: Global, random: &mut Random, scale: Scale) -> Result<Di
     let ascii = Letters::new(alloc, random, count, Script::Ascii)?;
     let mixed = Letters::new(alloc, random, count, Script::Mixed)?;
     let values = Values::new(alloc, random, count, &ascii, &mixed)?;
-    let mut digest = Digest::new();
+    let mut digest = Digest::new(scale.rounds);
     for _ in 0..scale.rounds {
         let rows = scale.cut(random);
         let (start, end) = (rows.start, rows.end);
@@ -195,7 +191,7 @@ pub(crate) fn run(alloc: Global, random: &mut Random, scale: Scale) -> Result<Di
         digest = with_columns(alloc, digest, &texts)?;
         let numbers = values.numbers(alloc, random, start..end)?;
         digest = with_columns(alloc, digest, &numbers)?;
-        digest = values.with_views(alloc, digest, start..end)?;
+        digest = values.with_views(alloc, digest, start..end)?.next_turn();
     }
     Ok(digest)
 }
