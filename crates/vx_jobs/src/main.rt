@@ -37,7 +37,7 @@ fn rounds_of(job: &str) -> usize {
         "query" => 60,
         "lists" => 120,
         "writer" => 90,
-        "nulls" => 1_000,
+        "nulls" => 1_600,
         _ => 1_000,
     }
 }
