@@ -80,3 +80,62 @@ fn views_that_are_emptied(rt: HostRuntime) -> Result<(), End> {
     let is_kept = left[0] == view && have_same_bytes(&buffers, &copies);
     judged(answer, is_kept)
 }
+
+// What is read of a view that holds its value. It takes no memory, as all that stands below: the
+// sweep refuses every request.
+fn a_held_value_is_read() -> bool {
+    let view = BinaryView::new_inlined(b"abcdef");
+    if !view.is_inlined() {
+        return false;
+    }
+    let held = view.as_inlined();
+    held.size == 6
+        && held.bytes == *b"abcdef\0\0\0\0\0\0"
+        && view.prefix() == *b"abcd"
+        && view.head() == 0x6463_6261_0000_0006
+        && view.order_prefix() == 0x6162_6364
+        && view.order_tail() == 0x6566_0000_0000_0000
+}
+
+#[test]
+fn views_that_hold_their_value(_rt: HostRuntime) -> Result<(), End> {
+    judged(Ok(a_held_value_is_read()), true)
+}
+
+// What is read of the words of values, the second of them longer than a view has room for.
+fn words_are_read() -> bool {
+    BinaryView::prefix_of(b"ab") == *b"ab\0\0"
+        && BinaryView::head_of(b"ab") == 0x0000_6261_0000_0002
+        && BinaryView::order_prefix_of(b"ab") == 0x6162_0000
+        && BinaryView::order_tail_of(b"abcdef") == 0x6566_0000_0000_0000
+        && BinaryView::prefix_of(VALUES) == *b"aaaa"
+        && BinaryView::head_of(VALUES) == 0x6161_6161_0000_000e
+        && BinaryView::order_prefix_of(VALUES) == 0x6161_6161
+}
+
+#[test]
+fn words_of_values(_rt: HostRuntime) -> Result<(), End> {
+    judged(Ok(words_are_read()), true)
+}
+
+// What is read of the parts of a view into a buffer, moved and then set again.
+fn parts_are_set() -> bool {
+    let mut view = BinaryView::new_ref(13, *b"thir", 1, 3);
+    if view.is_inlined() {
+        return false;
+    }
+    let parts = view.as_view();
+    let moved = parts.with_buffer_and_offset(4, 4_294_967_295);
+    if moved.size <= 12 {
+        return false;
+    }
+    view.set_view(moved);
+    parts.as_range() == (3..16)
+        && moved.as_range() == (4_294_967_295..4_294_967_308)
+        && view.as_u128() == 0xffff_ffff_0000_0004_7269_6874_0000_000d
+}
+
+#[test]
+fn parts_of_views(_rt: HostRuntime) -> Result<(), End> {
+    judged(Ok(parts_are_set()), true)
+}

@@ -5,6 +5,7 @@ mod dictionaries;
 mod narrow;
 mod numbers;
 mod primitive_arrays;
+mod scans;
 
 use vx_base::{BitBuffer, Buffer, DType, Nullability, VortexError};
 use vx_leaves::{BoolArray, PrimitiveArray};

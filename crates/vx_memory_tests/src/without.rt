@@ -1,15 +1,18 @@
 // Calls that take no memory: the sweep refuses every request once the arrays are made.
 
-use crate::samples::{dictionary, first_and_last, ints, lists_of, numbers, pairs, records, texts};
+use crate::samples::{
+    LONG, dictionary, first_and_last, ints, lists_of, numbers, pairs, records, texts,
+};
+use crate::typed::typed;
 use std::alloc::Global;
-use vx_base::{BitBuffer, Mask, VortexError};
+use vx_base::{BitBuffer, Buffer, Mask, Nullability, VortexError};
 use vx_leaves::{BoolArray, DictArray, PrimitiveArray, PrimitiveArrayExt};
 use vx_lists::{
     FixedSizeListArray, FixedSizeListArrayExt, FixedSizeListData, ListViewArray, ListViewArrayExt,
     ListViewData, StructArray, StructArrayExt,
 };
 use vx_memory_help::{End, judged};
-use vx_text::{VarBinViewArray, VarBinViewArrayExt};
+use vx_text::{VarBinViewArray, VarBinViewArrayExt, VarBinViewData};
 use vx_tree::{ArrayRef, TypedArray, Validity};
 
 // What is read of bits, masks and validities.
@@ -133,4 +136,94 @@ fn others_are_read(lists: ArrayRef, records: ArrayRef) -> bool {
 fn parts_of_lists_and_records(rt: HostRuntime) -> Result<(), End> {
     let (lists, records) = (pairs(rt.alloc())?, records(rt.alloc())?);
     judged(Ok(others_are_read(lists, records)), true)
+}
+
+// What is read of numbers that are to be made.
+fn numbers_are_tested(buffer: &Buffer<i16>, validity: &Validity) -> bool {
+    PrimitiveArray::validate(buffer, validity).is_ok()
+        && PrimitiveArray::validate(buffer, &Validity::NonNullable).is_ok()
+        && buffer.len() == 3
+}
+
+#[test]
+fn numbers_that_are_tested(rt: HostRuntime) -> Result<(), End> {
+    let buffer = Buffer::copy_from(rt.alloc(), &[7i16, 0, -9])?;
+    let (fits, short) = (first_and_last(rt.alloc())?, ints(rt.alloc(), &[1u8, 1])?);
+    let is_refused = PrimitiveArray::validate(&buffer, &Validity::Array(short)).is_err();
+    judged(Ok(is_refused && numbers_are_tested(&buffer, &fits)), true)
+}
+
+// What is read of the buffer of texts, the only one.
+fn buffers_are_read(texts: &VarBinViewData) -> bool {
+    texts.data_buffers().len() == 1 && texts.buffer(0).as_slice() == LONG.as_bytes()
+}
+
+#[test]
+fn buffers_of_texts(rt: HostRuntime) -> Result<(), End> {
+    let texts: VarBinViewArray = typed(texts(rt.alloc())?)?;
+    let data = texts.to_data(rt.alloc())?;
+    judged(Ok(buffers_are_read(&data)), true)
+}
+
+// What is read of the columns of records, by their places and by their names.
+fn columns_are_read(records: &StructArray) -> bool {
+    records.fields().len() == 2
+        && records.unmasked_field(1).len() == 3
+        && records.unmasked_field_opt(1).is_some()
+        && records.unmasked_field_opt(2).is_none()
+        && records.unmasked_field_by_name_opt("b").is_some()
+        && records.unmasked_field_by_name_opt("c").is_none()
+}
+
+#[test]
+fn columns_of_records(rt: HostRuntime) -> Result<(), End> {
+    let records: StructArray = typed(records(rt.alloc())?)?;
+    judged(Ok(columns_are_read(&records)), true)
+}
+
+// Whether a validity is an array, which none of these calls looks into.
+fn is_array(validity: &Validity) -> bool {
+    matches!(validity, Validity::Array(_))
+}
+
+// Whether two validities by arrays stay what they are, made nullable.
+fn are_made_nullable(one: Validity, other: Validity) -> bool {
+    let is_told = one.nullability() == Nullability::Nullable && !one.definitely_all_null();
+    let joined = one.union_nullability(Nullability::Nullable);
+    is_told && is_array(&joined) && is_array(&other.into_nullable())
+}
+
+#[test]
+fn validities_that_are_made_nullable(rt: HostRuntime) -> Result<(), End> {
+    let (one, other) = (first_and_last(rt.alloc())?, first_and_last(rt.alloc())?);
+    judged(Ok(are_made_nullable(one, other)), true)
+}
+
+// Whether casts that look at no row leave two validities by arrays as they are, or give nothing.
+fn are_cast_by_state(one: Validity, other: Validity) -> bool {
+    let nothing = one.trivial_into_non_nullable(3);
+    let same = other.trivially_cast_nullability(Nullability::Nullable, 3);
+    let refused = Validity::AllInvalid.trivially_cast_nullability(Nullability::NonNullable, 3);
+    matches!(nothing, Ok(None))
+        && matches!(same, Ok(Some(Validity::Array(_))))
+        && matches!(refused, Err(VortexError::HasNulls))
+}
+
+#[test]
+fn validities_that_are_cast_by_state(rt: HostRuntime) -> Result<(), End> {
+    let (one, other) = (first_and_last(rt.alloc())?, first_and_last(rt.alloc())?);
+    judged(Ok(are_cast_by_state(one, other)), true)
+}
+
+// What states without an array tell.
+fn states_are_read() -> bool {
+    Validity::NonNullable.nullability() == Nullability::NonNullable
+        && Validity::AllInvalid.definitely_all_null()
+        && !Validity::AllValid.definitely_all_null()
+        && matches!(Validity::NonNullable.into_nullable(), Validity::AllValid)
+}
+
+#[test]
+fn states_of_validities(_rt: HostRuntime) -> Result<(), End> {
+    judged(Ok(states_are_read()), true)
 }

@@ -110,6 +110,13 @@ fn not_all_values_are_referenced(rt: HostRuntime) {
 }
 
 #[test]
+fn two_values_of_three_are_used(rt: HostRuntime) {
+    let array = two_of_three(rt.alloc()).expect(&rt, "made");
+    assert!(rt; scan_tells(rt.alloc(), &array, true, &[true, false, true]).expect(&rt, "made"));
+    assert!(rt; scan_tells(rt.alloc(), &array, false, &[false, true, false]).expect(&rt, "made"));
+}
+
+#[test]
 fn all_values_are_referenced(rt: HostRuntime) {
     let codes = ints::<u8>(rt.alloc(), &[1, 0, 1]).expect(&rt, "made");
     let array = by_codes(rt.alloc(), codes, &[5, 6]).expect(&rt, "made");
