@@ -16,7 +16,7 @@ use vx_tree::{TypedArray, Validity};
 use vx_uses::converter::lists_end_to_end;
 use vx_uses::first::{column, third_list};
 use vx_uses::kernel::{
-    inner_page, list_of_row, ordered_page, repeated_row, valid_count, vector_at,
+    inner_page, list_of_row, ordered_page, repeated_row, rows_above, valid_count, vector_at,
 };
 use vx_uses::reader::{Lists, column_of_bytes, nullable_column, read_lists};
 use vx_uses::texts::text_of_row;
@@ -55,6 +55,25 @@ fn unset_bits_are_nulls(rt: HostRuntime) {
         short,
     );
     assert!(rt; matches!(refused, Err(VortexError::LengthMismatch { .. })));
+}
+
+#[test]
+fn rows_above_a_bound(rt: HostRuntime) {
+    let alloc = rt.alloc();
+    let column = nullable_column(
+        alloc,
+        Buffer::copy_from(alloc, &[7i8, 8, 9, -3]).expect(&rt, "made"),
+        BitBuffer::from_bools(alloc, &[true, false, true, true]).expect(&rt, "made"),
+    )
+    .expect(&rt, "made");
+    for (bound, wanted) in [
+        (7, [Some(9)].as_slice()),
+        (-4, [Some(7), Some(9), Some(-3)].as_slice()),
+        (9, [].as_slice()),
+    ] {
+        let above = rows_above(alloc, &column, bound).expect(&rt, "made");
+        assert!(rt; has_numbers_or_nulls(&above, wanted));
+    }
 }
 
 #[test]

@@ -1,4 +1,5 @@
 pub mod RowLists
+pub mod ReadRows
 pub mod FoundFaults
 pub mod EndToEnd
 pub mod OrderedPages

@@ -1,11 +1,11 @@
 -- What the callers of this crate conclude.
-use Rattle.std.specs.Prelude.{◌≡◌, ◌<◌, ◌≤◌, ◌+◌, ◌-◌, ◌⊎◌, ◌||◌, ℕ, ℤ, negsuc, true, false, List, length, Option, Some, None}
+use Rattle.std.specs.Prelude.{◌≡◌, ◌<◌, ◌≤◌, ◌+◌, ◌-◌, ◌⊎◌, ◌||◌, ℕ, ℤ, negsuc, int_lt, Bool, true, false, List, length, Option, Some, None}
 use Rattle.std.specs.Prelude.{slice_index, slice_range, if◌then◌else◌}
 use Rattle.vx_base.specs.declared.errors.VortexError.{VortexError}
 use Rattle.vx_base.specs.declared.errors.VortexError.TheVariants.{Negative, OutOfBounds}
 use Rattle.vx_base.specs.Kinds.{Kind, lists, is_integers, is_nullable_kind}
 use Rattle.vx_base.specs.Refusals.{Refusal, IsMemoryOr, mismatched_types, negative, out_of_bounds, overflow, or_else}
-use Rattle.vx_base.specs.Rows.{Row, is_present, list_in}
+use Rattle.vx_base.specs.Rows.{Row, is_present, list_in, number_in}
 use Rattle.vx_tree.specs.Tree.{Tree, list_view, non_nullable}
 use Rattle.vx_tree.specs.Faults.{slice_fault, indices_fault}
 use Rattle.vx_tree.specs.Layouts.{is_fixed_list, is_struct}
@@ -56,6 +56,15 @@ abbrev pub MayPassCounts : Tree → ℕ → Tree → Option Refusal → Type 0
 MayPassCounts column len order None = Unit {0}
 MayPassCounts column len order (Some fault) =
     (fault ≡ overflow) × ((is_fixed_list column || is_struct column) ≡ true) × (len < tree_len order)
+
+-- a number, where there is one, above a bound
+abbrev pub exceeds : ℤ → Option ℤ → Bool
+exceeds bound None = false
+exceeds bound (Some number) = int_lt bound number
+
+-- a row that is a number above a bound
+abbrev pub is_above : ℤ → Row → Bool
+is_above bound row = exceeds bound (number_in row)
 
 -- ---- lists by offsets alone
 

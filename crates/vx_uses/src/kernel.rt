@@ -1,6 +1,7 @@
 //! Columns that a kernel cuts, regroups and reads, whatever their layout.
 
 ghost use Rattle.std.specs.Prelude.{◌≡◌, ◌<◌, ◌≤◌, ◌+◌, ◌-◌, ◌*◌, true, count_by, is_some, replicate, Option, IfOk, IfSome, IsOkUnless, slice_range};
+ghost use Rattle.std.specs.List.{filter};
 ghost use Rattle.std.specs.Option.{option_map};
 ghost use Rattle.vx_base.specs.Kinds.{is_integers, is_nullable_kind, or_nullable};
 ghost use Rattle.vx_base.specs.Refusals.{Refusal, Refuses, or_else};
@@ -12,13 +13,14 @@ ghost use Rattle.vx_tree.specs.Operations.{picks, positions};
 ghost use Rattle.vx_tree.specs.Tree.{non_nullable};
 ghost use Rattle.vx_lists.specs.FixedSizeLists.{fixed_list_fault};
 ghost use Rattle.vx_lists.specs.ListViews.{elements_of};
-ghost use Rattle.vx_uses.specs.Uses.{MayPassCounts, page_fault};
+ghost use Rattle.vx_uses.specs.Uses.{MayPassCounts, page_fault, is_above};
 
+use crate::kernel_laws::{rows_are_read_in_order, tested_rows_are_filtered};
 use std::alloc::Global;
 use std::ops::Range;
-use vx_base::{Scalar, VortexError};
+use vx_base::{BitBuffer, Mask, Scalar, VortexError};
 use vx_lists::{FixedSizeListArray, FixedSizeListArrayExt, ListViewArray, ListViewArrayExt};
-use vx_tree::row_laws::{parts_of_parts_of_rows, rows_of_a_constant, rows_stand_at_their_places};
+use vx_tree::row_laws::{parts_of_parts_of_rows, rows_of_a_constant};
 use vx_tree::{ArrayRef, TypedArray, Validity, fewer_rows_are_countable};
 
 /// A page of a column, in another order: the rows of `page` at the places that `order` names.
@@ -123,7 +125,7 @@ pub fn valid_count(column: &ArrayRef) -> usize
     requires { is_integers (kind_of column.now) ≡ true }
     ensures { result ≡ count_by is_present (rows column.now) }
 {
-    rows_stand_at_their_places();
+    rows_are_read_in_order();
     let mut count = 0;
     for i in 0..column.len() {
         if column.int_at(i).is_some() {
@@ -131,4 +133,22 @@ pub fn valid_count(column: &ArrayRef) -> usize
         }
     }
     count
+}
+
+/// The rows of a column of numbers that are above a bound, in their order. Null rows are not.
+/// Fails only for want of memory.
+pub fn rows_above(alloc: Global, column: &ArrayRef, bound: i128) -> Result<ArrayRef, VortexError>
+    requires { is_integers (kind_of column.now) ≡ true }
+    ensures rows { IfOk result (λ a. rows a ≡ filter (is_above bound) (rows column.now)) }
+    ensures kind { IfOk result (λ a. kind_of a ≡ kind_of column.now) }
+    ensures err { IsOkUnless result Memory }
+{
+    rows_are_read_in_order();
+    tested_rows_are_filtered();
+    let mut marks = Vec::with_capacity(alloc, column.len())?;
+    for i in 0..column.len() {
+        marks.push(matches!(column.int_at(i), Some(number) if number > bound))?;
+    }
+    let mask = Mask::from_buffer(alloc, BitBuffer::from_bools(alloc, &marks)?)?;
+    Ok(column.filter(alloc, &mask)?)
 }

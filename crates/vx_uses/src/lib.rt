@@ -9,6 +9,7 @@ pub mod encoder;
 pub mod first;
 pub mod foreign_texts;
 pub mod kernel;
+pub mod kernel_laws;
 pub mod modes;
 pub mod part_by_steps;
 pub mod reader;
