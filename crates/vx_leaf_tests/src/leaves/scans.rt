@@ -70,8 +70,9 @@ impl Form {
                 None => return usize::from(self.rows),
             }
         }
-        let block_end = (usize::from(last) / 2048 + 1) * 2048;
-        block_end.min(usize::from(self.rows))
+        let last = usize::from(last);
+        let block = (last - last % 2048).saturating_add(2048);
+        block.min(usize::from(self.rows))
     }
 
     // Whether one scan gives the bits and the end that the plain loop gives.
