@@ -10,7 +10,7 @@ from typing import List, NamedTuple
 from case_files import ROOT
 
 CRATES = ROOT / "crates"
-LONGEST = 1800  # seconds that one command may take, far more than any does
+LONGEST = 1200  # seconds that one command may take, far more than any does
 EACH = "600"  # seconds that `rt try` gives to what it has built
 TESTS = re.compile(r"test result: \w+\. (\d+) passed; (\d+) failed")
 TOLD = re.compile(r"test .* \.\.\. FAILED|---- |thread .*panicked|error|.*: error")
@@ -57,6 +57,16 @@ def end_all():
         end(process)
 
 
+def ended_late(process):
+    """What a command that was ended has printed; nothing where another process still holds its pipes."""
+    try:
+        return process.communicate(timeout=60)
+    except subprocess.TimeoutExpired:
+        process.stdout.close()
+        process.stderr.close()
+        return b"", b"it was ended, and something else still holds what it prints to"
+
+
 def run(words, folder, stdin=subprocess.DEVNULL) -> Ran:
     """Runs a command; one that takes too long is ended."""
     how = {"stdin": stdin, "stdout": subprocess.PIPE, "stderr": subprocess.PIPE, "start_new_session": True}
@@ -66,7 +76,7 @@ def run(words, folder, stdin=subprocess.DEVNULL) -> Ran:
             output, errors = process.communicate(timeout=LONGEST)
         except subprocess.TimeoutExpired:
             end(process)
-            output, errors = process.communicate()
+            output, errors = ended_late(process)
         finally:
             RUNNING.discard(process)
     return Ran(process.returncode, output, errors.decode(errors="replace"))
