@@ -4,7 +4,6 @@ ghost use Rattle.std.specs.Prelude.{◌≡◌, length, IfOk};
 ghost use Rattle.vx_base.specs.DTypes.{field_names, field_kinds};
 ghost use Rattle.vx_base.specs.Fields.{kind_count};
 
-mod both_bits;
 mod gathered;
 mod joined;
 mod masks;
