@@ -22,7 +22,7 @@ const LETTERS: [&[u8]; 11] = [
 
 // Bytes that stand in no text: letters that are cut, written with too many bytes, one of a pair, or
 // too great, and bytes that begin none.
-const FAULTS: [&[u8]; 18] = [
+const FAULTS: [&[u8]; 19] = [
     b"\xC3",
     b"\xE4\xB8",
     b"\xE4",
@@ -30,6 +30,7 @@ const FAULTS: [&[u8]; 18] = [
     b"\xF0\x9F",
     b"\xF0",
     b"\x80",
+    b"\x80\x80\x80\x80",
     b"\xBF",
     b"\xC3\xA9\xA9",
     b"\xC0\x80",
@@ -134,12 +135,18 @@ fn are_told_at_some_lengths(alloc: Global, others: &[u8]) -> Result<bool, Vortex
     Ok(true)
 }
 
-// Whether items of such letters alone are told, of which the first and the last may be cut.
-fn are_told_in_a_row(alloc: Global, letter: &[u8]) -> Result<bool, VortexError> {
+// The letter 130 times.
+fn letters_of(alloc: Global, letter: &[u8]) -> Result<Vec<u8>, VortexError> {
     let mut letters = Vec::new(alloc);
     for _ in 0..130 {
         letters.extend_from_slice(letter)?;
     }
+    Ok(letters)
+}
+
+// Whether items of such letters alone are told, of which the first and the last may be cut.
+fn are_told_in_a_row(alloc: Global, letter: &[u8]) -> Result<bool, VortexError> {
+    let letters = letters_of(alloc, letter)?;
     for end in 0..131 {
         let cut = letters.get(end.min(5)..end).unwrap_or(&[]);
         let whole = letters.get(..end).unwrap_or(&[]);
@@ -151,10 +158,14 @@ fn are_told_in_a_row(alloc: Global, letter: &[u8]) -> Result<bool, VortexError> 
 }
 
 #[test]
-fn the_table_is_that_of_utf8(rt: HostRuntime) {
+fn letters_are_in_the_table(rt: HostRuntime) {
     for letter in LETTERS {
         assert!(rt; is_well_formed(letter) && std::str::from_utf8(letter).is_ok());
     }
+}
+
+#[test]
+fn faults_are_not_in_the_table(rt: HostRuntime) {
     for fault in FAULTS {
         assert!(rt; !is_well_formed(fault) && std::str::from_utf8(fault).is_err());
     }
