@@ -86,9 +86,16 @@ enum work {
     MAKE_NAMES    /* of the columns or of the elements */
 };
 
+/* The nearest records or lists of one size with a bitmap that the rows of an array lie in, with no lists of other sizes between. */
+struct enclosing {
+    size_t node; /* its node, counted from 1; 0 of none */
+    size_t each; /* how many rows lie in one of theirs */
+};
+
 struct task {
     enum work work;
     bool nullable;
+    struct enclosing in;
     const struct ArrowSchema *schema;
     const struct ArrowArray *array;
     const uint8_t *bitmap; /* none, or the byte that has the bit of the first row */

@@ -6,14 +6,17 @@
 
 _Alignas(max_align_t) const uint8_t codrask_nothing[64];
 
-/* The rows of an array from `from` on, at most `length`. Where `nullable` is false, what the array stands in has no nulls. */
+/* The rows of an array from `from` on, at most `length`, and whether they may be null. */
 struct rows {
     const struct ArrowSchema *schema;
     const struct ArrowArray *array;
     size_t from, length;
     int depth;
     bool nullable;
+    struct enclosing in;
 };
+
+static const struct enclosing no_enclosing = {0, 0};
 
 static uint32_t emit(struct reader *r, struct rows rows);
 
@@ -129,7 +132,7 @@ static uint32_t test_structs(struct reader *r, struct rows rows, struct format *
     return 0;
 }
 
-/* The rows that the array has of these, counted from its buffers' first row; the nulls that the schema allows. */
+/* The rows that the array has of these, counted from its buffers' first row. */
 static struct rows rows_there(struct rows rows) {
     size_t all = (size_t)rows.array->length;
     if (rows.from > all)
@@ -137,7 +140,6 @@ static struct rows rows_there(struct rows rows) {
     if (rows.length > all - rows.from)
         rows.length = all - rows.from;
     rows.from += (size_t)rows.array->offset;
-    rows.nullable = rows.nullable && rows.schema->flags & ARROW_FLAG_NULLABLE;
     return rows;
 }
 
@@ -149,7 +151,7 @@ static uint32_t open_node(struct reader *r, struct rows rows, uint32_t kind, siz
     if (error)
         return error;
     *place = r->count - 1;
-    r->tasks[*place] = (struct task){.schema = rows.schema, .array = rows.array, .nullable = rows.nullable};
+    r->tasks[*place] = (struct task){.schema = rows.schema, .array = rows.array, .nullable = rows.nullable, .in = rows.in};
     if (bitmap) {
         r->tasks[*place].bitmap = bitmap + rows.from / 8;
         r->tasks[*place].bit = rows.from % 8;
@@ -190,9 +192,18 @@ static uint32_t ask_names(struct reader *r, struct rows rows, size_t place) {
 
 /* ---- layouts ---- */
 
+/* What children lie in whose parent has the node at `place`: the parent where it has a bitmap, else what the parent lies in. */
+static struct enclosing enclosing(const struct reader *r, struct rows rows, size_t place, size_t each) {
+    if (r->tasks[place].bitmap)
+        return (struct enclosing){place + 1, each};
+    return (struct enclosing){rows.in.node, codrask_multiply(rows.in.each, each)};
+}
+
 /* The rows of a child, counted from its first one. */
-static uint32_t emit_child(struct reader *r, struct rows rows, size_t i, size_t from, size_t length) {
-    return emit(r, (struct rows){rows.schema->children[i], rows.array->children[i], from, length, rows.depth + 1, true});
+static uint32_t emit_child(struct reader *r, struct rows rows, size_t i, struct enclosing in, size_t from, size_t length) {
+    const struct ArrowSchema *schema = rows.schema->children[i];
+    bool nullable = schema->flags & ARROW_FLAG_NULLABLE;
+    return emit(r, (struct rows){schema, rows.array->children[i], from, length, rows.depth + 1, nullable, in});
 }
 
 static uint32_t emit_flat(struct reader *r, struct rows rows, const struct format *format) {
@@ -294,7 +305,7 @@ static uint32_t emit_lists(struct reader *r, struct rows rows, const struct form
         return codrask_refuse(r, CODRASK_BAD_ARROW, place, 0);
     bool within = 0 <= ends.base && ends.base <= ends.end && ends.end <= rows.array->children[0]->length;
     ends.base = within ? ends.base : 0;
-    if ((error = emit_child(r, rows, 0, (size_t)ends.base, within ? (size_t)(ends.end - ends.base) : SIZE_MAX)))
+    if ((error = emit_child(r, rows, 0, no_enclosing, (size_t)ends.base, within ? (size_t)(ends.end - ends.base) : SIZE_MAX)))
         return error;
     if (ends.base || !ends.offsets)
         error = emit_task(r, rows.length, ends, MAKE_OFFSETS);
@@ -306,7 +317,7 @@ static uint32_t emit_lists(struct reader *r, struct rows rows, const struct form
 static uint32_t emit_list_views(struct reader *r, struct rows rows, const struct format *format) {
     size_t place;
     uint32_t error = open_node(r, rows, format->kind, &place);
-    if (error || (error = ask_names(r, rows, place)) || (error = emit_child(r, rows, 0, 0, SIZE_MAX)))
+    if (error || (error = ask_names(r, rows, place)) || (error = emit_child(r, rows, 0, no_enclosing, 0, SIZE_MAX)))
         return error;
     error = emit_numbers(r, buffer(rows.array, 1), rows.from, rows.length, format->width);
     return error ? error : emit_numbers(r, buffer(rows.array, 2), rows.from, rows.length, format->width);
@@ -318,7 +329,8 @@ static uint32_t emit_fixed(struct reader *r, struct rows rows, const struct form
     if (error || (error = ask_names(r, rows, place)))
         return error;
     r->nodes[place].size = format->size;
-    return emit_child(r, rows, 0, codrask_multiply(rows.from, format->size), codrask_multiply(rows.length, format->size));
+    struct enclosing in = enclosing(r, rows, place, format->size);
+    return emit_child(r, rows, 0, in, codrask_multiply(rows.from, format->size), codrask_multiply(rows.length, format->size));
 }
 
 static uint32_t emit_records(struct reader *r, struct rows rows, const struct format *format) {
@@ -326,8 +338,9 @@ static uint32_t emit_records(struct reader *r, struct rows rows, const struct fo
     uint32_t error = open_node(r, rows, format->kind, &place);
     if (error || (error = ask_names(r, rows, place)))
         return error;
+    struct enclosing in = enclosing(r, rows, place, 1);
     for (size_t i = 0; i < (size_t)rows.schema->n_children; i++)
-        if ((error = emit_child(r, rows, i, rows.from, rows.length)))
+        if ((error = emit_child(r, rows, i, in, rows.from, rows.length)))
             return error;
     return 0;
 }
@@ -337,7 +350,9 @@ static uint32_t emit_dictionary(struct reader *r, struct rows rows, const struct
     uint32_t error = new_node(r, CODRASK_DICTIONARY, CODRASK_NON_NULLABLE, rows.length);
     if (error || (error = emit_flat(r, rows, format)))
         return error;
-    return emit(r, (struct rows){rows.schema->dictionary, rows.array->dictionary, 0, SIZE_MAX, rows.depth + 1, rows.nullable});
+    const struct ArrowSchema *values = rows.schema->dictionary;
+    bool nullable = rows.nullable && values->flags & ARROW_FLAG_NULLABLE;
+    return emit(r, (struct rows){values, rows.array->dictionary, 0, SIZE_MAX, rows.depth + 1, nullable, no_enclosing});
 }
 
 static uint32_t emit(struct reader *r, struct rows rows) {
@@ -387,7 +402,8 @@ static uint32_t read_all(struct reader *r, const struct ArrowSchema *schema, con
                          const struct codrask_limits *limits) {
     if (!schema || !array)
         return refuse_next(r, CODRASK_BAD_ARROW);
-    uint32_t error = emit(r, (struct rows){schema, array, 0, SIZE_MAX, 0, true});
+    bool nullable = schema->flags & ARROW_FLAG_NULLABLE;
+    uint32_t error = emit(r, (struct rows){schema, array, 0, SIZE_MAX, 0, nullable, no_enclosing});
     if (error)
         return error;
     if (!fits(r, schema->name))

@@ -118,20 +118,73 @@ static bool is_false_count(const struct ArrowArray *array, bool has_bitmap, size
            && ((size_t)array->null_count < nulls || (size_t)array->null_count - nulls > (size_t)array->length - length);
 }
 
+/* So many bits lie in eight bytes, whichever is the first one. */
+enum { MOST_BITS = 57 };
+
+/* Some bits, from the lowest of a number on. What stands above them is none of theirs. */
+static uint64_t bits_from(const uint8_t *bits, size_t from, size_t count) {
+    uint64_t word = 0;
+    size_t size = (from % 8 + count - 1) / 8 + 1;
+    if (size == 8)
+        memcpy(&word, bits + from / 8, 8);
+    else
+        memcpy(&word, bits + from / 8, size);
+    return word >> from % 8;
+}
+
+/* Bits of lists, each as often as a list has rows; `before` rows of the first list are left out. */
+static uint64_t spread(uint64_t bits, size_t each, size_t before, size_t count) {
+    uint64_t made = 0;
+    if (before + count <= each)
+        return bits & 1 ? UINT64_MAX : 0;
+    for (size_t i = 0; i < count; i++) {
+        made |= (bits & 1) << i;
+        if (++before == each)
+            before = 0, bits >>= 1;
+    }
+    return made;
+}
+
+/* A bit for each of some rows, MOST_BITS at most: unset where a record or a list that the row lies in is null. */
+static uint64_t valid_above(const struct reader *r, struct enclosing in, size_t row, size_t count) {
+    uint64_t valid = UINT64_MAX;
+    const struct task *task;
+    for (; in.node && in.each == 1; in = task->in) {
+        task = &r->tasks[in.node - 1];
+        valid &= bits_from(task->bitmap, task->bit + row, count);
+    }
+    if (!in.node)
+        return valid;
+    task = &r->tasks[in.node - 1];
+    size_t first = row / in.each, before = row % in.each, lists = before + count <= in.each ? 1 : (before + count - 1) / in.each + 1;
+    uint64_t valid_lists = bits_from(task->bitmap, task->bit + first, lists) & valid_above(r, task->in, first, lists);
+    return valid & spread(valid_lists, in.each, before, count);
+}
+
+/* The first row that is null and lies in nothing that is null; `length` where there is none. */
+static size_t unexpected_null(const struct reader *r, const struct task *task, size_t length) {
+    for (size_t row = 0; row < length; row += MOST_BITS) {
+        size_t count = length - row < MOST_BITS ? length - row : MOST_BITS;
+        uint64_t nulls = ~bits_from(task->bitmap, task->bit + row, count) & (((uint64_t)1 << count) - 1);
+        if (nulls && (nulls &= valid_above(r, task->in, row, count)))
+            return row + (size_t)__builtin_ctzll(nulls);
+    }
+    return length;
+}
+
 /* Tests the null count of an array, and that only rows are null which may be. */
 static uint32_t test_nulls(struct reader *r, size_t i) {
     const struct task *task = &r->tasks[i];
-    size_t length = r->nodes[i].length, row = 0;
+    size_t length = r->nodes[i].length;
     if (!task->array)
         return 0;
     size_t nulls = task->bitmap ? count_unset(task->bitmap, task->bit, task->bit + length) : 0;
     if (is_false_count(task->array, task->bitmap, length, nulls))
         return codrask_refuse(r, CODRASK_BAD_NULL_COUNT, i, 0);
-    if (task->nullable || (!nulls && task->array->null_count <= 0))
+    if (task->nullable || !nulls)
         return 0;
-    while (nulls && is_set(task->bitmap, task->bit + row))
-        row++;
-    return codrask_refuse(r, CODRASK_UNEXPECTED_NULL, i, row);
+    size_t row = unexpected_null(r, task, length);
+    return row < length ? codrask_refuse(r, CODRASK_UNEXPECTED_NULL, i, row) : 0;
 }
 
 /* ---- values between offsets ---- */

@@ -121,6 +121,21 @@ static bool row_is_null(const struct ArrowArray *array, size_t i) {
     return bits && !bit_of(bits, i);
 }
 
+/* Nulls of a child in rows of its parent that are null, so many rows to one: also where the child may have no null. */
+static void put_nulls_below(struct structure *s, size_t at, size_t child, size_t each) {
+    const struct ArrowArray *parent = s->slots[at].array;
+    struct ArrowArray *array = s->slots[child].array;
+    uint8_t *bits = (uint8_t *)(uintptr_t)array->buffers[0];
+    size_t first = (size_t)parent->offset * each, end = first + (size_t)parent->length * each;
+    for (size_t row = first; bits && row < end; row++)
+        if (row_is_null(parent, row / each) && roll(2)) {
+            size_t i = (size_t)array->offset + row;
+            bits[i / 8] = (uint8_t)(bits[i / 8] & ~(1u << i % 8));
+        }
+    if (bits && array->null_count >= 0)
+        array->null_count = (int64_t)unset_bits(bits, (size_t)array->offset, (size_t)array->length);
+}
+
 static void write_number(void *numbers, size_t width, size_t i, uint64_t value) {
     memcpy((uint8_t *)numbers + i * width, &value, width);
 }
@@ -282,6 +297,7 @@ static size_t build_fixed(struct structure *s, size_t length, size_t offset, int
     put_nulls(s, at, nulls);
     size_t child = build(s, (length + offset) * size + roll(2), depth + 1, true);
     join(s, at, 0, child, element_name(), false);
+    put_nulls_below(s, at, child, size);
     return at;
 }
 
@@ -292,6 +308,7 @@ static size_t build_records(struct structure *s, size_t length, size_t offset, i
     for (size_t i = 0; i < count; i++) {
         size_t child = build(s, length + offset + roll(2), depth + 1, true);
         join(s, at, i, child, names[roll(4)], false);
+        put_nulls_below(s, at, child, 1);
     }
     return at;
 }

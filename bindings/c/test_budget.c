@@ -224,6 +224,26 @@ static void empty_rows(void) {
     expect("a million empty lists", &lists, &list_array, 0, 0, 0);
 }
 
+/* So many levels of records, or of lists of two, over records of columns without parts, all of one bitmap, in which no bit is set. */
+static void nulls_in_nulls(const char *what, const char *format, size_t levels, size_t columns) {
+    static uint8_t bits[64000];
+    static struct ArrowSchema schemas[64], *schema_parts[64][128];
+    static struct ArrowArray arrays[64], *parts[64][128];
+    static const void *bitmap[] = {bits};
+    int64_t rows = 512000;
+    for (size_t i = levels; i-- > 0;) {
+        bool last = i + 1 == levels;
+        int64_t count = last ? (int64_t)columns : 1;
+        rows = last || format[1] == 's' ? rows : rows / 2;
+        schemas[i] = schema(last ? "+s" : format, i ? 0 : ARROW_FLAG_NULLABLE, schema_parts[i], count);
+        arrays[i] = array(rows, 0, bitmap, 1, parts[i], count);
+        for (int64_t c = 0; c < count; c++)
+            schema_parts[i][c] = &schemas[i + 1], parts[i][c] = &arrays[i + 1];
+    }
+    schemas[levels] = schema("+s", 0, NULL, 0), arrays[levels] = array(512000, 0, bitmap, 1, NULL, 0);
+    read_little(what, &schemas[0], &arrays[0], 0, 0);
+}
+
 /* Names have a limit of their own. */
 static void names(void) {
     static char name[(4 << 20) + 2];
@@ -341,6 +361,8 @@ int main(void) {
     one_buffer();
     slices();
     empty_rows();
+    nulls_in_nulls("nulls of 70 columns in records of 60 levels", "+s", 60, 70);
+    nulls_in_nulls("nulls of 60 columns in lists of two of 14 levels", "+w:2", 15, 60);
     names();
     limits();
     written();

@@ -68,13 +68,14 @@ static enum verdict turn_dictionary(struct structure *s, const struct slot *t) {
     }
 }
 
+/* Of an array that is not whole, a null may not be read, or may lie in a record or a list that is null. */
 static enum verdict turn_flags(const struct slot *t) {
     t->schema->flags = 0;
     if (t->schema->dictionary)
         return EITHER;
     if (!null_rows(t))
         return READ;
-    return t->whole || t->array->null_count > 0 ? REFUSED : EITHER;
+    return t->whole ? REFUSED : EITHER;
 }
 
 static enum verdict turn_bitmap(const struct slot *t) {
