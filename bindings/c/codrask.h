@@ -279,8 +279,8 @@ struct codrask_table {
  *
  * CODRASK_BAD_NULL_COUNT: the null count is neither -1 nor the number of bits that are not set, of the rows of the array itself; of
  *   rows that are not read, since what the array stands in has fewer, any number may be null. Without a bitmap none is.
- * CODRASK_UNEXPECTED_NULL: a row that is read is null where the schema is not nullable: that of the array, or that of the dictionary
- *   whose values the array has. It may be null where the records or the list of one size that it lies in are. The place is the row.
+ * CODRASK_UNEXPECTED_NULL: a row that is read is null where the schema is not nullable: that of the array, or for the values of a
+ *   dictionary that of their codes. It may be null where the records or the list of one size that it lies in are. The place is the row.
  * CODRASK_BAD_ARROW: a buffer of views has a negative size; the place is the buffer.
  * CODRASK_OVERFLOW: a text by offsets has 2 GiB or more; the place is the row.
  *

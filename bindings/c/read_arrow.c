@@ -345,14 +345,13 @@ static uint32_t emit_records(struct reader *r, struct rows rows, const struct fo
     return 0;
 }
 
-/* Codes and values: the codes have the nulls, and values have none where codes may not. */
+/* Codes and values: both may be null where the field says so. The flags of the values' own schema say nothing, as Arrow has them. */
 static uint32_t emit_dictionary(struct reader *r, struct rows rows, const struct format *format) {
     uint32_t error = new_node(r, CODRASK_DICTIONARY, CODRASK_NON_NULLABLE, rows.length);
     if (error || (error = emit_flat(r, rows, format)))
         return error;
     const struct ArrowSchema *values = rows.schema->dictionary;
-    bool nullable = rows.nullable && values->flags & ARROW_FLAG_NULLABLE;
-    return emit(r, (struct rows){values, rows.array->dictionary, 0, SIZE_MAX, rows.depth + 1, nullable, no_enclosing});
+    return emit(r, (struct rows){values, rows.array->dictionary, 0, SIZE_MAX, rows.depth + 1, rows.nullable, no_enclosing});
 }
 
 static uint32_t emit(struct reader *r, struct rows rows) {

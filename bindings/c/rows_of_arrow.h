@@ -150,10 +150,10 @@ static void sum_row(struct sum *sum, const struct ArrowSchema *schema, const str
     }
 }
 
-/* The names, and which of the arrays have flags that let rows be null. The values of a dictionary have no name. */
+/* The names, and which of the arrays may have nulls. The values of a dictionary have no name, and may where their codes may. */
 static void sum_schema(struct sum *sum, const struct ArrowSchema *schema, bool nullable, bool named) {
     const char *name = schema->name && named ? schema->name : "";
-    nullable = nullable && schema->flags & ARROW_FLAG_NULLABLE;
+    nullable = named ? schema->flags & ARROW_FLAG_NULLABLE : nullable;
     sum_bytes(sum, (const uint8_t *)name, strlen(name));
     sum_up(sum, nullable);
     for (int64_t c = 0; c < schema->n_children; c++)

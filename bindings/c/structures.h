@@ -15,8 +15,9 @@ enum { MOST_SLOTS = 512, MOST_PIECES = 8192, MOST_DEPTH = 5 };
 struct slot {
     struct ArrowSchema *schema;
     struct ArrowArray *array;
-    bool whole; /* every row of it is looked at */
-    bool nulls; /* rows may be null */
+    bool whole;  /* every row of it is looked at */
+    bool nulls;  /* rows may be null */
+    bool values; /* it is a dictionary, whose codes say whether rows may be null */
 };
 
 struct structure {
@@ -81,7 +82,7 @@ static size_t new_slot(struct structure *s, const char *format, size_t length, s
     array->offset = (int64_t)offset;
     array->n_buffers = (int64_t)buffers;
     array->buffers = exact(s, buffers * sizeof *array->buffers);
-    s->slots[s->count] = (struct slot){schema, array, true, false};
+    s->slots[s->count] = (struct slot){schema, array, true, false, false};
     return s->count++;
 }
 
@@ -319,6 +320,8 @@ static size_t build_dictionary(struct structure *s, size_t length, size_t offset
     put_nulls(s, at, nulls);
     build_codes(s, at, (size_t)1 << which / 2, values);
     size_t dictionary = build(s, values, depth + 1, s->slots[at].nulls);
+    s->slots[dictionary].schema->flags = roll(2) ? ARROW_FLAG_NULLABLE : 0;
+    s->slots[dictionary].values = true;
     s->slots[at].schema->dictionary = s->slots[dictionary].schema;
     s->slots[at].array->dictionary = s->slots[dictionary].array;
     return at;

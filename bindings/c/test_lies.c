@@ -161,6 +161,16 @@ static void dictionaries(void) {
     expect("a value that is null in a dictionary that is not nullable", &s, &a, CODRASK_UNEXPECTED_NULL, 2, 1);
     s.flags = ARROW_FLAG_NULLABLE;
     expect("a value that is null", &s, &a, 0, 0, 0);
+    value.flags = 0;
+    expect("a value that is null, where the field alone is nullable", &s, &a, 0, 0, 0);
+    struct codrask_table table = {NULL, 0, NULL};
+    tell("codes and values that may be null", !codrask_table_from_arrow(&s, &a, &table) && table.count == 4
+                                                  && table.nodes[1].validity == CODRASK_ALL_VALID
+                                                  && table.nodes[2].validity == CODRASK_BY_ARRAY);
+    codrask_table_free(&table);
+    static const uint8_t first_codes[2];
+    code_buffers[1] = first_codes, value.flags = ARROW_FLAG_NULLABLE, s.flags = 0;
+    expect("a value that is null and that no code names", &s, &a, CODRASK_UNEXPECTED_NULL, 2, 1);
 }
 
 static void null_counts(void) {

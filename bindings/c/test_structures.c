@@ -55,10 +55,9 @@ static bool find_node(const struct ArrowSchema *schema, const struct ArrowArray 
                       size_t *node) {
     if (array == wanted)
         return true;
-    nullable = nullable && schema->flags & ARROW_FLAG_NULLABLE;
     *node += 1 + !!schema->dictionary + (nullable && array->buffers[0] && array->null_count);
     for (int64_t i = 0; i < array->n_children; i++)
-        if (find_node(schema->children[i], array->children[i], wanted, true, node))
+        if (find_node(schema->children[i], array->children[i], wanted, schema->children[i]->flags & ARROW_FLAG_NULLABLE, node))
             return true;
     if (schema->dictionary)
         return find_node(schema->dictionary, array->dictionary, wanted, nullable, node);
@@ -76,7 +75,8 @@ static bool is_told_of(size_t node, bool dictionary) {
 static void expect_turned(uint64_t seed) {
     const struct slot *t = &made.slots[roll(made.count)], *root = &made.slots[0];
     size_t node = 0;
-    bool dictionary = t->schema->dictionary, found = find_node(root->schema, root->array, t->array, true, &node);
+    bool dictionary = t->schema->dictionary, nullable = root->schema->flags & ARROW_FLAG_NULLABLE;
+    bool found = find_node(root->schema, root->array, t->array, nullable, &node);
     enum verdict verdict = turn_slot(&made, t);
     expect("turned", seed, verdict);
     if (verdict != REFUSED || (found && is_told_of(node, dictionary)))

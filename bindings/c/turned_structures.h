@@ -71,6 +71,8 @@ static enum verdict turn_dictionary(struct structure *s, const struct slot *t) {
 /* Of an array that is not whole, a null may not be read, or may lie in a record or a list that is null. */
 static enum verdict turn_flags(const struct slot *t) {
     t->schema->flags = 0;
+    if (t->values)
+        return READ;
     if (t->schema->dictionary)
         return EITHER;
     if (!null_rows(t))
