@@ -264,7 +264,11 @@ static uint32_t emit_values(struct reader *r, struct rows rows, const struct for
         return codrask_refuse(r, CODRASK_BAD_ARROW, place, 0);
     if (!task->offsets)
         return 0;
-    int64_t heap_end = codrask_offset_at(buffer(rows.array, 1), format->width, (size_t)(rows.array->offset + rows.array->length));
+    size_t all = (size_t)(rows.array->offset + rows.array->length), size;
+    const uint8_t *offsets;
+    if (!slice(buffer(rows.array, 1), 0, all + 1, format->width, &offsets, &size))
+        return codrask_refuse(r, CODRASK_BAD_ARROW, place, 0);
+    int64_t heap_end = codrask_offset_at(offsets, format->width, all);
     task->work = MAKE_VIEWS;
     task->heap = buffer(rows.array, 2);
     if (task->end > heap_end)

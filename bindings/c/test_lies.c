@@ -128,6 +128,14 @@ static void part_of_texts(void) {
     struct ArrowSchema inner = schema("u", 0, NULL, 0), *schemas[] = {&inner}, s = schema("+s", 0, schemas, 1);
     memset(heap, 'x', 20);
     expect("two texts of three", &s, &root, 0, 0, 0);
+    static const int64_t past_memory[] = {(int64_t)1 << 62, ((int64_t)1 << 62) + 3, INT64_MAX, ((int64_t)1 << 61) - 1};
+    for (size_t i = 0; i < COUNT(past_memory); i++) {
+        column.length = past_memory[i];
+        expect("two texts of more than all memory has", &s, &root, CODRASK_BAD_ARROW, 1, 0);
+    }
+    column.length = 1, column.offset = INT64_MAX - 1;
+    expect("a text past all memory", &s, &root, CODRASK_BAD_ARROW, 1, 0);
+    column.length = 3, column.offset = 0;
     offsets[2] = 21;
     expect("an offset past the last one of the array", &s, &root, CODRASK_BAD_BUFFER, 1, 1);
     free(heap);
