@@ -67,7 +67,7 @@ def _is_little(order):
 
 
 def _holds_bytes(view):
-    return view.itemsize == 1 and _order_and_letter(view)[1] in ("B", "c")
+    return view.itemsize == 1 and _order_and_letter(view)[1] in ("B", "c", "b")
 
 
 def _plain(view):
