@@ -268,8 +268,8 @@ struct codrask_table {
  *
  * CODRASK_RELEASED: the release of a schema or an array is null.
  * CODRASK_BAD_ARROW: a null pointer in place of a struct; a format that is another one (floats) or none; a negative count, length
- *   or offset, or more rows than 63 bits tell or than all memory has; other numbers of buffers or children than the format has; no array of buffers or
- *   children; a dictionary in the schema or in the array alone, or with codes whose format is no integer.
+ *   or offset; more rows than 63 bits tell, or than all memory has; other numbers of buffers or children than the format has; no array
+ *   of buffers or children; a dictionary in the schema or in the array alone, or with codes whose format is no integer.
  * CODRASK_TOO_DEEP: the array is nested deeper than 64 levels.
  * CODRASK_TOO_MANY_NODES: the table would have more than 4096 nodes; told of node 0, as codrask_check does.
  * CODRASK_TOO_MANY_BUFFERS: all arrays of views have more than 65536 buffers.

@@ -269,6 +269,26 @@ static void names(void) {
 
 /* ---- limits of the caller's ---- */
 
+/* Twenty columns of few rows over one dictionary of 4.8 MB. */
+static void shared_dictionary(void) {
+    static int64_t values[600000];
+    static const uint8_t codes[10];
+    static struct ArrowSchema *schemas[20];
+    static struct ArrowArray *columns[20];
+    const void *code_buffers[] = {NULL, codes}, *value_buffers[] = {NULL, values}, *none_there[] = {NULL};
+    struct ArrowSchema number = schema("l", 0, NULL, 0), code = schema("C", 0, NULL, 0), s = schema("+s", 0, schemas, 20);
+    struct ArrowArray dictionary = array(COUNT(values), 0, value_buffers, 2, NULL, 0), column = array(10, 0, code_buffers, 2, NULL, 0),
+                      a = array(10, 0, none_there, 1, columns, 20);
+    struct codrask_limits limit = {(size_t)1 << 30};
+    struct codrask_table table;
+    code.dictionary = &number, column.dictionary = &dictionary;
+    for (size_t i = 0; i < COUNT(columns); i++)
+        schemas[i] = &code, columns[i] = &column;
+    read_little("twenty columns that share a dictionary", &s, &a, CODRASK_TOO_MANY_BYTES, 24);
+    tell("where the caller allows them", !codrask_read_arrow(&s, &a, &limit, &table, &fault) && table.count == 61);
+    codrask_table_free(&table);
+}
+
 static void limits(void) {
     static const uint8_t bytes[1000];
     const void *flat[] = {NULL, bytes};
@@ -364,6 +384,7 @@ int main(void) {
     nulls_in_nulls("nulls of 70 columns in records of 60 levels", "+s", 60, 70);
     nulls_in_nulls("nulls of 60 columns in lists of two of 14 levels", "+w:2", 15, 60);
     names();
+    shared_dictionary();
     limits();
     written();
     structures();
