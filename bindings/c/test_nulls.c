@@ -83,14 +83,14 @@ static void unset(uint8_t *bits, size_t i) {
         bits[i / 8] &= (uint8_t)~(1u << i % 8);
 }
 
-/* Records, that have lists of one size, of records, of numbers. Records and lists may be null, what lies in these may not. */
+/* Records, that have lists of one size, of records, of numbers. The upper levels may be null, two or three; those below may not. */
 struct nest {
-    size_t rows, each, offsets[4], first[4]; /* for each level, the bit of the first row that is read */
+    size_t rows, each, nullable, offsets[4], first[4]; /* for each level, the bit of the first row that is read */
     uint8_t *bits[4], *numbers;
 };
 
 static void make_nest(struct nest *n) {
-    n->rows = 1 + roll(60), n->each = 1 + roll(4);
+    n->rows = 1 + roll(60), n->each = 1 + roll(4), n->nullable = 2 + roll(2);
     for (size_t i = 0; i < 4; i++)
         n->offsets[i] = roll(20);
     n->first[0] = n->offsets[0], n->first[1] = n->first[0] + n->offsets[1];
@@ -100,9 +100,10 @@ static void make_nest(struct nest *n) {
     n->numbers = calloc(n->first[3] + n->rows * n->each, 1);
 }
 
-/* Whether the records or the list of a number are null. */
-static bool is_within_null(const struct nest *n, size_t row) {
-    return !is_set(n->bits[0], n->first[0] + row / n->each) || !is_set(n->bits[1], n->first[1] + row / n->each);
+/* Whether what a row of a level lies in is null, of the levels that may be. */
+static bool is_within_null(const struct nest *n, size_t level, size_t row) {
+    return !is_set(n->bits[0], n->first[0] + row / n->each) || !is_set(n->bits[1], n->first[1] + row / n->each)
+           || (level == 3 && !is_set(n->bits[2], n->first[2] + row));
 }
 
 static void put_nulls(struct nest *n) {
@@ -113,9 +114,9 @@ static void put_nulls(struct nest *n) {
             unset(n->bits[1], n->first[1] + row);
     }
     for (size_t row = 0; row < n->rows * n->each; row++) {
-        if (is_within_null(n, row) && roll(2))
+        if (n->nullable == 3 ? !roll(3) : is_within_null(n, 2, row) && roll(2))
             unset(n->bits[2], n->first[2] + row);
-        if (is_within_null(n, row) && roll(4))
+        if (is_within_null(n, 3, row) && roll(4))
             unset(n->bits[3], n->first[3] + row);
     }
 }
@@ -130,7 +131,7 @@ static void expect_nest(const char *what, const struct nest *n, uint32_t number,
     for (size_t i = 0; i < 4; i++) {
         int64_t length = (int64_t)(n->first[i] - n->offsets[i] + n->rows * (i < 2 ? 1 : n->each)), last = i == 3;
         buffers[i][0] = n->bits[i], buffers[i][1] = n->numbers;
-        schemas[i] = schema(i == 1 ? size : formats[i], i < 2 ? ARROW_FLAG_NULLABLE : 0, &schema_parts[i], !last);
+        schemas[i] = schema(i == 1 ? size : formats[i], i < n->nullable ? ARROW_FLAG_NULLABLE : 0, &schema_parts[i], !last);
         arrays[i] = array(i ? length : (int64_t)n->rows, (int64_t)n->offsets[i], buffers[i], 1 + last, &parts[i], !last);
         schema_parts[i] = &schemas[last ? i : i + 1], parts[i] = &arrays[last ? i : i + 1];
     }
@@ -144,9 +145,11 @@ static void nests(void) {
         make_nest(&n);
         put_nulls(&n);
         expect_nest("nulls that lie in nulls", &n, 0, 0, 0);
-        size_t row = roll(n.rows * n.each), level = 2 + roll(2), node = level + !!n.bits[0] + !!n.bits[1];
+        size_t row = roll(n.rows * n.each), level = n.nullable + roll(4 - n.nullable), node = level;
+        for (size_t i = 0; i < n.nullable; i++)
+            node += !!n.bits[i];
         unset(n.bits[level], n.first[level] + row);
-        bool told = n.bits[level] && !is_within_null(&n, row);
+        bool told = n.bits[level] && !is_within_null(&n, level, row);
         expect_nest("one null more", &n, told ? CODRASK_UNEXPECTED_NULL : 0, told ? node : 0, told ? row : 0);
         for (size_t i = 0; i < 4; i++)
             free(n.bits[i]);
