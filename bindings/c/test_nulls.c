@@ -45,6 +45,22 @@ static void other_lists(void) {
     parent("an element of a null list by views", "+vl", &a, same, CODRASK_UNEXPECTED_NULL, 1);
 }
 
+/* The codes of a dictionary lie in records, its values do not: nodes 3 and 4. */
+static void dictionaries(void) {
+    static const uint8_t codes[8];
+    const void *none[] = {second_null}, *code_buffers[] = {second_null, codes}, *value_buffers[] = {NULL, numbers};
+    struct ArrowArray values = array(4, 0, value_buffers, 2, NULL, 0), column = array(4, 0, code_buffers, 2, NULL, 0);
+    struct ArrowSchema value = schema("l", 0, NULL, 0), code = schema("C", 0, NULL, 0), *schemas[] = {&code};
+    struct ArrowArray *columns[] = {&column}, a = array(4, 0, none, 1, columns, 1);
+    struct ArrowSchema s = schema("+s", ARROW_FLAG_NULLABLE, schemas, 1);
+    code.dictionary = &value, column.dictionary = &values;
+    expect("a null code of a record that is null", &s, &a, 0, 0, 0);
+    code_buffers[0] = third_null;
+    expect("a null code of a record that is not", &s, &a, CODRASK_UNEXPECTED_NULL, 3, 2);
+    code_buffers[0] = NULL, value_buffers[0] = second_null;
+    expect("a null value at the place of a record that is null", &s, &a, CODRASK_UNEXPECTED_NULL, 4, 1);
+}
+
 /* Two null counts, of a null that is not read: where none may be null, and where rows may. */
 static void nulls_that_are_not_read(void) {
     const void *none[] = {NULL}, *buffers[] = {second_null, numbers};
@@ -161,6 +177,7 @@ int main(void) {
     records();
     lists_of_one_size();
     other_lists();
+    dictionaries();
     nulls_that_are_not_read();
     nests();
     printf("%d passed, %d failed\n", passed, failed);
