@@ -499,12 +499,13 @@ fn expect_sparse(
     elements: &Elements,
     rows: usize,
 ) -> Result<(), VortexError> {
-    let mut state = rows as u32;
+    let mut state = 7;
     for case in 0..6 {
         let filled = (rows / 4 + case / 2).saturating_sub(1);
         let lists = sparse_lists(alloc, &mut state, rows, filled, case % 2 == 0)?;
+        let types = number_up_to(&mut state, 55) as usize;
         assert!(rt;
-            are_laid_out(alloc, elements, COUNT, &lists, rows + case)?,
+            are_laid_out(alloc, elements, COUNT, &lists, types)?,
             "{rows} lists, {filled} of them with elements"
         );
     }
@@ -570,17 +571,27 @@ fn has_bytes_of(array: &ArrayRef, places: &[usize]) -> bool {
 }
 
 // Whether every 64th row of the array has the text of its element.
-fn has_some_texts_of(array: &ArrayRef, words: &[String], places: &[usize]) -> bool {
-    for k in 0..places.len() / 64 {
-        let i = 64 * k;
-        let Some(word) = words.get(places[i]) else {
-            return false;
+fn has_some_texts_of(
+    alloc: Global,
+    array: &ArrayRef,
+    words: &[String],
+    places: &[usize],
+) -> Result<bool, VortexError> {
+    let Ok(found) = VarBinViewArray::try_from_array(array.try_clone(alloc)?) else {
+        return Ok(false);
+    };
+    if found.len() != places.len() {
+        return Ok(false);
+    }
+    for (i, place) in places.iter().enumerate() {
+        let Some(word) = words.get(*place) else {
+            return Ok(false);
         };
-        if array.bytes_at(i) != Some(word.as_bytes()) {
-            return false;
+        if i % 64 == 0 && found.as_array().bytes_at(i) != Some(word.as_bytes()) {
+            return Ok(false);
         }
     }
-    array.len() == places.len()
+    Ok(true)
 }
 
 // Whether lists lie so, over texts or over records of a number and a text.
@@ -593,14 +604,15 @@ fn has_many(
     let is_laid = made.is_zero_copy_to_list() && has_ranges(made, &wanted.ranges);
     let places = &wanted.places;
     if let Layout::VarBinView { .. } = made.elements().layout() {
-        return Ok(is_laid && has_some_texts_of(made.elements(), words, places));
+        return Ok(is_laid && has_some_texts_of(alloc, made.elements(), words, places)?);
     }
     let Ok(records) = StructArray::try_from_array(made.elements().try_clone(alloc)?) else {
         return Ok(false);
     };
     let numbers = records.unmasked_field_by_name("number")?;
     let texts = records.unmasked_field_by_name("text")?;
-    Ok(is_laid && has_bytes_of(numbers, places) && has_some_texts_of(texts, words, places))
+    let has_numbers = has_bytes_of(numbers, places);
+    Ok(is_laid && has_numbers && has_some_texts_of(alloc, texts, words, places)?)
 }
 
 // Stops unless the given lists lie so, taken at once and copied run by run.
@@ -630,7 +642,7 @@ fn expect_total(
     total: usize,
     is_next: bool,
 ) -> Result<(), VortexError> {
-    let mut state = total as u32;
+    let mut state = 3;
     let lists = many_lists(alloc, &mut state, total, is_next)?;
     let wanted = LaidOut::new(alloc, &lists)?;
     let places = wanted.places.len();
