@@ -61,7 +61,7 @@ fn extend_both(bytes: &mut Vec<u8>, left: &[u8], right: &[u8]) -> Result<(), Vor
     Ok(bytes.extend(pairs.map(|(l, r)| *l & *r))?)
 }
 
-// Results of up to so many bytes are written a byte at a time: two words cost more than they save.
+// Results of up to so many bytes are written a byte at a time: a word or two cost more.
 const FEW: usize = 8;
 
 // Writes the bits that are set in both, of two runs of which one begins inside a byte.

@@ -16,8 +16,9 @@ use crate::places::Places;
 use crate::selection::Selection;
 use std::alloc::Global;
 
-// Runs and lists of more booleans in the mean are appended one after another, so that each part of
-// the result is cleared just before it is written. Shorter ones are written over zeroes.
+// Runs of at least 256 x (runs + 1) booleans in all, and lists of more than 256 each, are appended
+// one after another, so that each part of the result is cleared just before it is written. Shorter
+// ones are written over zeroes.
 const LONG: usize = 256;
 
 // Booleans of which some are gathered.

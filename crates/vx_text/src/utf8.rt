@@ -6,7 +6,7 @@ ghost use Rattle.std.specs.Str.{IsCharBoundary};
 use simdutf8::Checker;
 use std::simd::prelude::*;
 
-// Whether bytes are text. A short value takes no call.
+// Whether bytes are text. The loop over a long value stands by itself.
 pub(crate) fn bytes_are_text(bytes: &[u8]) -> bool
     ensures { IsTrue result ↔ IsUtf8 bytes.now }
 {
@@ -88,8 +88,7 @@ fn is_text_block<const HALF: usize, const WHOLE: usize>(bytes: &[u8]) -> bool
 }
 
 // A block of such a value, and of zeroes after it. Its ends are copied, since a copy of a length
-// that is known only when it runs takes longer than the test. The zeroes from `WHOLE` on are seen
-// where the block is tested, and so take little time.
+// that is known only when it runs takes longer than the test.
 #[inline(always)]
 fn block_of<const HALF: usize, const WHOLE: usize>(bytes: &[u8]) -> u8x64
     requires covered { (HALF ≤ length bytes.now) × (length bytes.now ≤ 2 * HALF) }
