@@ -1,6 +1,5 @@
-// Bits that are set in both of two buffers, byte for byte. After the last one stand the bits that are
-// set in the bytes of both there, of which there are none past their end; zero-padded, none stand
-// there.
+// Bits that are set in both of two buffers, byte for byte. After the last one `and` keeps what the
+// bytes of both have there, which is nothing past their end, and `and_zero_padded` keeps nothing.
 
 ghost use Rattle.std.specs.Prelude.{◌≡◌, length};
 
@@ -71,7 +70,7 @@ fn expect_both(
     Ok(())
 }
 
-// Stops unless it is so at each bit of a byte from which on they are, and up to which.
+// Stops unless it is so from each bit of a byte on, and up to each bit of one.
 fn expect_both_at_each_bit(
     rt: &impl Abort,
     alloc: Global,
