@@ -1,7 +1,8 @@
 // Bits that are gathered by runs and by lists, and bits that are appended, byte for byte: the bytes
 // are those that plain code writes bit by bit over zeroes, one run after another. A run of up to 56
 // bits comes as a word: its last byte holds what follows it there too. A longer one changes no
-// other bit. So after the last bit there is what followed a short run, and nothing after a long one.
+// other bit. So after the last bit there is what followed a short run, and nothing after a long
+// one.
 
 ghost use Rattle.std.specs.Prelude.{◌≡◌, ◌*◌, ◌<◌, length, IfOk};
 ghost use Rattle.std.specs.List.{All, flat_map};
