@@ -1,21 +1,17 @@
 -- What each layout makes of the arrays on top, and which fault is answered.
-use Rattle.std.proofs.Common.{ℕ, ◌+◌, ◌<◌, ◌≤◌, ◌≡◌, false, List, [], ◌∷◌, length, map, take, drop, get_or, refl, sym, ◌∙◌, ap, subst, inl, inr, arith}
-use Rattle.std.specs.Prelude.{Option, Some, None, Result, Ok, Err, option_map, if◌then◌else◌, nat_lt}
+use Rattle.std.proofs.Common.{◌≡◌, false, List, [], ◌∷◌, sym, ◌∙◌, ap, subst, inr}
+use Rattle.std.specs.Prelude.{Option, None, Ok}
 use Rattle.vx_base.specs.declared.errors.VortexError.{VortexError}
-use Rattle.vx_base.specs.declared.errors.VortexError.TheVariants.{Memory}
-use Rattle.vx_base.specs.Refusals.{Refusal, refusal_of, IsMemoryOr, or_else}
-use Rattle.vx_tree.specs.Tree.{Tree, Valid, non_nullable, dictionary, fixed_list, list_view, structure}
-use Rattle.vx_tree.specs.Meaning.{trees_from}
+use Rattle.vx_base.specs.Refusals.{Refusal, IsMemoryOr}
+use Rattle.vx_tree.specs.Tree.{Tree, Valid, non_nullable, dictionary, fixed_list, list_view}
 use Rattle.vx_leaves.specs.Dictionaries.{dictionary_fault}
 use Rattle.vx_lists.specs.FixedSizeLists.{fixed_list_fault}
 use Rattle.vx_lists.specs.ListViews.Faults.{list_view_fault}
-use Rattle.vx_lists.specs.Structs.Faults.{struct_fault}
 use Rattle.vx_c.specs.declared.table.CodraskNode.{CodraskNode}
 use Rattle.vx_c.specs.declared.table.NodeKind.TheVariants.{Dictionary, FixedSizeList, ListView}
-use Rattle.vx_c.specs.declared.faults.NodeError.{NodeError}
 use Rattle.vx_c.specs.declared.faults.NodeError.TheVariants.{MissingNodes, Refused}
-use Rattle.vx_c.specs.Tables.{NodeFault, missing_nodes, unless, layout_made, records_made, names_fault, buffers_in, fault_in}
-use Rattle.vx_c.specs.Answers.{fault_of, IsFaultOf}
+use Rattle.vx_c.specs.Tables.{unless, layout_made, fault_in}
+use Rattle.vx_c.specs.Answers.{IsFaultOf}
 use Rattle.vx_c.proofs.Nodes.{refused_by}
 
 pub made_by : (fault : Option Refusal) (t a : Tree) (ts : List Tree) → fault ≡ None → a ≡ t → unless fault t ts ≡ Ok (a, ts)

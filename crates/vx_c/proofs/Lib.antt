@@ -12,3 +12,4 @@ pub mod Sixteen
 pub mod RunParts
 pub mod Meant
 pub mod RunFaults
+pub mod Counts

@@ -1,5 +1,5 @@
 -- One node: the array that it is, and which fault is answered.
-use Rattle.std.proofs.Common.{ℕ, zero, suc, ◌+◌, ◌<◌, ◌≡◌, ◌≢◌, ◌==◌, ◌++◌, true, false, List, [], ◌∷◌, length, reverse, refl, sym, ◌∙◌, ap, subst, inl, inr, arith, rules}
+use Rattle.std.proofs.Common.{ℕ, suc, ◌≡◌, ◌≢◌, ◌++◌, List, [], ◌∷◌, length, reverse, refl, sym, ◌∙◌, ap, subst, inl, inr, arith, rules}
 use Rattle.std.specs.Prelude.{Option, Some, None, Result, Ok, Err, option_map}
 use Rattle.std.proofs.lemmas.List.{reverse-append}
 use Rattle.vx_base.specs.declared.errors.VortexError.{VortexError}
@@ -13,7 +13,7 @@ use Rattle.vx_c.specs.declared.table.NodeKind.{NodeKind}
 use Rattle.vx_c.specs.declared.faults.NodeError.{NodeError}
 use Rattle.vx_c.specs.declared.faults.NodeError.TheVariants.{UnknownKind, BadValidity, MissingNodes, NotOneArray, TooManyNodes, BadMode, TooManySteps, Refused}
 use Rattle.vx_c.specs.NodeKinds.{kind_numbered}
-use Rattle.vx_c.specs.Tables.{NodeFault, unknown_kind, missing_nodes, refused, unless, put, layout_made, valid_of_number, valid_made, kind_made, node_made, fault_in, only}
+use Rattle.vx_c.specs.Tables.{NodeFault, refused, unless, put, layout_made, valid_of_number, valid_made, kind_made, node_made, fault_in, only}
 use Rattle.vx_c.specs.Answers.{fault_of, IsFaultOf}
 
 -- ---- stacks

@@ -1,10 +1,10 @@
 -- Records of the columns that an iterator gives, where it gives those of a list.
-use Rattle.std.proofs.Common.{ℕ, ◌≡◌, List, [], ◌∷◌, map, refl, sym, ◌∙◌, ap, subst, inl, inr}
+use Rattle.std.proofs.Common.{◌≡◌, List, [], ◌∷◌, map, refl, sym, ◌∙◌, ap, subst, inl, inr}
 use Rattle.std.specs.Prelude.{Option, None}
 use Rattle.std.specs.Iterator.{Drains}
 use Rattle.std.proofs.lemmas.Iterator.{YieldsList, items_from_drains}
 use Rattle.vx_base.specs.declared.errors.VortexError.{VortexError}
-use Rattle.vx_base.specs.Refusals.{Refusal, Names, IsMemoryOr}
+use Rattle.vx_base.specs.Refusals.{Refusal, IsMemoryOr}
 use Rattle.vx_tree.specs.Tree.{Tree}
 use Rattle.vx_lists.specs.Structs.Faults.{IsMadeOf, AreFaulty}
 

@@ -8,10 +8,11 @@ use Rattle.std.proofs.lemmas.List.{map-append, length-map, take_more}
 use Rattle.std.proofs.lemmas.Option.{slice_get-get_or, slice_get_within, get_or_from_slice_get}
 use Rattle.vx_base.specs.declared.errors.VortexError.{VortexError}
 use Rattle.vx_base.specs.declared.errors.VortexError.TheVariants.{Memory, OutOfBounds}
-use Rattle.vx_base.specs.Refusals.{out_of_bounds, IsMemoryOr, or_else}
+use Rattle.vx_base.specs.Refusals.{out_of_bounds, IsMemoryOr}
 use Rattle.vx_tree.specs.Tree.{Tree, bools, non_nullable}
 use Rattle.vx_tree.specs.Canonical.{HasRowsOf, IsCanonical, canonical_fault}
 use Rattle.vx_tree.specs.Faults.{position_fault}
+use Rattle.vx_tree.specs.Meaning.{kind_of}
 use Rattle.vx_run.specs.declared.steps.Step.{Step}
 use Rattle.vx_run.specs.Steps.{array_at, HasRun}
 use Rattle.vx_c.specs.declared.faults.NodeError.{NodeError}
@@ -24,12 +25,12 @@ use Rattle.vx_c.specs.declared.steps.CodraskStep.{CodraskStep}
 use Rattle.vx_c.specs.declared.table.CodraskTable.{CodraskTable}
 use Rattle.vx_c.specs.declared.written.WrittenNode.{WrittenNode}
 use Rattle.vx_c.specs.declared.written.WrittenTable.{WrittenTable}
-use Rattle.vx_c.specs.Tables.{NodeFault, refused, column_of}
+use Rattle.vx_c.specs.Tables.{NodeFault, refused, too_many_nodes, column_of}
 use Rattle.vx_c.specs.Answers.{IsFormFault, IsTableFault}
 use Rattle.vx_c.specs.Steps.{IsStepOf, step_form_fault}
-use Rattle.vx_c.specs.Unflagged.{unflagged, node_count}
+use Rattle.vx_c.specs.Unflagged.{unflagged, least_count, node_count}
 use Rattle.vx_c.specs.Written.{IsWritten, node_of}
-use Rattle.vx_c.specs.Runs.{column_in, AreColumns, AreSteps, IsReadBack, IsMadeOf, IsMade, IsNoTable, result_fault, IsRunError, IsToldOf}
+use Rattle.vx_c.specs.Runs.{column_in, AreColumns, AreSteps, IsReadBack, IsMadeOf, IsMade, IsNoTable, kind_fault, or_fault, result_fault, IsRunError, IsToldOf}
 use Rattle.vx_c.specs.Runs.{AreColumnsOr, AreStepsOr, IsRanOr, AreTablesOr, told_of_run}
 use Rattle.vx_c.specs.declared.faults.CodraskRunFault.{CodraskRunFault}
 use Rattle.vx_c.proofs.Unflagged.{unflagged-rows, kept_count, kept_plain}
@@ -106,8 +107,12 @@ lent_there results w lent a item is =
 array_there : (results : List Tree) (w : ℕ) (a : Tree) → slice_get results w ≡ Some a → array_at results w ≡ a
 array_there results w a is = get_or_from_slice_get results w a (bools [] non_nullable) is
 
+-- why an array that stands there has no table
+abbrev array_fault : Tree → Option NodeFault
+array_fault a = or_fault (kind_fault (kind_of a)) (option_map refused (canonical_fault a))
+
 pub no_array : (results : List Tree) (w len : ℕ) → slice_get results w ≡ None → IsNoTable results w (Refused (OutOfBounds w len))
-no_array results w len none = inl (inr (ap (λ o. option_map refused (or_else o (canonical_fault (array_at results w)))) past))
+no_array results w len none = inl (inr (ap (λ o. or_fault (option_map refused o) (array_fault (array_at results w))) past))
   where
     outside : (xs : List Tree) (i : ℕ) → slice_get xs i ≡ None → length xs ≤ i
     outside [] i is = omega arith
@@ -117,10 +122,10 @@ no_array results w len none = inl (inr (ap (λ o. option_map refused (or_else o 
     past : position_fault (length results) w ≡ Some (out_of_bounds w)
     past = let long = outside results w none in search (rules, arith, long)
 
--- the fault of an array that stands there is that of making it plain
-fault_there : (results : List Tree) (w : ℕ) (a : Tree) → slice_get results w ≡ Some a → result_fault results w ≡ canonical_fault a
+-- the fault of an array that stands there is its own
+fault_there : (results : List Tree) (w : ℕ) (a : Tree) → slice_get results w ≡ Some a → result_fault results w ≡ array_fault a
 fault_there results w a is =
-    ap (λ o. or_else o (canonical_fault (array_at results w))) stands ∙ ap canonical_fault (array_there results w a is)
+    ap (λ o. or_fault (option_map refused o) (array_fault (array_at results w))) stands ∙ ap array_fault (array_there results w a is)
   where
     inside : w < length results
     inside = slice_get_within results w a is
@@ -128,10 +133,25 @@ fault_there results w a is =
     stands : position_fault (length results) w ≡ None
     stands = search (rules, arith, inside)
 
-pub not_plain : (results : List Tree) (w : ℕ) (a : Tree) (v : VortexError) → slice_get results w ≡ Some a → IsMemoryOr (canonical_fault a) v
-    → IsNoTable results w (Refused v)
-not_plain results w a v is fault =
-    inl (subst (λ o. IsFormFault (Refused v) (option_map refused o)) (sym (fault_there results w a is)) (form_refused (canonical_fault a) v fault))
+-- where its kind needs no more nodes than a table may have, it is that of making it plain
+few_nodes : (a : Tree) → least_count (kind_of a) ≤ MAX_NODES → array_fault a ≡ option_map refused (canonical_fault a)
+few_nodes a few = ap (λ o. or_fault o (option_map refused (canonical_fault a))) none
+  where
+    none : kind_fault (kind_of a) ≡ None
+    none = search (rules, arith, few)
+
+pub many_nodes : (results : List Tree) (w : ℕ) (a : Tree) → slice_get results w ≡ Some a → MAX_NODES < least_count (kind_of a)
+    → IsNoTable results w TooManyNodes
+many_nodes results w a is many =
+    inl (inr (fault_there results w a is ∙ ap (λ o. or_fault o (option_map refused (canonical_fault a))) fault))
+  where
+    fault : kind_fault (kind_of a) ≡ Some too_many_nodes
+    fault = search (rules, arith, many)
+
+pub not_plain : (results : List Tree) (w : ℕ) (a : Tree) (v : VortexError) → slice_get results w ≡ Some a → least_count (kind_of a) ≤ MAX_NODES
+    → IsMemoryOr (canonical_fault a) v → IsNoTable results w (Refused v)
+not_plain results w a v is few fault =
+    inl (subst (IsFormFault (Refused v)) (sym (fault_there results w a is ∙ few_nodes a few)) (form_refused (canonical_fault a) v fault))
 
 pub no_memory : (results : List Tree) (w : ℕ) → IsNoTable results w (Refused Memory)
 no_memory results w = inl (inl refl)
@@ -140,10 +160,15 @@ no_memory results w = inl (inl refl)
 written_alone : (c : Tree) (nodes : List WrittenNode) → IsWritten [] (unflagged c ∷ []) nodes → length nodes ≡ node_count c
 written_alone c nodes written = let same = ap length written.put in omega (arith, same, written.len, kept_count c)
 
-pub too_long : (results : List Tree) (w : ℕ) (a c : Tree) (nodes : List WrittenNode) → slice_get results w ≡ Some a → canonical_fault a ≡ None → IsCanonical a c
-    → IsWritten [] (unflagged c ∷ []) nodes → MAX_NODES < length nodes → IsNoTable results w TooManyNodes
-too_long results w a c nodes is none canonical written long =
-    inr (refl, fault_there results w a is ∙ none, (c, subst (λ x. IsCanonical x c) (sym (array_there results w a is)) canonical, omega (arith, long, written_alone c nodes written)))
+-- there is no fault
+faultless : (results : List Tree) (w : ℕ) (a : Tree) → slice_get results w ≡ Some a → least_count (kind_of a) ≤ MAX_NODES → canonical_fault a ≡ None
+    → result_fault results w ≡ None
+faultless results w a is few none = fault_there results w a is ∙ few_nodes a few ∙ ap (option_map refused) none
+
+pub too_long : (results : List Tree) (w : ℕ) (a c : Tree) → slice_get results w ≡ Some a → least_count (kind_of a) ≤ MAX_NODES
+    → canonical_fault a ≡ None → IsCanonical a c → MAX_NODES < node_count c → IsNoTable results w TooManyNodes
+too_long results w a c is few none canonical long =
+    inr (refl, faultless results w a is few none, (c, subst (λ x. IsCanonical x c) (sym (array_there results w a is)) canonical, long))
 
 rows_both : (t r s : Tree) → HasRowsOf t r → HasRowsOf r s → HasRowsOf t s
 rows_both t r s first second = record {
@@ -152,15 +177,17 @@ rows_both t r s first second = record {
   rows = λ i inside. second.rows i (omega (arith, inside, first.len)) ∙ first.rows i inside;
 }
 
-pub table_made : (results : List Tree) (w : ℕ) (a c : Tree) (nodes made : List WrittenNode) → slice_get results w ≡ Some a → canonical_fault a ≡ None → IsCanonical a c
-    → IsWritten [] (unflagged c ∷ []) nodes → length nodes ≤ MAX_NODES → made ≡ nodes → IsMadeOf results w (column_of (map node_of made))
-table_made results w a c nodes made is none canonical written short kept =
-    let counted : length (map node_of written.more) ≤ MAX_NODES = omega (arith, length-map written.more node_of, ap length written.put, short) in
+pub table_made : (results : List Tree) (w : ℕ) (a c : Tree) (nodes made : List WrittenNode) → slice_get results w ≡ Some a
+    → least_count (kind_of a) ≤ MAX_NODES → canonical_fault a ≡ None → IsCanonical a c → IsWritten [] (unflagged c ∷ []) nodes
+    → node_count c ≤ MAX_NODES → made ≡ nodes → IsMadeOf results w (column_of (map node_of made))
+table_made results w a c nodes made is few none canonical written short kept =
+    let counted : length (map node_of written.more) ≤ MAX_NODES =
+    omega (arith, length-map written.more node_of, ap length written.put, written_alone c nodes written, short) in
     let read : column_of (map node_of made) ≡ Ok (unflagged c) =
     ap (λ ws. column_of (map node_of ws)) (kept ∙ written.put) ∙ tables-column (map node_of written.more) (unflagged c) written.tables counted in
     let rows : HasRowsOf (array_at results w) (unflagged c) =
     subst (λ x. HasRowsOf x (unflagged c)) (sym (array_there results w a is)) (rows_both a c (unflagged c) canonical.same (unflagged-rows c)) in
-    (fault_there results w a is ∙ none, subst (IsReadBack (array_at results w)) (sym read) (rows, kept_plain c canonical.plain))
+    (faultless results w a is few none, subst (IsReadBack (array_at results w)) (sym read) (rows, kept_plain c canonical.plain))
 
 -- ---- the whole run
 
@@ -211,6 +238,6 @@ told_run tables steps wanted e fault is told = (e, is, told)
 
 pub ruleset step_parts = (steps_read, no_step, many_steps)
 
-pub ruleset table_parts = (no_array, not_plain, no_memory, too_long, table_made)
+pub ruleset table_parts = (no_array, many_nodes, not_plain, no_memory, too_long, table_made)
 
 pub ruleset run_parts = (columns_error, steps_error, run_error, result_error, run_made)

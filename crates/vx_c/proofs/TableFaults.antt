@@ -1,13 +1,13 @@
 -- A table, node after node from the last, and its first fault.
 use Rattle.std.proofs.Common.{ℕ, zero, suc, ◌+◌, ◌<◌, ◌≡◌, ◌≢◌, List, [], ◌∷◌, length, drop, get_or, refl, sym, ◌∙◌, ap, subst, inl, inr, arith}
-use Rattle.std.specs.Prelude.{Option, Some, None, Result, Ok, Err, option_map}
+use Rattle.std.specs.Prelude.{Option, Some, None, Result, Ok, Err}
 use Rattle.std.proofs.Math.Seq.{drop-cons}
 use Rattle.vx_base.specs.declared.errors.VortexError.TheVariants.{Memory}
 use Rattle.vx_tree.specs.Tree.{Tree}
 use Rattle.vx_c.specs.declared.faults.NodeError.{NodeError}
-use Rattle.vx_c.specs.declared.faults.NodeError.TheVariants.{NotOneArray, TooManyNodes, Refused}
+use Rattle.vx_c.specs.declared.faults.NodeError.TheVariants.{NotOneArray, Refused}
 use Rattle.vx_c.specs.declared.table.CodraskNode.{CodraskNode}
-use Rattle.vx_c.specs.Tables.{NodeFault, not_one_array, node_made, at_node, then_node, arrays_from, only, fault_in}
+use Rattle.vx_c.specs.Tables.{NodeFault, node_made, at_node, then_node, arrays_from, only, fault_in}
 use Rattle.vx_c.specs.Answers.{fault_of, IsFaultOf, IsTableFault, IsRead, with_node, told_of, IsAnswer, node_error_number}
 use Rattle.vx_c.proofs.Nodes.{memory_alone}
 

@@ -3,7 +3,7 @@ use Rattle.std.specs.Prelude.{◌≡◌, ℕ, Option, Some, None, Result, Ok, Er
 use Rattle.vx_base.specs.declared.errors.VortexError.{VortexError}
 use Rattle.vx_base.specs.declared.errors.VortexError.TheVariants.{Memory, OutOfBounds, Negative, NotUtf8, BadBuffer, BadStart, BadEnd, BadPrefix}
 use Rattle.vx_base.specs.declared.errors.VortexError.TheVariants.{ValueTooLong, FallingOffsets, PatchOutOfRange}
-use Rattle.vx_base.specs.Refusals.{Refusal, refusal_of, error_number}
+use Rattle.vx_base.specs.Refusals.{refusal_of, error_number}
 use Rattle.vx_c.specs.declared.faults.CodraskFault.{CodraskFault}
 use Rattle.vx_c.specs.declared.faults.NodeError.{NodeError}
 use Rattle.vx_c.specs.declared.faults.NodeError.TheVariants.{UnknownKind, BadValidity, MissingNodes, NotOneArray, TooManyNodes, BadMode, TooManySteps, Refused}

@@ -1,13 +1,14 @@
 -- What a run writes, and why it is refused.
-use Rattle.std.specs.Prelude.{◌≡◌, ◌<◌, ◌≤◌, ◌⊎◌, ℕ, List, length, map, take, Option, Some, None, Result, Ok, Err, IsSomeAnd, slice_get}
+use Rattle.std.specs.Prelude.{◌≡◌, ◌<◌, ◌≤◌, ◌⊎◌, ℕ, List, length, map, take, Option, Some, None, Result, Ok, Err, IsSomeAnd, slice_get, nat_lt, if◌then◌else◌}
 use Rattle.std.specs.List.{AllZip}
 use Rattle.std.specs.Option.{option_map}
 use Rattle.vx_base.specs.declared.errors.VortexError.{VortexError}
-use Rattle.vx_base.specs.declared.errors.VortexError.TheVariants.{Memory}
-use Rattle.vx_base.specs.Refusals.{Refusal, or_else, error_number}
+use Rattle.vx_base.specs.Kinds.{Kind}
+use Rattle.vx_base.specs.Refusals.{error_number}
 use Rattle.vx_tree.specs.Tree.{Tree}
 use Rattle.vx_tree.specs.Canonical.{HasRowsOf, IsCanonical, canonical_fault}
 use Rattle.vx_tree.specs.Faults.{position_fault}
+use Rattle.vx_tree.specs.Meaning.{kind_of}
 use Rattle.vx_tree.specs.Plain.{IsPlain}
 use Rattle.vx_run.specs.declared.steps.Step.{Step}
 use Rattle.vx_run.specs.Steps.{array_at, HasRun, IsStop}
@@ -20,10 +21,10 @@ use Rattle.vx_c.specs.declared.reading.TheConstants.{MAX_NODES}
 use Rattle.vx_c.specs.declared.running.TheConstants.{MAX_STEPS}
 use Rattle.vx_c.specs.declared.steps.CodraskStep.{CodraskStep}
 use Rattle.vx_c.specs.declared.table.CodraskTable.{CodraskTable}
-use Rattle.vx_c.specs.Tables.{NodeFault, too_many_steps, refused, column_of}
+use Rattle.vx_c.specs.Tables.{NodeFault, too_many_nodes, too_many_steps, refused, column_of}
 use Rattle.vx_c.specs.Answers.{IsFormFault, IsTableFault, error_place, node_error_number, node_error_place, fault_of}
 use Rattle.vx_c.specs.Steps.{IsStepOf, step_form_fault}
-use Rattle.vx_c.specs.Unflagged.{node_count}
+use Rattle.vx_c.specs.Unflagged.{least_count, node_count}
 
 -- ---- what is run
 
@@ -46,9 +47,20 @@ abbrev pub IsReadBack : Tree → Result Tree (ℕ × NodeFault) → Type 0
 IsReadBack t (Ok r) = HasRowsOf t r × IsPlain r
 IsReadBack t (Err f) = ⊥
 
--- no array stands at a position, or it cannot be made plain
-abbrev pub result_fault : List Tree → ℕ → Option Refusal
-result_fault results w = or_else (position_fault (length results) w) (canonical_fault (array_at results w))
+-- an array needs more nodes than a table may have, whatever its rows are: each plain one of its kind does
+abbrev pub kind_fault : Kind → Option NodeFault
+kind_fault k = if nat_lt MAX_NODES (least_count k) then Some too_many_nodes else None
+
+-- a fault, else a second one
+abbrev pub or_fault : Option NodeFault → Option NodeFault → Option NodeFault
+or_fault None second = second
+or_fault (Some first) second = Some first
+
+-- no array stands at a position, or those of its kind need too many nodes, or it cannot be made plain
+abbrev pub result_fault : List Tree → ℕ → Option NodeFault
+result_fault results w =
+    let array = array_at results w in
+    or_fault (option_map refused (position_fault (length results) w)) (or_fault (kind_fault (kind_of array)) (option_map refused (canonical_fault array)))
 
 -- the array at a position has no fault, and the table is read back as it
 abbrev pub IsMadeOf : List Tree → ℕ → Result Tree (ℕ × NodeFault) → Type 0
@@ -92,7 +104,7 @@ pub record IsStopped (tables : List CodraskTable) (steps : List CodraskStep) (i 
 -- the array at a position has a fault, or it has none, and its table has too many nodes
 abbrev pub IsNoTable : List Tree → ℕ → NodeError → Type 0
 IsNoTable results w e =
-    IsFormFault e (option_map refused (result_fault results w))
+    IsFormFault e (result_fault results w)
     ⊎ ((e ≡ TooManyNodes) × (result_fault results w ≡ None) × ((c : Tree) × IsCanonical (array_at results w) c × (MAX_NODES < node_count c)))
 
 -- the arrays that are asked for, up to one, are read back from their tables, and that one is refused

@@ -1,5 +1,5 @@
 -- Which column a table of nodes is, and which fault it has.
-use Rattle.std.specs.Prelude.{◌≡◌, ◌⊎◌, ◌+◌, ◌*◌, ◌^◌, ◌==◌, ℕ, suc, false, List, [], ◌∷◌, length, map, take, drop, nat_lt, nat_le, if◌then◌else◌}
+use Rattle.std.specs.Prelude.{◌+◌, ◌*◌, ◌^◌, ◌==◌, ℕ, suc, false, List, [], ◌∷◌, length, map, take, drop, nat_lt, nat_le, if◌then◌else◌}
 use Rattle.std.specs.Prelude.{Option, Some, None, Result, Ok, Err, slice_index_or}
 use Rattle.std.specs.Int.{w128, from_le_bytes, to_le_bytes}
 use Rattle.std.specs.Str.{is_utf8}
@@ -9,7 +9,7 @@ use Rattle.vx_base.specs.Kinds.{Kind, texts, binaries}
 use Rattle.vx_base.specs.Refusals.{Refusal, length_mismatch, overflow, not_utf8, or_else, first_fault}
 use Rattle.vx_tree.specs.Tree.{Tree, bools, primitive, dictionary, fixed_list, list_view, structure, Valid, non_nullable, all_valid, all_invalid, by_array}
 use Rattle.vx_tree.specs.Meaning.{tree_len, nullable, trees_from}
-use Rattle.vx_tree.specs.Faults.{length_fault, validity_fault}
+use Rattle.vx_tree.specs.Faults.{validity_fault}
 use Rattle.vx_leaves.specs.Dictionaries.{dictionary_fault}
 use Rattle.vx_leaves.specs.Spread.{whole_fault}
 use Rattle.vx_lists.specs.FixedSizeLists.{fixed_list_fault}

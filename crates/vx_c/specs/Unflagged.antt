@@ -1,5 +1,9 @@
 -- An array as a table has it: no flag is set.
-use Rattle.std.specs.Prelude.{◌+◌, ℕ, suc, false, List, [], ◌∷◌}
+use Rattle.std.specs.Prelude.{◌+◌, ◌≤◌, ℕ, suc, false, List, [], ◌∷◌}
+use Rattle.vx_base.specs.Kinds.{Kind, lists, fixed_lists, records, Kinds, no_kinds, kind}
+use Rattle.vx_tree.specs.Fitting.{AllFormed}
+use Rattle.vx_tree.specs.Meaning.{kind_of}
+use Rattle.vx_tree.specs.Plain.{IsPlain}
 use Rattle.vx_tree.specs.Tree.{Tree, bools, primitive, constant, dictionary, fixed_list, list_view, structure}
 use Rattle.vx_tree.specs.Tree.{view_array, Trees, no_trees, tree, Valid, non_nullable, all_valid, all_invalid, by_array}
 
@@ -51,3 +55,19 @@ abbrev mutual
 abbrev pub nodes_of : List Tree → ℕ
 nodes_of [] = 0
 nodes_of (t ∷ ts) = node_count t + nodes_of ts
+
+-- how many nodes the table of a plain array of a kind has at least: those of its validities come to them
+abbrev mutual
+  pub least_count : Kind → ℕ
+  least_count (lists k n) = least_count k + 3
+  least_count (fixed_lists k size n) = least_count k + 1
+  least_count (records names ks n) = least_counts ks + 1
+  least_count _ = 1
+
+  pub least_counts : Kinds → ℕ
+  least_counts no_kinds = 0
+  least_counts (kind k ks) = least_count k + least_counts ks
+
+-- so many it has
+abbrev pub IsLeastCount : Type 0
+IsLeastCount = (t : Tree) → AllFormed t → IsPlain t → least_count (kind_of t) ≤ node_count t

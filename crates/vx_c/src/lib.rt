@@ -7,7 +7,9 @@ ghost use Rattle.vx_c.specs.Tables.{table_fault};
 ghost use Rattle.vx_c.specs.Answers.{IsAnswer};
 ghost use Rattle.vx_c.specs.Runs.{IsMade, IsToldOf};
 
+mod counting;
 mod faults;
+pub mod laws;
 mod layouts;
 mod lending;
 mod reading;
@@ -55,7 +57,9 @@ pub extern "C" fn codrask_check(
 /// `made` then has the tables, in blocks of `malloc` that are the caller's: each slice that is not
 /// empty is one. Else the answer is the number of the first fault, and `fault` says where it is: of
 /// the tables, then of the steps, then of the step that is refused, then of what is asked for. It
-/// is 1 where memory was refused. `made` is then as it was.
+/// is 1 where memory was refused. `made` is then as it was. An array whose table would have more
+/// than 4096 nodes is refused before any is written, and before it is made plain where its data
+/// type needs so many.
 #[tactic(auto, using(crate::proofs::RunParts::told_run))]
 #[unsafe(no_mangle)]
 pub extern "C" fn codrask_run(

@@ -7,6 +7,7 @@ ghost use Rattle.vx_c.specs.Tables.{column_of};
 ghost use Rattle.vx_c.specs.Written.{node_of};
 ghost use Rattle.vx_c.specs.Runs.{AreColumns, AreSteps, IsMade, IsMadeOf, IsRunError, IsNoTable, AreColumnsOr, AreStepsOr, IsRanOr, AreTablesOr};
 
+use crate::counting::{left_by_array, left_by_kind};
 use crate::faults::{NodeError, RunError};
 use crate::lending::lend_tables;
 use crate::reading::{MAX_NODES, column};
@@ -111,7 +112,8 @@ fn tables_of(
     Ok(tables)
 }
 
-// The table of the array at a position, in plain layouts.
+// The table of the array at a position, in plain layouts. No node is written, and nothing made
+// plain, of an array whose nodes are too many.
 #[tactic(auto, using(crate::proofs::RunParts::table_parts))]
 fn table_of(alloc: Global, results: &[ArrayRef], position: usize) -> Result<WrittenTable, NodeError>
     ensures ok { IfOk result (λ table. IsMadeOf results.now position (column_of (map node_of table.nodes.items))) }
@@ -121,11 +123,14 @@ fn table_of(alloc: Global, results: &[ArrayRef], position: usize) -> Result<Writ
         index: position,
         len: results.len(),
     })?;
-    let plain = array.to_canonical(alloc)?;
-    let mut nodes = Vec::new(alloc);
-    write(alloc, &plain, &mut nodes)?;
-    if MAX_NODES < nodes.len() {
+    if left_by_kind(array.dtype(), MAX_NODES).is_none() {
         return Err(NodeError::TooManyNodes);
     }
+    let plain = array.to_canonical(alloc)?;
+    if left_by_array(&plain, MAX_NODES).is_none() {
+        return Err(NodeError::TooManyNodes);
+    }
+    let mut nodes = Vec::new(alloc);
+    write(alloc, &plain, &mut nodes)?;
     Ok(WrittenTable::of(alloc, nodes)?)
 }

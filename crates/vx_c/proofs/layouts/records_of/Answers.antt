@@ -1,8 +1,7 @@
 use Rattle.std.proofs.Common.{◌≡◌, ◌∙◌, length, arith}
-use Rattle.std.proofs.lemmas.Iterator.{YieldsList}
 use Rattle.std.proofs.lemmas.Iterator.Adapters.{YieldsList-from_vec}
 use Rattle.std.proofs.lemmas.Result.{err_from_is_err_and}
-use Rattle.std.specs.Vec.Iter.{into_iter_len, into_iter_steps}
+use Rattle.std.specs.Vec.Iter.{into_iter_len}
 use Rattle.vx_lists.specs.Structs.Faults.{struct_fault}
 use Rattle.vx_lists.specs.Structs.{records_by}
 use Rattle.vx_tree.specs.Parts.{valid_of}
