@@ -68,6 +68,6 @@ abbrev mutual
   least_counts no_kinds = 0
   least_counts (kind k ks) = least_count k + least_counts ks
 
--- so many it has
+-- the table of a plain array, well formed at every depth, has no fewer nodes than the least of its kind
 abbrev pub IsLeastCount : Type 0
 IsLeastCount = (t : Tree) → AllFormed t → IsPlain t → least_count (kind_of t) ≤ node_count t

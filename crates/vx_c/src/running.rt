@@ -112,8 +112,8 @@ fn tables_of(
     Ok(tables)
 }
 
-// The table of the array at a position, in plain layouts. No node is written, and nothing made
-// plain, of an array whose nodes are too many.
+// The table of the array at a position, in plain layouts. Its nodes are counted before any is
+// written, and those that its data type needs before it is made plain.
 #[tactic(auto, using(crate::proofs::RunParts::table_parts))]
 fn table_of(alloc: Global, results: &[ArrayRef], position: usize) -> Result<WrittenTable, NodeError>
     ensures ok { IfOk result (λ table. IsMadeOf results.now position (column_of (map node_of table.nodes.items))) }
