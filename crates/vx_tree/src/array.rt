@@ -212,15 +212,15 @@ impl ArrayRef {
         Ok(ArrayRef { node })
     }
 
-    // What is always true of it, at every depth. It does nothing.
-    pub(crate) fn known(&self)
+    /// What is always true of it, at every depth. It does nothing. For the crates above.
+    pub fn known(&self)
         ensures { AllFormed self.now }
     {
         let _ = &self.node;
     }
 
-    // That its length is one that a machine word holds. It does nothing.
-    pub(crate) fn known_len(&self)
+    /// That its length is one that a machine word holds. It does nothing. For the crates above.
+    pub fn known_len(&self)
         ensures { tree_len self.now < 2 ^ 64 }
     {
         let _len = self.len();

@@ -18,7 +18,7 @@ mod rows;
 
 use crate::array::{ArrayRef, Layout, Validity};
 use crate::indices::masked::number_indices;
-pub(crate) use crate::indices::rows::Indices;
+pub use crate::indices::rows::Indices;
 use std::alloc::Global;
 use vx_base::{Mask, MaskRows, NativePType, PType, VortexError, call_native, int_at};
 
@@ -56,13 +56,9 @@ impl ArrayRef {
         }
     }
 
-    // The positions that codes of `len` values name, any of them for a null code. Asks that each
-    // code names a value.
-    pub(crate) fn code_positions(
-        &self,
-        alloc: Global,
-        len: usize,
-    ) -> Result<Indices<'_>, VortexError>
+    /// The positions that codes of `len` values name, any of them for a null code. Asks that each
+    /// code names a value. For the crates above.
+    pub fn code_positions(&self, alloc: Global, len: usize) -> Result<Indices<'_>, VortexError>
         requires ints { is_integers (kind_of self.now) ≡ true }
         requires codes { (i : ℕ) → i < tree_len self.now → IsCode len (row_at self.now i) }
         ensures { Gives result (λ ps. AreIndices self.now len ps) }

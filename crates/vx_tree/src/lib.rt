@@ -33,13 +33,16 @@ mod with_validity;
 
 pub use crate::array::{ArrayRef, Layout, Validity};
 pub use crate::collect::collect_items;
+pub use crate::indices::Indices;
 pub use crate::into_array::IntoArray;
 pub use crate::laws::{
     dictionaries_keep_their_values, faults_of_worked_arrays, fewer_rows_are_countable,
     rows_fit_their_dtype, rows_fit_their_kind, rows_of_worked_arrays,
     selections_of_selections_are_selections, slices_of_slices_are_slices, worked_arrays_are_formed,
 };
+pub use crate::layouts::constant::scalar_validity;
+pub use crate::layouts::var_bin_view::empty_views;
 pub use crate::typed_array::TypedArray;
 pub use crate::validity::{
-    and_associates, and_commutes, and_has_a_unit, and_repeats, trivial_casts_are_casts,
+    and_associates, and_commutes, and_has_a_unit, and_repeats, told_by, trivial_casts_are_casts,
 };

@@ -15,10 +15,10 @@ use std::alloc::Global;
 use vx_base::VortexError;
 
 impl ArrayRef {
-    // The same rows, null where this validity is not true. A constant becomes a dictionary, where
-    // null may stand under the validity.
+    /// The same rows, null where this validity is not true. A constant becomes a dictionary, where
+    /// null may stand under the validity. For the crates above.
     #[cycle(nulls)]
-    pub(crate) fn nulled(&self, alloc: Global, nulls: &Validity) -> Result<ArrayRef, VortexError>
+    pub fn nulled(&self, alloc: Global, nulls: &Validity) -> Result<ArrayRef, VortexError>
         requires fits { ValidFits (valid_of nulls.now) (tree_len self.now) }
         ensures by_row { Gives result (IsNulled self.now (valid_of nulls.now)) }
         ensures one_value { is_constant self.now ≡ true → IfOk result HasOneValue }

@@ -48,9 +48,9 @@ impl ArrayRef {
         }
     }
 
-    // The rows that are picked, which can be counted at each depth.
+    /// The rows that are picked, which can be counted at each depth. For the crates above.
     #[cycle(select)]
-    pub(crate) fn select_within(
+    pub fn select_within(
         &self,
         alloc: Global,
         selection: &Selection,

@@ -170,10 +170,10 @@ impl Validity {
         }
     }
 
-    // The validity of the rows that are picked.
+    /// The validity of the rows that are picked. For the crates above.
     #[cycle(select)]
     #[tactic(auto, using(crate::proofs::Selected::booleans_can_be_selected))]
-    pub(crate) fn select_within(
+    pub fn select_within(
         &self,
         alloc: Global,
         selection: &Selection,
@@ -214,9 +214,9 @@ impl Validity {
         }
     }
 
-    // In the state of nulls of this, nowhere true, for `len` rows. Asks that the nulls are nowhere
-    // true.
-    pub(crate) fn nulls(
+    /// In the state of nulls of this, nowhere true, for `len` rows. Asks that the nulls are nowhere
+    /// true. For the crates above.
+    pub fn nulls(
         &self,
         alloc: Global,
         len: usize,
@@ -235,8 +235,8 @@ impl Validity {
     }
 }
 
-// Valid where the bit is set.
-pub(crate) fn told_by(alloc: Global, bits: BitBuffer) -> Result<Validity, VortexError>
+/// Valid where the bit is set. For the crates above.
+pub fn told_by(alloc: Global, bits: BitBuffer) -> Result<Validity, VortexError>
     ensures { Gives result (λ v. valid_of v ≡ by_array (bools bits.bits non_nullable)) }
 {
     let array = ArrayRef::bools(alloc, bits, Validity::NonNullable)?;

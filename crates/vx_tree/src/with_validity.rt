@@ -17,9 +17,9 @@ use std::alloc::Global;
 use vx_base::{Selection, VortexError};
 
 impl ArrayRef {
-    // The same parts under another validity; a constant and a dictionary have none and stay as
-    // they are. Asks that the parts are well formed under it.
-    fn with_validity(&self, alloc: Global, validity: Validity) -> Result<ArrayRef, VortexError>
+    /// The same parts under another validity; a constant and a dictionary have none and stay as
+    /// they are. Asks that the parts are well formed under it. For the crates above.
+    pub fn with_validity(&self, alloc: Global, validity: Validity) -> Result<ArrayRef, VortexError>
         requires { WellFormed (under_validity self.now (valid_of validity)) }
         ensures { Gives result (λ a. a ≡ under_validity self.now (valid_of validity)) }
     {

@@ -6,10 +6,10 @@ ghost use Rattle.vx_base.specs.Integers.{numbers};
 use std::marker::Model;
 use vx_base::{PType, Selection};
 
-// The positions that indices name, where they lie: numbers, of which those of null rows may be any
-// positions, one position, where the rows are all one or null, else a list.
+/// The positions that indices name, where they lie: numbers, of which those of null rows may be any
+/// positions, one position, where the rows are all one or null, else a list. For the crates above.
 #[derive(Drop)]
-pub(crate) struct Indices<'a> {
+pub struct Indices<'a> {
     form: Form<'a>,
 }
 
@@ -68,8 +68,8 @@ impl<'a> Indices<'a> {
         }
     }
 
-    // The rows at the positions.
-    pub(crate) fn selection(&self) -> Selection<'_>
+    /// The rows at the positions. For the crates above.
+    pub fn selection(&self) -> Selection<'_>
         ensures { result ≡ self.now }
     {
         let positions = match &self.form {

@@ -235,8 +235,8 @@ fn null_rows(alloc: Global, dtype: &DType, len: usize) -> Result<ArrayRef, Vorte
     Ok(ArrayRef::blank(alloc, dtype, len, Validity::AllInvalid)?)
 }
 
-// The validity of rows that are all this one.
-pub(crate) fn scalar_validity(scalar: &Scalar) -> Validity
+/// The validity of rows that are all this one. For the crates above.
+pub fn scalar_validity(scalar: &Scalar) -> Validity
     ensures state { state_of (valid_of result) ≡ row_state scalar.now.kind scalar.now.row }
     ensures fits { (n : ℕ) → ValidFits (valid_of result) n }
     ensures bits { (i : ℕ) → is_valid_at (valid_of result) i ≡ is_present scalar.now.row }

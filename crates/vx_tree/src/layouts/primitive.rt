@@ -149,8 +149,8 @@ impl ArrayRef {
         }
     }
 
-    // Counts that are all 0.
-    pub(crate) fn zeroes(alloc: Global, ptype: PType, len: usize) -> Result<ArrayRef, VortexError>
+    /// Counts that are all 0. For the crates above.
+    pub fn zeroes(alloc: Global, ptype: PType, len: usize) -> Result<ArrayRef, VortexError>
         ensures { Gives result (IsZeroes ptype len) }
     {
         let bytes = zero_numbers(alloc, ptype, len)?;

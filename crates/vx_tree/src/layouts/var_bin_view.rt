@@ -321,8 +321,8 @@ pub(crate) fn views_over(
     ArrayRef::var_bin_view(alloc, views, buffers, dtype, validity)
 }
 
-// Empty texts or byte lists, over the buffers, which are shared.
-fn empty_views(
+/// Empty texts or byte lists, over the buffers, which are shared. For the crates above.
+pub fn empty_views(
     alloc: Global,
     len: usize,
     buffers: &[ByteBuffer],

@@ -108,8 +108,8 @@ impl Validity {
         }
     }
 
-    // No row is null, and null may stand where this says so.
-    pub(crate) fn full(nullability: Nullability) -> Validity
+    /// No row is null, and null may stand where this says so. For the crates above.
+    pub fn full(nullability: Nullability) -> Validity
         ensures { valid_of result ≡ full_valid (is_nullable nullability) }
     {
         match nullability {
