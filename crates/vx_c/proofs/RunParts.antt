@@ -10,7 +10,7 @@ use Rattle.vx_base.specs.declared.errors.VortexError.{VortexError}
 use Rattle.vx_base.specs.declared.errors.VortexError.TheVariants.{Memory, OutOfBounds}
 use Rattle.vx_base.specs.Refusals.{out_of_bounds, IsMemoryOr}
 use Rattle.vx_tree.specs.Tree.{Tree, bools, non_nullable}
-use Rattle.vx_tree.specs.Canonical.{HasRowsOf, IsCanonical, canonical_fault}
+use Rattle.vx_canonical.specs.Canonical.{HasRowsOf, IsCanonical, canonical_fault}
 use Rattle.vx_tree.specs.Faults.{position_fault}
 use Rattle.vx_tree.specs.Meaning.{kind_of}
 use Rattle.vx_run.specs.declared.steps.Step.{Step}

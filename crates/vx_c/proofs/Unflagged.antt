@@ -9,7 +9,7 @@ use Rattle.vx_views.specs.Views.{view_value}
 use Rattle.vx_tree.specs.Tree.{Tree, bools, primitive, constant, dictionary, fixed_list, list_view, structure, view_array, Trees, no_trees, tree}
 use Rattle.vx_tree.specs.Tree.{Valid, non_nullable, all_valid, all_invalid, by_array}
 use Rattle.vx_tree.specs.Meaning.{tree_len, kind_of, kinds_of, row_at, fields_at, is_valid_at, nullable, picked, rows_range, is_texts, value_row, trees_from}
-use Rattle.vx_tree.specs.Canonical.{HasRowsOf}
+use Rattle.vx_canonical.specs.Canonical.{HasRowsOf}
 use Rattle.vx_tree.specs.Plain.{IsPlain, ArePlain, IsPlainValid}
 use Rattle.vx_c.specs.Unflagged.{unflagged, unflagged_trees, unflagged_valid, node_count, trees_count, valid_count, nodes_of}
 

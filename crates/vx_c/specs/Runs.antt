@@ -6,7 +6,7 @@ use Rattle.vx_base.specs.declared.errors.VortexError.{VortexError}
 use Rattle.vx_base.specs.Kinds.{Kind}
 use Rattle.vx_base.specs.Refusals.{error_number}
 use Rattle.vx_tree.specs.Tree.{Tree}
-use Rattle.vx_tree.specs.Canonical.{HasRowsOf, IsCanonical, canonical_fault}
+use Rattle.vx_canonical.specs.Canonical.{HasRowsOf, IsCanonical, canonical_fault}
 use Rattle.vx_tree.specs.Faults.{position_fault}
 use Rattle.vx_tree.specs.Meaning.{kind_of}
 use Rattle.vx_tree.specs.Plain.{IsPlain}

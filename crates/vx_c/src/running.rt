@@ -17,6 +17,7 @@ use crate::writing::write;
 use crate::written::WrittenTable;
 use std::alloc::Global;
 use vx_base::VortexError;
+use vx_canonical::ToCanonical;
 use vx_run::{Step, run};
 use vx_tree::ArrayRef;
 

@@ -4,6 +4,7 @@ use super::columns::zeros;
 use std::alloc::Global;
 use std::test::Fail;
 use vx_base::{DType, Nullability, PType, Scalar, VortexError};
+use vx_canonical::Concatenate;
 use vx_leaves::DictArray;
 use vx_test_help::{bools, has_numbers, ints};
 use vx_tree::{ArrayRef, TypedArray, Validity};

@@ -7,6 +7,7 @@ use crate::random::{Random, Share, bits_by_turns};
 use crate::scale::Scale;
 use std::alloc::Global;
 use vx_base::{BitBuffer, Buffer, Mask};
+use vx_canonical::ToCanonical;
 use vx_leaves::PrimitiveArray;
 use vx_lists::{StructArray, StructArrayExt};
 use vx_tree::{ArrayRef, TypedArray, Validity};

@@ -11,7 +11,7 @@ use Rattle.vx_base.specs.Fields.{place_of_name}
 use Rattle.vx_tree.specs.Tree.{Tree, structure, Trees, no_trees, tree, Valid, non_nullable, by_array}
 use Rattle.vx_tree.specs.Meaning.{tree_len, kind_of, rows, trees_from}
 use Rattle.vx_tree.specs.Extents.{extent_of, joined_extent}
-use Rattle.vx_tree.specs.Joined.{column_of, joined_state}
+use Rattle.vx_canonical.specs.Joined.{column_of, joined_state}
 use Rattle.vx_tree.specs.Operations.{IsNulled}
 use Rattle.vx_tree.specs.Plain.{IsPlain}
 use Rattle.vx_tree.specs.Shapes.{state_of, tree_state}

@@ -4,6 +4,7 @@ use crate::rows::has_rows;
 use crate::samples::{bools, ints, samples, some_ints};
 use std::alloc::Global;
 use vx_base::{BitBuffer, Mask, Selection, VortexError};
+use vx_canonical::{Concatenate, ToCanonical};
 use vx_memory_help::{Compare, End, are_alike, deep, judged};
 use vx_tree::ArrayRef;
 

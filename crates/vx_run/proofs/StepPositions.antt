@@ -4,7 +4,7 @@ use Rattle.std.proofs.lemmas.List.{at_drop_more}
 use Rattle.vx_base.specs.declared.errors.VortexError.{VortexError}
 use Rattle.vx_base.specs.Refusals.{Names, IsMemoryOr}
 use Rattle.vx_tree.specs.Faults.{position_fault}
-use Rattle.vx_tree.proofs.JoinedParts.{first_named}
+use Rattle.vx_canonical.proofs.JoinedParts.{first_named}
 use Rattle.vx_run.specs.Steps.{positions_fault}
 
 -- the first position at which nothing stands, where something stands at those before

@@ -11,10 +11,10 @@ use Rattle.vx_base.specs.Refusals.{not_implemented}
 use Rattle.vx_base.specs.Rows.{Row, truth_of}
 use Rattle.vx_tree.specs.Tree.{Tree, bools, primitive, constant, dictionary, fixed_list, list_view, structure, view_array, by_array}
 use Rattle.vx_tree.specs.Meaning.{tree_len, kind_of, row_at, rows, nullable, valid_mask}
-use Rattle.vx_tree.specs.Canonical.{IsCanonical}
-use Rattle.vx_tree.specs.Concatenated.{concat_fault}
+use Rattle.vx_canonical.specs.Canonical.{IsCanonical}
+use Rattle.vx_canonical.specs.Concatenated.{concat_fault}
 use Rattle.vx_tree.specs.Flags.{is_flagged}
-use Rattle.vx_tree.specs.Joined.{joined_state}
+use Rattle.vx_canonical.specs.Joined.{joined_state}
 use Rattle.vx_tree.specs.Layouts.{is_constant, is_list_view, is_primitive}
 use Rattle.vx_tree.specs.OneValue.{HasOneValue}
 use Rattle.vx_tree.specs.Operations.{picks, positions, filtered, masked, truths}

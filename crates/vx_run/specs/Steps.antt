@@ -10,11 +10,11 @@ use Rattle.vx_base.specs.Refusals.{Refusal, mismatched_types, IsMemoryOr, or_els
 use Rattle.vx_base.specs.Rows.{Row}
 use Rattle.vx_tree.specs.Tree.{Tree, bools, non_nullable, by_array}
 use Rattle.vx_tree.specs.Meaning.{tree_len, kind_of, rows}
-use Rattle.vx_tree.specs.Canonical.{IsCanonical, canonical_fault}
-use Rattle.vx_tree.specs.Concatenated.{concat_fault}
+use Rattle.vx_canonical.specs.Canonical.{IsCanonical, canonical_fault}
+use Rattle.vx_canonical.specs.Concatenated.{concat_fault}
 use Rattle.vx_tree.specs.Faults.{position_fault, length_fault, valid_type_fault, validity_fault, slice_fault, take_fault}
 use Rattle.vx_tree.specs.Flags.{is_flagged}
-use Rattle.vx_tree.specs.Joined.{joined_state}
+use Rattle.vx_canonical.specs.Joined.{joined_state}
 use Rattle.vx_tree.specs.Layouts.{is_constant, is_list_view, is_primitive}
 use Rattle.vx_tree.specs.OneValue.{HasOneValue}
 use Rattle.vx_tree.specs.Operations.{picks, positions, filtered, masked, truths}

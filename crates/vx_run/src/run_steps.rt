@@ -11,6 +11,7 @@ use crate::record_steps::{projected, pushed, with_column, without_column};
 use crate::steps::Step;
 use std::alloc::Global;
 use vx_base::{Mask, VortexError};
+use vx_canonical::{Concatenate, ToCanonical};
 use vx_leaves::{PrimitiveArray, PrimitiveArrayExt};
 use vx_lists::{ListViewArray, ListViewRebuildMode};
 use vx_tree::{ArrayRef, TypedArray, Validity};

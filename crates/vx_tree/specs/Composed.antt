@@ -1,11 +1,8 @@
--- Slices of slices, selections of selections, concatenations of concatenations, and what becomes of a dictionary's values.
-use Rattle.std.specs.Prelude.{◌≡◌, ◌≤◌, ◌+◌, ℕ, true, List, ◌∷◌, ◌++◌, length, map, None, slice_index}
-use Rattle.vx_base.specs.Kinds.{Kind}
+-- Slices of slices, selections of selections, and what becomes of a dictionary's values.
+use Rattle.std.specs.Prelude.{◌≡◌, ◌≤◌, ◌+◌, ℕ, true, List, length, map, slice_index}
 use Rattle.vx_tree.specs.Tree.{Tree}
 use Rattle.vx_tree.specs.Layouts.{is_dictionary, values_in}
 use Rattle.vx_tree.specs.Shapes.{Shape, shape_of}
-use Rattle.vx_tree.specs.Extents.{Extent, joined_extent}
-use Rattle.vx_tree.specs.Concatenated.{IsConcatenated, concat_fault}
 use Rattle.vx_tree.specs.Operations.{IsSlice, IsSelected, AreBelow}
 
 -- rows of a slice are a slice
@@ -17,15 +14,6 @@ SlicesCompose = (t r s : Tree) (start n from m : ℕ) → IsSlice t start n r �
 abbrev pub SelectionsCompose : Type 0
 SelectionsCompose = (t r s : Tree) (ps qs : List ℕ) → IsSelected t ps r → IsSelected r qs s → AreBelow (length ps) qs
     → IsSelected t (map (slice_index ps) qs) s
-
--- arrays concatenated in two steps are refused as all of them at once
-abbrev pub ConcatsCompose : Type 0
-ConcatsCompose = (ts us : List Tree) (r : Tree) → concat_fault ts ≡ None → IsConcatenated ts r
-    → concat_fault (r ∷ us) ≡ concat_fault (ts ++ us)
-
--- and count as they do
-abbrev pub ExtentsCompose : Type 0
-ExtentsCompose = (k : Kind) (xs ys : List Extent) → joined_extent k (joined_extent k xs ∷ ys) ≡ joined_extent k (xs ++ ys)
 
 -- a dictionary whose shape becomes another is a dictionary of the same values
 abbrev pub KeepsValues : (Shape → Shape) → Type 0

@@ -8,8 +8,6 @@ pub mod Parts
 pub mod Plain
 pub mod RowParts
 pub mod Extents
-pub mod Canonical
-pub mod PlainValues
 pub mod Layouts
 pub mod Falls
 pub mod Faults
@@ -20,9 +18,6 @@ pub mod Validities
 pub mod Patches
 pub mod Joins
 pub mod Becomes
-pub mod Joined
-pub mod JoinedNumbers
-pub mod Concatenated
 pub mod Columns
 pub mod DefaultRows
 pub mod Composed
@@ -30,4 +25,3 @@ pub mod Fitting
 pub mod Worked
 pub mod Values
 pub mod Slots
-pub mod PlainTests

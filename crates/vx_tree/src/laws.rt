@@ -7,7 +7,7 @@ ghost use Rattle.vx_tree.specs.Fitting.{AllFormed, RowsFit};
 ghost use Rattle.vx_tree.specs.Faults.{slice_fault, take_fault, take_overflow};
 ghost use Rattle.vx_tree.specs.Meaning.{tree_len, kind_of, row_at, rows};
 ghost use Rattle.vx_tree.specs.Operations.{picks};
-ghost use Rattle.vx_tree.specs.Composed.{SlicesCompose, SelectionsCompose, ConcatsCompose, ExtentsCompose, KeepsValues};
+ghost use Rattle.vx_tree.specs.Composed.{SlicesCompose, SelectionsCompose, KeepsValues};
 ghost use Rattle.vx_tree.specs.Shapes.{State, sliced_shape, selected_shape, nulled_shape, taken_shape};
 ghost use Rattle.vx_tree.specs.Worked.{signed_numbers, signed_rows, some_booleans, some_boolean_rows, all_null};
 ghost use Rattle.vx_tree.specs.Worked.{all_null_rows, same_pair, same_pair_rows, dictionary_with_nulls};
@@ -49,13 +49,6 @@ pub fn slices_of_slices_are_slices()
 /// Rows that are picked of picked rows are the rows at the positions that are picked.
 pub fn selections_of_selections_are_selections()
     ensures { SelectionsCompose }
-{}
-
-/// Of arrays that are joined in two steps: where the first step is not refused, the second one is
-/// just where all arrays joined at once are, and gives as many elements and buffers as they have.
-pub fn concats_of_concats_are_concats()
-    ensures refused { ConcatsCompose }
-    ensures extents { ExtentsCompose }
 {}
 
 /// A dictionary that is sliced, filtered, masked or taken from is a dictionary of the same values.

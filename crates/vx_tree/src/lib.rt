@@ -2,19 +2,12 @@
 #![tactic(auto)]
 
 mod array;
-mod canonical_nested;
-mod canonical_values;
-mod canonical_zeroes;
 mod collect;
-mod concat;
 mod default_rows;
 mod execute_scalar;
 mod filter;
 mod indices;
 mod into_array;
-mod is_plain;
-mod join;
-mod kept_parts;
 pub mod laws;
 mod layouts;
 mod mask;
@@ -26,7 +19,6 @@ mod slice;
 mod slots;
 mod take;
 mod take_runs;
-mod to_canonical;
 mod typed_array;
 mod validity;
 mod with_validity;

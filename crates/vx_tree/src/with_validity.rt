@@ -2,19 +2,17 @@
 
 ghost use Rattle.std.specs.Prelude.{◌≡◌, true};
 ghost use Rattle.vx_base.specs.Refusals.{Gives};
-ghost use Rattle.vx_tree.specs.Layouts.{is_leaf};
 ghost use Rattle.vx_tree.specs.Meaning.{tree_len};
 ghost use Rattle.vx_tree.specs.Formed.{ValidFits, WellFormed};
 ghost use Rattle.vx_tree.specs.Parts.{valid_of};
 ghost use Rattle.vx_tree.specs.Slots.{keeps_parts, under_validity, validity_of};
-ghost use Rattle.vx_tree.specs.Canonical.{IsCanonical, IsCanonicalAt};
-ghost use Rattle.vx_tree.specs.Operations.{AreBelow, IsNulled};
+ghost use Rattle.vx_tree.specs.Operations.{IsNulled};
 
 use crate::array::{ArrayRef, Layout, Validity};
 use crate::layouts::structure::share_columns;
 use crate::layouts::var_bin_view::views_over;
 use std::alloc::Global;
-use vx_base::{Selection, VortexError};
+use vx_base::VortexError;
 
 impl ArrayRef {
     /// The same parts under another validity; a constant and a dictionary have none and stay as
@@ -85,37 +83,5 @@ impl ArrayRef {
         self.known();
         let validity = own.nulled(alloc, nulls, self.len())?;
         self.with_validity(alloc, validity)
-    }
-
-    // Booleans, numbers, texts or byte lists in plain layout: the same parts, under a plain
-    // validity.
-    #[tactic(auto, using(crate::proofs::UnderValidity::leaves))]
-    pub(crate) fn canonical_leaf(&self, alloc: Global) -> Result<ArrayRef, VortexError>
-        requires { is_leaf self.now ≡ true }
-        ensures { Gives result (IsCanonical self.now) }
-    {
-        match self.layout() {
-            Layout::Bool { validity, .. }
-            | Layout::Primitive { validity, .. }
-            | Layout::VarBinView { validity, .. } => {
-                let validity = validity.canonical(alloc, self.len())?;
-                self.with_validity(alloc, validity)
-            }
-            _ => unreachable!(),
-        }
-    }
-
-    // The same of the rows that are picked.
-    pub(crate) fn canonical_leaf_at(
-        &self,
-        alloc: Global,
-        selection: &Selection,
-    ) -> Result<ArrayRef, VortexError>
-        requires leaf { is_leaf self.now ≡ true }
-        requires within { AreBelow (tree_len self.now) selection.now }
-        ensures { Gives result (IsCanonicalAt self.now selection.now) }
-    {
-        let picked = self.select_within(alloc, selection)?;
-        picked.canonical_leaf(alloc)
     }
 }

@@ -8,6 +8,7 @@ use std::alloc::Global;
 use std::process::Abort;
 use std::rc::Rc;
 use vx_base::{BitBuffer, DType, Mask, Nullability, PType, ScalarValue, VortexError};
+use vx_canonical::{Concatenate, ToCanonical};
 use vx_tree::{ArrayRef, Layout};
 
 mod layouts;

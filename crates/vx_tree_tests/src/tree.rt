@@ -8,7 +8,8 @@ ghost use Rattle.vx_tree.specs.Tree.{bools, primitive, non_nullable, by_array};
 use std::alloc::Global;
 use std::process::Abort;
 use vx_base::{BitBuffer, ByteBuffer, DType, Nullability, PType, Scalar, Selection, VortexError};
-use vx_tree::laws::concats_of_concats_are_concats;
+use vx_canonical::ToCanonical;
+use vx_canonical::laws::concats_of_concats_are_concats;
 use vx_tree::{
     ArrayRef, Layout, Validity, dictionaries_keep_their_values, faults_of_worked_arrays,
     rows_fit_their_dtype, rows_fit_their_kind, rows_of_worked_arrays,

@@ -8,8 +8,8 @@ use Rattle.vx_base.specs.Refusals.{Refuses, or_else}
 use Rattle.vx_tree.specs.Tree.{Tree}
 use Rattle.vx_tree.specs.Meaning.{kind_of, rows}
 use Rattle.vx_tree.specs.Extents.{extent_of, joined_extent}
-use Rattle.vx_tree.specs.Concatenated.{concat_fault, IsConcatenated}
-use Rattle.vx_tree.specs.Composed.{ConcatsCompose, ExtentsCompose}
+use Rattle.vx_canonical.specs.Concatenated.{concat_fault, IsConcatenated}
+use Rattle.vx_canonical.specs.Composed.{ConcatsCompose, ExtentsCompose}
 use Rattle.vx_uses.proofs.TwoFaults.{refuses_after}
 
 -- d is u, appended to what came of ts

@@ -3,7 +3,7 @@ use Rattle.std.specs.Prelude.{ℕ, List, [], ◌∷◌, Option, Some, None}
 use Rattle.std.specs.List.{filter_map}
 use Rattle.vx_base.specs.Refusals.{Refusal, unknown_field}
 use Rattle.vx_base.specs.Rows.{Row}
-use Rattle.vx_tree.specs.Concatenated.{concat_fault}
+use Rattle.vx_canonical.specs.Concatenated.{concat_fault}
 use Rattle.vx_tree.specs.Meaning.{rows}
 use Rattle.vx_tree.specs.Tree.{Tree}
 use Rattle.vx_lists.specs.Structs.{column_named, with_columns}

@@ -3,14 +3,15 @@
 ghost use Rattle.std.specs.Prelude.{◌≡◌, ◌++◌, ◌∷◌, [], map, IfOk};
 ghost use Rattle.std.specs.List.{flat_map};
 ghost use Rattle.vx_base.specs.Refusals.{Refuses, or_else};
-ghost use Rattle.vx_tree.specs.Concatenated.{concat_fault};
+ghost use Rattle.vx_canonical.specs.Concatenated.{concat_fault};
 ghost use Rattle.vx_tree.specs.Extents.{extent_of, joined_extent};
 ghost use Rattle.vx_tree.specs.Meaning.{kind_of, rows};
 
 use std::alloc::Global;
 use vx_base::VortexError;
+use vx_canonical::Concatenate;
+use vx_canonical::laws::concats_of_concats_are_concats;
 use vx_tree::ArrayRef;
-use vx_tree::laws::concats_of_concats_are_concats;
 
 /// The rows of arrays and then of one that comes later, as a writer appends a batch to what it has
 /// joined before: `[1, 2]`, `[3]` and then `[4]` are `[1, 2, 3, 4]`.

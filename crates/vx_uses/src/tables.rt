@@ -3,7 +3,7 @@
 ghost use Rattle.std.specs.Prelude.{◌≡◌, ◌++◌, ◌∷◌, [], Some, IfOk};
 ghost use Rattle.std.specs.Option.{option_map};
 ghost use Rattle.vx_base.specs.Refusals.{Refuses, or_else};
-ghost use Rattle.vx_tree.specs.Concatenated.{concat_fault};
+ghost use Rattle.vx_canonical.specs.Concatenated.{concat_fault};
 ghost use Rattle.vx_tree.specs.Meaning.{kind_of, rows};
 ghost use Rattle.vx_lists.specs.Structs.Faults.{names_fault};
 ghost use Rattle.vx_lists.specs.Structs.Records.{projected, projected_kind};
@@ -12,6 +12,7 @@ ghost use Rattle.vx_uses.specs.Tables.{chosen, join_fault, rows_named};
 
 use std::alloc::Global;
 use vx_base::{FieldName, VortexError};
+use vx_canonical::Concatenate;
 use vx_lists::{StructArray, StructArrayExt};
 use vx_tree::{ArrayRef, TypedArray};
 

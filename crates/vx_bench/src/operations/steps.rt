@@ -6,6 +6,7 @@ use crate::made::Made;
 use crate::operation::Operation;
 use std::alloc::Global;
 use vx_base::Mask;
+use vx_canonical::{Concatenate, ToCanonical};
 use vx_leaves::{PrimitiveArray, PrimitiveArrayExt};
 use vx_run::{Step, run};
 use vx_tree::{ArrayRef, TypedArray, Validity};

@@ -10,6 +10,7 @@ use crate::made::Made;
 use crate::operation::Operation;
 use std::alloc::Global;
 use vx_base::{BitBuffer, Mask, VortexError};
+use vx_canonical::{Concatenate, ToCanonical};
 use vx_tree::{ArrayRef, TypedArray};
 
 const LISTS: ListShape = ListShape {

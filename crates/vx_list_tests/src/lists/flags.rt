@@ -3,6 +3,7 @@
 use super::view;
 use std::alloc::Global;
 use vx_base::{Mask, VortexError};
+use vx_canonical::ToCanonical;
 use vx_leaves::{DictArray, DictArrayExt, DictOwnedExt};
 use vx_lists::ListViewArrayExt;
 use vx_test_help::{bools, ints};

@@ -7,20 +7,20 @@ use Rattle.vx_base.specs.Booleans.{count_fault}
 use Rattle.vx_base.specs.Fields.{kind_count}
 use Rattle.vx_base.specs.Kinds.{Kind, records, Kinds, is_nullable_kind}
 use Rattle.vx_base.specs.Rows.{null, record_of}
-use Rattle.vx_tree.specs.Canonical.{IsCanonical}
-use Rattle.vx_tree.specs.Concatenated.{are_alike, plain_fault}
+use Rattle.vx_canonical.specs.Canonical.{IsCanonical}
+use Rattle.vx_canonical.specs.Concatenated.{are_alike, plain_fault}
 use Rattle.vx_tree.specs.Extents.{joined_extent}
 use Rattle.vx_tree.specs.Formed.{WellFormed}
-use Rattle.vx_tree.specs.Joined.{joined_len, joined_row, columns_in, column_at, column_of, IsJoined, IsValidJoined, AreRecords, AreColumnsJoined}
+use Rattle.vx_canonical.specs.Joined.{joined_len, joined_row, columns_in, column_at, column_of, IsJoined, IsValidJoined, AreRecords, AreColumnsJoined}
 use Rattle.vx_tree.specs.Layouts.{is_struct}
 use Rattle.vx_tree.specs.Meaning.{tree_len, kind_of, kinds_of, trees_from, row_at, rows, fields_at, is_valid_at, nullable}
 use Rattle.vx_tree.specs.Tree.{Tree, structure, Trees, Valid}
-use Rattle.vx_tree.proofs.Canonical.{rows_canonical}
-use Rattle.vx_tree.proofs.Concatenated.{alike_kinds, plain_states, extents_same, rows_joined}
-use Rattle.vx_tree.proofs.JoinedLeaves.{shown}
-use Rattle.vx_tree.proofs.JoinedParts.{columns-kinds}
-use Rattle.vx_tree.proofs.JoinedRecords.{records_joined}
-use Rattle.vx_tree.proofs.JoinedRows.{length-joined, joined_item, joined_same}
+use Rattle.vx_canonical.proofs.CanonicalArrays.{rows_canonical}
+use Rattle.vx_canonical.proofs.Concatenated.{alike_kinds, plain_states, extents_same, rows_joined}
+use Rattle.vx_canonical.proofs.JoinedLeaves.{shown}
+use Rattle.vx_canonical.proofs.JoinedParts.{columns-kinds}
+use Rattle.vx_canonical.proofs.JoinedRecords.{records_joined}
+use Rattle.vx_canonical.proofs.JoinedRows.{length-joined, joined_item, joined_same}
 use Rattle.vx_tree.proofs.RowLists.{length-rows, get_or-rows}
 use Rattle.vx_lists.specs.Structs.Concats.{IsRecords, ArePlainColumns, at_place, IsConcat, AreConcatsAt, columns_concat_fault, IsValidityOfAll}
 use Rattle.vx_lists.specs.Structs.{columns_of, AreConcatenated}

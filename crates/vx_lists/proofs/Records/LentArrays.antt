@@ -13,15 +13,15 @@ use Rattle.vx_base.specs.Kinds.{Kind}
 use Rattle.vx_base.specs.Refusals.{Refusal, refusal_of, IsMemoryOr, first_fault, differing_dtypes, overflow}
 use Rattle.vx_base.specs.SameKind.{kind_eq}
 use Rattle.vx_base.specs.declared.errors.VortexError.{VortexError}
-use Rattle.vx_tree.specs.Canonical.{IsCanonical}
-use Rattle.vx_tree.specs.Concatenated.{are_alike, concat_fault}
+use Rattle.vx_canonical.specs.Canonical.{IsCanonical}
+use Rattle.vx_canonical.specs.Concatenated.{are_alike, concat_fault}
 use Rattle.vx_tree.specs.Formed.{WellFormed}
-use Rattle.vx_tree.specs.Joined.{joined_len, column_at}
+use Rattle.vx_canonical.specs.Joined.{joined_len, column_at}
 use Rattle.vx_tree.specs.Meaning.{tree_len, kind_of, trees_from}
 use Rattle.vx_tree.specs.Tree.{Tree, structure, Valid}
-use Rattle.vx_tree.proofs.Concatenated.{alike-step}
+use Rattle.vx_canonical.proofs.Concatenated.{alike-step}
 use Rattle.vx_tree.proofs.Dictionaries.{memory_only}
-use Rattle.vx_tree.proofs.JoinedRecords.{column_of_list}
+use Rattle.vx_canonical.proofs.JoinedRecords.{column_of_list}
 use Rattle.vx_lists.specs.Structs.Concats.{arrays_of, lists_of, IsRecords, ArePlainColumns, at_place, IsConcat, AreConcatsAt, columns_concat_fault}
 use Rattle.vx_lists.specs.Structs.{columns_of}
 

@@ -10,7 +10,7 @@ use Rattle.vx_tree.specs.Tree.{Tree, Trees, no_trees, tree, structure, Valid}
 use Rattle.vx_tree.specs.Layouts.{is_struct}
 use Rattle.vx_tree.specs.Meaning.{tree_len, kind_of, kinds_of, trees_from}
 use Rattle.vx_tree.specs.Formed.{AllLen, WellFormed, column_count}
-use Rattle.vx_tree.proofs.JoinedParts.{columns-kinds}
+use Rattle.vx_canonical.proofs.JoinedParts.{columns-kinds}
 use Rattle.vx_lists.specs.Structs.{column_list, columns_of}
 
 pub column_list-from : (columns : List Tree) → column_list (trees_from columns) ≡ columns

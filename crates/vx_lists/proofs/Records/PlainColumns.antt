@@ -9,18 +9,18 @@ use Rattle.vx_base.specs.Kinds.{Kind, booleans, records, Kinds, no_kinds, kind}
 use Rattle.vx_base.specs.Refusals.{Refusal, or_else, first_fault}
 use Rattle.vx_base.specs.SameKind.{kind_eq, kind_eq-Decides}
 use Rattle.vx_base.proofs.FirstFaults.{or_else-second, first_fault-same}
-use Rattle.vx_tree.specs.Canonical.{IsCanonical, canonical_fault, columns_fault}
-use Rattle.vx_tree.specs.Concatenated.{are_alike, extents_fault, fields_extents_fault, plain_fault, concat_fault}
+use Rattle.vx_canonical.specs.Canonical.{IsCanonical, canonical_fault, columns_fault}
+use Rattle.vx_canonical.specs.Concatenated.{are_alike, extents_fault, fields_extents_fault, plain_fault, concat_fault}
 use Rattle.vx_tree.specs.Extents.{Extent, extent_of, extents_of, extent_at, column_extent}
 use Rattle.vx_tree.specs.Formed.{column_count}
-use Rattle.vx_tree.specs.Joined.{joined_len, columns_in, column_at, column_of, AreRecords}
+use Rattle.vx_canonical.specs.Joined.{joined_len, columns_in, column_at, column_of, AreRecords}
 use Rattle.vx_tree.specs.Layouts.{is_struct}
 use Rattle.vx_tree.specs.Meaning.{kind_of, kinds_of, trees_from}
 use Rattle.vx_tree.specs.Plain.{IsPlain, ArePlain}
 use Rattle.vx_tree.specs.Tree.{Tree, bools, primitive, constant, dictionary, fixed_list, list_view, structure, view_array, Trees, no_trees, tree}
-use Rattle.vx_tree.proofs.Concatenated.{given_none, plain_len}
-use Rattle.vx_tree.proofs.JoinedParts.{columns-kinds}
-use Rattle.vx_tree.proofs.JoinedRecords.{column_len}
+use Rattle.vx_canonical.proofs.Concatenated.{given_none, plain_len}
+use Rattle.vx_canonical.proofs.JoinedParts.{columns-kinds}
+use Rattle.vx_canonical.proofs.JoinedRecords.{column_len}
 use Rattle.vx_lists.specs.Structs.Concats.{ArePlainColumns, at_place, columns_concat_fault}
 use Rattle.vx_lists.specs.Structs.{column_list, columns_of}
 

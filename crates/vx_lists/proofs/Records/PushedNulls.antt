@@ -9,13 +9,13 @@ use Rattle.vx_base.specs.Kinds.{kind, records}
 use Rattle.vx_base.specs.Rows.{Row, null, record_of, Fields, field, is_present}
 use Rattle.vx_tree.specs.Faults.{validity_fault}
 use Rattle.vx_tree.specs.Formed.{WellFormed, ValidFits, IsStruct, AllLen, column_count}
-use Rattle.vx_tree.specs.Joined.{column_at, column_of}
+use Rattle.vx_canonical.specs.Joined.{column_at, column_of}
 use Rattle.vx_tree.specs.Meaning.{tree_len, kinds_of, row_at, rows, fields_at, is_valid_at, nullable, trees_from}
 use Rattle.vx_tree.specs.Operations.{IsNulled}
 use Rattle.vx_tree.specs.Shapes.{state_of}
 use Rattle.vx_tree.specs.Tree.{Tree, structure, Trees, no_trees, tree, Valid, non_nullable, all_valid, all_invalid, by_array}
 use Rattle.vx_tree.specs.Validities.{array_of, is_full_state}
-use Rattle.vx_tree.proofs.JoinedRecords.{fields-same}
+use Rattle.vx_canonical.proofs.JoinedRecords.{fields-same}
 use Rattle.vx_tree.proofs.RowLists.{rows_by_place}
 use Rattle.vx_lists.specs.ListViews.{validity_of}
 use Rattle.vx_lists.specs.Structs.Records.{null_fields, or_nulls, pushed, nullable_kinds}

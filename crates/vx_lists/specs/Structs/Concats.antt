@@ -5,12 +5,12 @@ use Rattle.std.specs.Global.{Vec}
 use Rattle.std.specs.List.{All, AllZip, flat_map}
 use Rattle.vx_base.specs.Kinds.{is_nullable_kind}
 use Rattle.vx_base.specs.Refusals.{Refusal, first_fault}
-use Rattle.vx_tree.specs.Canonical.{IsCanonical}
-use Rattle.vx_tree.specs.Concatenated.{concat_fault}
+use Rattle.vx_canonical.specs.Canonical.{IsCanonical}
+use Rattle.vx_canonical.specs.Concatenated.{concat_fault}
 use Rattle.vx_tree.specs.Extents.{extent_of, joined_extent}
 use Rattle.vx_tree.specs.Flags.{is_flagged}
 use Rattle.vx_tree.specs.Formed.{WellFormed}
-use Rattle.vx_tree.specs.Joined.{column_at, joined_state, IsValidJoined}
+use Rattle.vx_canonical.specs.Joined.{column_at, joined_state, IsValidJoined}
 use Rattle.vx_tree.specs.Meaning.{kind_of, rows, trees_from}
 use Rattle.vx_tree.specs.Plain.{IsPlain}
 use Rattle.vx_tree.specs.Shapes.{tree_state}

@@ -3,7 +3,7 @@
 ghost use Rattle.std.specs.Prelude.{◌≡◌, ◌<◌, ℕ, List, Bool, None, Some, length, if◌then◌else◌, true};
 ghost use Rattle.vx_base.specs.Fields.{place_of_name};
 ghost use Rattle.vx_base.specs.Rows.{null, is_present};
-ghost use Rattle.vx_tree.specs.Joined.{column_of};
+ghost use Rattle.vx_canonical.specs.Joined.{column_of};
 ghost use Rattle.vx_tree.specs.Formed.{WellFormed};
 ghost use Rattle.vx_tree.specs.Meaning.{tree_len, row_at};
 ghost use Rattle.vx_tree.specs.Tree.{Tree};

@@ -6,9 +6,9 @@ ghost use Rattle.std.specs.List.{All, AllZip};
 ghost use Rattle.vx_base.specs.Booleans.{count_fault};
 ghost use Rattle.vx_base.specs.DTypes.{dtype_meaning};
 ghost use Rattle.vx_base.specs.Refusals.{Gives, Refuses, Tests, differing_dtypes};
-ghost use Rattle.vx_tree.specs.Canonical.{IsCanonical, canonical_fault, columns_fault};
-ghost use Rattle.vx_tree.specs.Concatenated.{are_alike, concat_fault, plain_fault};
-ghost use Rattle.vx_tree.specs.Joined.{joined_len, ArePartsOf};
+ghost use Rattle.vx_canonical.specs.Canonical.{IsCanonical, canonical_fault, columns_fault};
+ghost use Rattle.vx_canonical.specs.Concatenated.{are_alike, concat_fault, plain_fault};
+ghost use Rattle.vx_canonical.specs.Joined.{joined_len, ArePartsOf};
 ghost use Rattle.vx_tree.specs.Meaning.{kind_of, trees_from};
 ghost use Rattle.vx_tree.specs.Parts.{valid_of};
 ghost use Rattle.vx_lists.specs.Structs.Concats.{arrays_of, lists_of, at_place, IsRecords, ArePlainColumns, AreConcatsAt};
@@ -19,6 +19,7 @@ ghost use Rattle.vx_lists.specs.Structs.{columns_of, AreConcatenated};
 use crate::structs::array::StructArray;
 use std::alloc::Global;
 use vx_base::{DType, VortexError};
+use vx_canonical::{Concatenate, ToCanonical};
 use vx_tree::{ArrayRef, TypedArray, Validity, collect_items};
 
 impl StructArray {

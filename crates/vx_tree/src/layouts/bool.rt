@@ -1,21 +1,18 @@
 // Truth values, one to a bit.
 
 ghost use Rattle.std.specs.Prelude.{◌≡◌, ◌<◌, ◌≤◌, ◌-◌, ℕ, true, false, length};
-ghost use Rattle.std.specs.List.{All, flat_map};
-ghost use Rattle.vx_base.specs.Kinds.{booleans};
 ghost use Rattle.vx_base.specs.Refusals.{Gives};
 ghost use Rattle.vx_base.specs.ValueRows.{row_under};
 ghost use Rattle.vx_tree.specs.Tree.{bools};
 ghost use Rattle.vx_tree.specs.Layouts.{is_bools};
-ghost use Rattle.vx_tree.specs.Meaning.{tree_len, kind_of, row_at, is_valid_at, nullable};
-ghost use Rattle.vx_tree.specs.Joined.{joined_len, IsJoined, IsValidJoined, bits_in};
+ghost use Rattle.vx_tree.specs.Meaning.{tree_len, kind_of, row_at, is_valid_at};
 ghost use Rattle.vx_tree.specs.Formed.{ValidFits};
 ghost use Rattle.vx_tree.specs.Parts.{valid_of};
 ghost use Rattle.vx_tree.specs.Operations.{IsSlice, IsSelected, IsNulls, AreBelow};
 
 use crate::array::{ArrayRef, Layout, Validity};
 use std::alloc::Global;
-use vx_base::{BitBuffer, BitBufferMut, ScalarValue, Selection, VortexError, gather_bits};
+use vx_base::{BitBuffer, ScalarValue, Selection, VortexError, gather_bits};
 
 impl ArrayRef {
     /// Truth values, null where the validity is false. Asks that the validity is that of as many
@@ -104,36 +101,4 @@ impl ArrayRef {
             None
         }
     }
-
-    // The rows of arrays of booleans, one array after another, under the validity of them.
-    pub(crate) fn join_bools(
-        alloc: Global,
-        arrays: &[ArrayRef],
-        len: usize,
-        validity: Validity,
-    ) -> Result<ArrayRef, VortexError>
-        requires layout { All (λ t. is_bools t ≡ true) arrays.now }
-        requires len { len ≡ joined_len arrays.now }
-        requires valid { IsValidJoined (nullable (valid_of validity)) arrays.now (valid_of validity) }
-        ensures { Gives result (IsJoined (booleans (nullable (valid_of validity))) arrays.now) }
-    {
-        let bits = joined_bits(alloc, arrays, len)?;
-        ArrayRef::bools(alloc, bits, validity)
-    }
-}
-
-// The bits of arrays of booleans, one array after another.
-fn joined_bits(alloc: Global, arrays: &[ArrayRef], len: usize) -> Result<BitBuffer, VortexError>
-    requires layout { All (λ t. is_bools t ≡ true) arrays.now }
-    requires len { len ≡ joined_len arrays.now }
-    ensures { Gives result (λ b. b.bits ≡ flat_map bits_in arrays.now) }
-{
-    let mut joined = BitBufferMut::with_capacity(alloc, len)?;
-    for array in arrays {
-        let Layout::Bool { bits, .. } = array.layout() else {
-            unreachable!();
-        };
-        joined.append_slice(bits, 0, bits.len())?;
-    }
-    joined.freeze()
 }

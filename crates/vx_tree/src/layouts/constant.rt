@@ -1,10 +1,9 @@
 // One row, however often.
 
-ghost use Rattle.std.specs.Prelude.{◌≡◌, ◌<◌, ◌≤◌, ◌-◌, ◌∷◌, [], ℕ, true, false, length, None, IfOk};
+ghost use Rattle.std.specs.Prelude.{◌≡◌, ◌<◌, ◌≤◌, ◌-◌, ℕ, true, false, length, IfOk};
 ghost use Rattle.vx_base.specs.Kinds.{is_nullable_kind};
-ghost use Rattle.vx_base.specs.DTypes.{dtype_meaning};
-ghost use Rattle.vx_base.specs.Rows.{is_present, null};
-ghost use Rattle.vx_base.specs.Refusals.{Gives, Refuses};
+ghost use Rattle.vx_base.specs.Rows.{is_present};
+ghost use Rattle.vx_base.specs.Refusals.{Gives};
 ghost use Rattle.vx_base.specs.ValueRows.{row_under};
 ghost use Rattle.vx_base.specs.Trues.{trues};
 ghost use Rattle.vx_tree.specs.Tree.{constant};
@@ -14,17 +13,12 @@ ghost use Rattle.vx_tree.specs.Meaning.{tree_len, kind_of, row_at, is_valid_at, 
 ghost use Rattle.vx_tree.specs.Shapes.{state_of, row_state};
 ghost use Rattle.vx_tree.specs.Formed.{ValidFits};
 ghost use Rattle.vx_tree.specs.Parts.{valid_of};
-ghost use Rattle.vx_tree.specs.PlainValues.{kept_fault};
-ghost use Rattle.vx_tree.specs.Canonical.{IsCanonical, IsCanonicalAt, canonical_fault, constant_fault, plain_overflow};
 ghost use Rattle.vx_tree.specs.Plain.{IsPlainValid};
 ghost use Rattle.vx_tree.specs.Operations.{IsSlice, IsSelected, IsNulled, IsNulls, AreBelow};
 
 use crate::array::{ArrayRef, Layout, Validity};
-use crate::canonical_nested::plain_values;
-use crate::canonical_zeroes::is_countable;
-use crate::kept_parts::kept_parts;
 use std::alloc::Global;
-use vx_base::{DType, Mask, Scalar, ScalarValue, Selection, VortexError};
+use vx_base::{Mask, Scalar, ScalarValue, Selection, VortexError};
 
 impl ArrayRef {
     /// The row `len` times.
@@ -119,54 +113,6 @@ impl ArrayRef {
         constant_or_null(alloc, scalar, len, nulls)
     }
 
-    // The one row in plain layout, taken as often as it stands. Rows of null are made at once, and
-    // where no row stands there is but what the one keeps.
-    #[tactic(auto, using(crate::proofs::Blanks::null_rows))]
-    pub(crate) fn canonical_constant(&self, alloc: Global) -> Result<ArrayRef, VortexError>
-        requires { is_constant self.now ≡ true }
-        ensures ok { IfOk result (IsCanonical self.now) }
-        ensures refuses { Refuses result (canonical_fault self.now) }
-    {
-        let Layout::Constant { scalar, len } = self.layout() else {
-            unreachable!();
-        };
-        let dtype = scalar.dtype();
-        if scalar.is_null() {
-            return null_rows(alloc, dtype, *len);
-        }
-        if !is_countable(dtype, *len) {
-            return Err(VortexError::Overflow);
-        }
-        if *len == 0 {
-            return no_row(alloc, scalar);
-        }
-        let row = one_row(alloc, scalar)?;
-        row.known();
-        Ok(row.select_within(alloc, &Selection::repeated(0, *len))?)
-    }
-
-    // The same, as often as rows are picked.
-    pub(crate) fn canonical_constant_at(
-        &self,
-        alloc: Global,
-        selection: &Selection,
-    ) -> Result<ArrayRef, VortexError>
-        requires layout { is_constant self.now ≡ true }
-        requires countable { plain_overflow (kind_of self.now) (length selection.now) ≡ None }
-        ensures ok { IfOk result (IsCanonicalAt self.now selection.now) }
-        ensures refuses { Refuses result (canonical_fault self.now) }
-    {
-        let Layout::Constant { scalar, len } = self.layout() else {
-            unreachable!();
-        };
-        if !is_countable(scalar.dtype(), *len) {
-            return Err(VortexError::Overflow);
-        }
-        let picked = ArrayRef::constant(alloc, scalar.try_clone(alloc)?, selection.len())?;
-        let rows = picked.canonical_constant(alloc)?;
-        Ok(rows)
-    }
-
     // The value of each row, `None` where they are null, its parts shared.
     pub(crate) fn constant_value(&self, alloc: Global) -> Result<Option<ScalarValue>, VortexError>
         requires { is_constant self.now ≡ true }
@@ -201,38 +147,6 @@ fn constant_or_null(
     let codes = ArrayRef::zero_codes(alloc, len, nulls)?;
     let values = ArrayRef::constant(alloc, scalar.try_clone(alloc)?, 1)?;
     ArrayRef::dictionary(alloc, codes, values, false)
-}
-
-// The one row in plain layout.
-fn one_row(alloc: Global, scalar: &Scalar) -> Result<ArrayRef, VortexError>
-    ensures ok { IfOk result (IsCanonical (constant scalar.now.kind scalar.now.row 1)) }
-    ensures refuses { Refuses result (constant_fault scalar.now.kind scalar.now.row 1) }
-{
-    let dtype = scalar.dtype();
-    plain_values(alloc, dtype, std::slice::from_ref(scalar.value()))
-}
-
-// No row in plain layout, with the elements and the buffers that the one row keeps.
-fn no_row(alloc: Global, scalar: &Scalar) -> Result<ArrayRef, VortexError>
-    ensures ok { IfOk result (IsCanonical (constant scalar.now.kind scalar.now.row 0)) }
-    ensures refuses { Refuses result (kept_fault scalar.now.kind (scalar.now.row ∷ [])) }
-{
-    let dtype = scalar.dtype();
-    let kept = kept_parts(alloc, dtype, std::slice::from_ref(scalar.value()))?;
-    Ok(kept.blank_like(alloc, 0, scalar_validity(scalar))?)
-}
-
-// Rows of null of a data type in plain layout.
-#[tactic(auto, using(crate::proofs::Blanks::null_rows))]
-fn null_rows(alloc: Global, dtype: &DType, len: usize) -> Result<ArrayRef, VortexError>
-    requires { is_nullable_kind (dtype_meaning dtype.now) ≡ true }
-    ensures ok { IfOk result (IsCanonical (constant (dtype_meaning dtype.now) null len)) }
-    ensures refuses { Refuses result (plain_overflow (dtype_meaning dtype.now) len) }
-{
-    if !is_countable(dtype, len) {
-        return Err(VortexError::Overflow);
-    }
-    Ok(ArrayRef::blank(alloc, dtype, len, Validity::AllInvalid)?)
 }
 
 /// The validity of rows that are all this one. For the crates above.

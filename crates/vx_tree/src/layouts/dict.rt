@@ -1,7 +1,7 @@
 // Values that codes refer to.
 
-ghost use Rattle.std.specs.Prelude.{◌≡◌, ◌<◌, ◌≤◌, ◌-◌, ℕ, true, false, length, None, IfOk, IfSome, IsSome, is_some};
-ghost use Rattle.vx_base.specs.Refusals.{Gives, Refuses};
+ghost use Rattle.std.specs.Prelude.{◌≡◌, ◌<◌, ◌≤◌, ◌-◌, ℕ, true, false, IfSome, IsSome, is_some};
+ghost use Rattle.vx_base.specs.Refusals.{Gives};
 ghost use Rattle.vx_base.specs.ValueRows.{row_under};
 ghost use Rattle.vx_base.specs.Kinds.{booleans, is_integers, is_plain_integers};
 ghost use Rattle.vx_base.specs.Rows.{is_present, position_in};
@@ -11,12 +11,9 @@ ghost use Rattle.vx_tree.specs.Meaning.{tree_len, kind_of, row_at, is_valid_at};
 ghost use Rattle.vx_tree.specs.Formed.{ValidFits, IsCode, IsDictionary};
 ghost use Rattle.vx_tree.specs.Named.{IsRepeated, IsValidNamed};
 ghost use Rattle.vx_tree.specs.Parts.{valid_of};
-ghost use Rattle.vx_tree.specs.Plain.{IsPlain};
-ghost use Rattle.vx_tree.specs.Canonical.{IsCanonical, IsCanonicalAt, canonical_fault, plain_overflow};
 ghost use Rattle.vx_tree.specs.Operations.{IsSlice, IsSelected, IsNulled, IsNulls, IsValidityOf, AreBelow};
 
 use crate::array::{ArrayRef, Layout, Validity};
-use crate::canonical_zeroes::is_countable;
 use crate::indices::to_position;
 use crate::validity::constant_truth;
 use std::alloc::Global;
@@ -123,85 +120,6 @@ impl ArrayRef {
         let codes = codes.nulls(alloc, len, nulls)?;
         let values = values.try_clone(alloc)?;
         ArrayRef::dictionary(alloc, codes, values, false)
-    }
-
-    // The canonical values, taken by the codes.
-    #[cycle(canonical)]
-    pub(crate) fn canonical_dictionary(&self, alloc: Global) -> Result<ArrayRef, VortexError>
-        requires { is_dictionary self.now ≡ true }
-        ensures ok { IfOk result (IsCanonical self.now) }
-        ensures refuses { Refuses result (canonical_fault self.now) }
-    {
-        let Layout::Dict { codes, values, .. } = self.layout() else {
-            unreachable!();
-        };
-        let named = values.canonical_named(alloc, codes)?;
-        Ok(named)
-    }
-
-    // The same of the codes that are picked.
-    #[cycle(canonical)]
-    #[tactic(auto, using(crate::proofs::Dictionaries::selected))]
-    pub(crate) fn canonical_dictionary_at(
-        &self,
-        alloc: Global,
-        selection: &Selection,
-    ) -> Result<ArrayRef, VortexError>
-        requires layout { is_dictionary self.now ≡ true }
-        requires within { AreBelow (tree_len self.now) selection.now }
-        requires countable { plain_overflow (kind_of self.now) (length selection.now) ≡ None }
-        ensures ok { IfOk result (IsCanonicalAt self.now selection.now) }
-        ensures refuses { Refuses result (canonical_fault self.now) }
-    {
-        let Layout::Dict { codes, values, .. } = self.layout() else {
-            unreachable!();
-        };
-        if !is_countable(values.dtype(), codes.len()) {
-            return Err(VortexError::Overflow);
-        }
-        let picked = codes.select_within(alloc, selection)?;
-        let named = values.canonical_named(alloc, &picked)?;
-        Ok(named)
-    }
-
-    // The values that codes name, in plain layout. Where there are more values than codes, those
-    // that no code names are not made.
-    #[cycle(canonical)]
-    fn canonical_named(&self, alloc: Global, codes: &ArrayRef) -> Result<ArrayRef, VortexError>
-        requires { IsDictionary codes.now self.now false }
-        ensures ok { IfOk result (IsCanonical (dictionary codes.now self.now false)) }
-        ensures refuses { Refuses result (canonical_fault (dictionary codes.now self.now false)) }
-    {
-        if !is_countable(self.dtype(), codes.len()) {
-            return Err(VortexError::Overflow);
-        }
-        if self.len() <= codes.len() {
-            let values = self.canonical(alloc)?;
-            return Ok(values.named_by(alloc, codes)?);
-        }
-        let nulls = codes.validity(alloc)?.canonical(alloc, codes.len())?;
-        let positions = codes.code_positions(alloc, self.len())?;
-        let picked = self.canonical_at(alloc, &positions.selection())?;
-        Ok(picked.nulled(alloc, &nulls)?)
-    }
-
-    // The values that codes name, in plain layout. Asks that the values are in plain layout, and
-    // that so many of them can be counted.
-    #[tactic(auto, using(crate::proofs::PlainKinds::plain_kinds))]
-    fn named_by(&self, alloc: Global, codes: &ArrayRef) -> Result<ArrayRef, VortexError>
-        requires plain { IsPlain self.now }
-        requires codes { IsDictionary codes.now self.now false }
-        requires countable { plain_overflow (kind_of self.now) (tree_len codes.now) ≡ None }
-        ensures { Gives result (IsCanonical (dictionary codes.now self.now false)) }
-    {
-        self.known();
-        let nulls = codes.validity(alloc)?.canonical(alloc, codes.len())?;
-        if self.is_empty() {
-            return Ok(self.plain_nulls(alloc, codes.len(), &nulls)?);
-        }
-        let positions = codes.code_positions(alloc, self.len())?;
-        let selected = self.select_within(alloc, &positions.selection())?;
-        Ok(selected.nulled(alloc, &nulls)?)
     }
 
     // The position below `len` that the code of row `i` names: none where it is null.

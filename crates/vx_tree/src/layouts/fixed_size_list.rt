@@ -1,18 +1,14 @@
 // Lists of one size, one after another.
 
-ghost use Rattle.std.specs.Prelude.{◌≡◌, ◌<◌, ◌≤◌, ◌-◌, ℕ, true, false, length, None, IfOk, map};
-ghost use Rattle.vx_base.specs.Refusals.{Gives, Refuses};
-ghost use Rattle.std.specs.List.{All};
-ghost use Rattle.vx_base.specs.Kinds.{fixed_lists};
+ghost use Rattle.std.specs.Prelude.{◌≡◌, ◌<◌, ◌≤◌, ◌-◌, ℕ, true, false, length, None};
+ghost use Rattle.vx_base.specs.Refusals.{Gives};
 ghost use Rattle.vx_base.specs.ValueRows.{row_under};
 ghost use Rattle.vx_tree.specs.Tree.{fixed_list};
 ghost use Rattle.vx_tree.specs.Layouts.{is_fixed_list};
-ghost use Rattle.vx_tree.specs.Meaning.{tree_len, kind_of, row_at, is_valid_at, nullable};
-ghost use Rattle.vx_tree.specs.Joined.{joined_len, IsJoined, IsValidJoined, elements_in, AreFixedLists};
+ghost use Rattle.vx_tree.specs.Meaning.{tree_len, kind_of, row_at, is_valid_at};
 ghost use Rattle.vx_tree.specs.Formed.{ValidFits, WellFormed};
 ghost use Rattle.vx_tree.specs.Parts.{valid_of};
 ghost use Rattle.vx_tree.specs.Faults.{take_overflow};
-ghost use Rattle.vx_tree.specs.Canonical.{IsCanonical, IsCanonicalAt, canonical_fault, plain_overflow};
 ghost use Rattle.vx_tree.specs.Operations.{IsSlice, IsSelected, IsNulls, AreBelow};
 
 use crate::array::{ArrayRef, Layout, Validity};
@@ -142,59 +138,6 @@ impl ArrayRef {
         ArrayRef::fixed_size_list(alloc, elements, *size, validity, len)
     }
 
-    #[cycle(canonical)]
-    pub(crate) fn canonical_fixed_lists(&self, alloc: Global) -> Result<ArrayRef, VortexError>
-        requires { is_fixed_list self.now ≡ true }
-        ensures ok { IfOk result (IsCanonical self.now) }
-        ensures refuses { Refuses result (canonical_fault self.now) }
-    {
-        let Layout::FixedSizeList {
-            elements,
-            size,
-            validity,
-            len,
-        } = self.layout()
-        else {
-            unreachable!();
-        };
-        let elements = elements.canonical(alloc)?;
-        let validity = validity.canonical(alloc, *len)?;
-        let lists = ArrayRef::fixed_size_list(alloc, elements, *size, validity, *len)?;
-        Ok(lists)
-    }
-
-    // The same of the lists that are picked.
-    #[cycle(canonical)]
-    pub(crate) fn canonical_fixed_lists_at(
-        &self,
-        alloc: Global,
-        selection: &Selection,
-    ) -> Result<ArrayRef, VortexError>
-        requires layout { is_fixed_list self.now ≡ true }
-        requires within { AreBelow (tree_len self.now) selection.now }
-        requires countable { plain_overflow (kind_of self.now) (length selection.now) ≡ None }
-        ensures ok { IfOk result (IsCanonicalAt self.now selection.now) }
-        ensures refuses { Refuses result (canonical_fault self.now) }
-    {
-        let Layout::FixedSizeList {
-            elements,
-            size,
-            validity,
-            ..
-        } = self.layout()
-        else {
-            unreachable!();
-        };
-        elements.known_len();
-        let len = selection.len();
-        let picked = selection.lists(alloc, *size as usize)?;
-        let elements = elements.canonical_at(alloc, &picked)?;
-        let validity = validity.select_within(alloc, selection)?;
-        let plain = validity.canonical(alloc, len)?;
-        let lists = ArrayRef::fixed_size_list(alloc, elements, *size, plain, len)?;
-        Ok(lists)
-    }
-
     // The list that row `i` is, `None` where it is null.
     #[cycle(value)]
     #[tactic(auto, using(crate::proofs::FixedLists::reads))]
@@ -225,40 +168,4 @@ impl ArrayRef {
         let values = ScalarValues::from_vec(alloc, values)?;
         Ok(Some(ScalarValue::List(values)))
     }
-
-    // The lists of arrays, one array after another, under the validity of them. Asks that the
-    // elements are those of the arrays, one array after another.
-    pub(crate) fn join_fixed_lists(
-        alloc: Global,
-        elements: ArrayRef,
-        size: u32,
-        arrays: &[ArrayRef],
-        len: usize,
-        validity: Validity,
-    ) -> Result<ArrayRef, VortexError>
-        requires lists { All (AreFixedLists size) arrays.now }
-        requires elements { IsJoined (kind_of elements) (map elements_in arrays.now) elements }
-        requires len { len ≡ joined_len arrays.now }
-        requires valid { IsValidJoined (nullable (valid_of validity)) arrays.now (valid_of validity) }
-        ensures { Gives result (IsJoined (fixed_lists (kind_of elements) size (nullable (valid_of validity))) arrays.now) }
-    {
-        let _ = arrays;
-        ArrayRef::fixed_size_list(alloc, elements, size, validity, len)
-    }
-}
-
-// The elements of arrays of lists.
-pub(crate) fn elements_of(alloc: Global, arrays: &[ArrayRef]) -> Result<Vec<ArrayRef>, VortexError>
-    ensures { Gives result (λ list. list.items ≡ map elements_in arrays.now) }
-{
-    let mut list = Vec::with_capacity(alloc, arrays.len())?;
-    for array in arrays {
-        let elements = match array.layout() {
-            Layout::FixedSizeList { elements, .. } => elements,
-            Layout::ListView { elements, .. } => elements,
-            _ => array,
-        };
-        list.push(elements.try_clone(alloc)?)?;
-    }
-    Ok(list)
 }

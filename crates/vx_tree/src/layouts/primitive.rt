@@ -1,16 +1,13 @@
 // Whole numbers of one type, one after another.
 
-ghost use Rattle.std.specs.Prelude.{◌≡◌, ◌<◌, ◌≤◌, ◌-◌, ◌*◌, ℕ, pos, true, false, length, map, replicate, IfOk};
-ghost use Rattle.vx_base.specs.Integers.{byte_width, numbers};
-ghost use Rattle.std.specs.List.{All, flat_map};
-ghost use Rattle.vx_base.specs.Kinds.{booleans, integers};
+ghost use Rattle.std.specs.Prelude.{◌≡◌, ◌<◌, ◌≤◌, ◌-◌, ℕ, true, false};
+ghost use Rattle.vx_base.specs.Kinds.{booleans};
 ghost use Rattle.vx_base.specs.Rows.{boolean};
 ghost use Rattle.vx_base.specs.Refusals.{Gives};
 ghost use Rattle.vx_base.specs.ValueRows.{row_under};
 ghost use Rattle.vx_tree.specs.Tree.{by_array, constant, primitive};
 ghost use Rattle.vx_tree.specs.Layouts.{is_primitive};
-ghost use Rattle.vx_tree.specs.Meaning.{tree_len, kind_of, row_at, is_valid_at, nullable};
-ghost use Rattle.vx_tree.specs.Joined.{IsJoined, IsValidJoined, AreNumbers, bytes_in};
+ghost use Rattle.vx_tree.specs.Meaning.{tree_len, kind_of, row_at, is_valid_at};
 ghost use Rattle.vx_tree.specs.Formed.{ValidFits, WellFormed};
 ghost use Rattle.vx_tree.specs.Parts.{valid_of};
 ghost use Rattle.vx_tree.specs.Operations.{IsSlice, IsSelected, IsNulls, IsZeroes, IsZeroCodes, AreBelow};
@@ -201,36 +198,4 @@ impl ArrayRef {
         let codes = ArrayRef::constant(alloc, zero, len)?;
         ArrayRef::dictionary(alloc, codes, code, false)
     }
-
-    // The numbers of arrays of one type, one array after another, under the validity of them.
-    pub(crate) fn join_primitives(
-        alloc: Global,
-        ptype: PType,
-        arrays: &[ArrayRef],
-        len: usize,
-        validity: Validity,
-    ) -> Result<ArrayRef, VortexError>
-        requires numbers { All (AreNumbers ptype) arrays.now }
-        requires valid { IsValidJoined (nullable (valid_of validity)) arrays.now (valid_of validity) }
-        ensures { Gives result (IsJoined (integers ptype (nullable (valid_of validity))) arrays.now) }
-    {
-        let size = len.saturating_mul(ptype.byte_width());
-        let bytes = ByteBuffer::from_vec(alloc, joined_bytes(alloc, arrays, size)?)?;
-        ArrayRef::primitive(alloc, ptype, bytes, validity)
-    }
-}
-
-// The bytes of arrays of numbers, one array after another.
-fn joined_bytes(alloc: Global, arrays: &[ArrayRef], size: usize) -> Result<Vec<u8>, VortexError>
-    requires { All (λ t. is_primitive t ≡ true) arrays.now }
-    ensures { Gives result (λ bytes. bytes.items ≡ flat_map bytes_in arrays.now) }
-{
-    let mut joined = Vec::with_capacity(alloc, size)?;
-    for array in arrays {
-        let Layout::Primitive { bytes, .. } = array.layout() else {
-            unreachable!();
-        };
-        joined.extend_from_slice(bytes.as_slice())?;
-    }
-    Ok(joined)
 }

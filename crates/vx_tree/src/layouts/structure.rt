@@ -1,22 +1,18 @@
 // Records, by columns.
 
-ghost use Rattle.std.specs.Prelude.{◌≡◌, ◌<◌, ◌≤◌, ◌+◌, ◌-◌, ℕ, true, false, None, Some, if◌then◌else◌, length, map, IfOk};
-ghost use Rattle.vx_base.specs.Refusals.{Gives, Refuses, overflow};
+ghost use Rattle.std.specs.Prelude.{◌≡◌, ◌<◌, ◌≤◌, ◌+◌, ◌-◌, ℕ, true, false, None, Some, if◌then◌else◌, length, map};
+ghost use Rattle.vx_base.specs.Refusals.{Gives, overflow};
 ghost use Rattle.vx_base.specs.Kinds.{records};
 ghost use Rattle.vx_base.specs.ValueRows.{row_under};
 ghost use Rattle.vx_base.specs.DTypes.{dtype_meaning, is_nullable};
 ghost use Rattle.vx_tree.specs.Tree.{structure};
 ghost use Rattle.vx_tree.specs.Layouts.{is_struct};
-ghost use Rattle.vx_tree.specs.Meaning.{tree_len, kind_of, kinds_of, trees_from, row_at, is_valid_at, nullable};
-ghost use Rattle.vx_tree.specs.Formed.{ValidFits, IsStruct, AllLen, column_count};
-ghost use Rattle.std.specs.List.{All};
-ghost use Rattle.vx_tree.specs.Joined.{joined_len, IsJoined, IsValidJoined, AreRecords, AreColumnsJoined, columns_in, column_of};
+ghost use Rattle.vx_tree.specs.Meaning.{tree_len, kind_of, kinds_of, trees_from, row_at, is_valid_at};
+ghost use Rattle.vx_tree.specs.Formed.{ValidFits, IsStruct, column_count};
 ghost use Rattle.vx_tree.specs.Fitting.{ColumnsFormed};
 ghost use Rattle.vx_tree.specs.Parts.{valid_of};
 ghost use Rattle.vx_tree.specs.Faults.{take_overflow, columns_overflow};
 ghost use Rattle.vx_tree.specs.Columns.{AllReach, AllHave, AreAlike, AreSlices, AreSelected, AreFields};
-ghost use Rattle.vx_tree.specs.Canonical.{IsCanonical, IsCanonicalAt, AreCanonical, AreCanonicalAt};
-ghost use Rattle.vx_tree.specs.Canonical.{canonical_fault, columns_fault, plain_overflow};
 ghost use Rattle.vx_tree.specs.Operations.{IsSlice, IsSelected, IsNulls, AreBelow};
 
 use crate::array::{ArrayRef, Layout, Validity};
@@ -51,26 +47,6 @@ impl ArrayRef {
                 len,
             },
         )
-    }
-
-    // The records of arrays, one array after another, under the validity of them. Asks that the
-    // columns are those of the arrays, one array after another.
-    pub(crate) fn join_structs(
-        alloc: Global,
-        names: FieldNames,
-        columns: Vec<ArrayRef>,
-        arrays: &[ArrayRef],
-        len: usize,
-        validity: Validity,
-    ) -> Result<ArrayRef, VortexError>
-        requires records { All (AreRecords names) arrays.now }
-        requires columns { AreColumnsJoined arrays.now (length names) (trees_from columns.items) }
-        requires len { len ≡ joined_len arrays.now }
-        requires valid { IsValidJoined (nullable (valid_of validity)) arrays.now (valid_of validity) }
-        ensures { Gives result (IsJoined (records names (kinds_of (trees_from columns.items)) (nullable (valid_of validity))) arrays.now) }
-    {
-        let _ = arrays;
-        ArrayRef::structure(alloc, names, columns, validity, len)
     }
 
     #[cycle(slice)]
@@ -215,96 +191,6 @@ impl ArrayRef {
         ArrayRef::structure(alloc, names, columns, validity, len)
     }
 
-    #[cycle(canonical)]
-    pub(crate) fn canonical_struct(&self, alloc: Global) -> Result<ArrayRef, VortexError>
-        requires { is_struct self.now ≡ true }
-        ensures ok { IfOk result (IsCanonical self.now) }
-        ensures refuses { Refuses result (canonical_fault self.now) }
-    {
-        let Layout::Struct {
-            names,
-            columns,
-            validity,
-            len,
-        } = self.layout()
-        else {
-            unreachable!();
-        };
-        let columns = ArrayRef::canonical_columns(alloc, columns, *len)?;
-        let names = names.try_clone(alloc)?;
-        let validity = validity.canonical(alloc, *len)?;
-        let records = ArrayRef::structure(alloc, names, columns, validity, *len)?;
-        Ok(records)
-    }
-
-    // The plain layout of each column, all of which have `len` rows.
-    #[cycle(canonical)]
-    fn canonical_columns(
-        alloc: Global,
-        columns: &[ArrayRef],
-        len: usize,
-    ) -> Result<Vec<ArrayRef>, VortexError>
-        requires { AllLen len (trees_from columns.now) }
-        ensures ok { IfOk result (λ cs. AreCanonical (trees_from columns.now) len (trees_from cs.items)) }
-        ensures refuses { Refuses result (columns_fault (trees_from columns.now)) }
-    {
-        let mut made = Vec::with_capacity(alloc, columns.len())?;
-        for column in columns {
-            made.push(column.canonical(alloc)?)?;
-        }
-        Ok(made)
-    }
-
-    // The same of the records that are picked.
-    #[cycle(canonical)]
-    pub(crate) fn canonical_struct_at(
-        &self,
-        alloc: Global,
-        selection: &Selection,
-    ) -> Result<ArrayRef, VortexError>
-        requires layout { is_struct self.now ≡ true }
-        requires within { AreBelow (tree_len self.now) selection.now }
-        requires countable { plain_overflow (kind_of self.now) (length selection.now) ≡ None }
-        ensures ok { IfOk result (IsCanonicalAt self.now selection.now) }
-        ensures refuses { Refuses result (canonical_fault self.now) }
-    {
-        let Layout::Struct {
-            names,
-            columns,
-            validity,
-            ..
-        } = self.layout()
-        else {
-            unreachable!();
-        };
-        let len = selection.len();
-        let columns = ArrayRef::canonical_columns_at(alloc, columns, selection)?;
-        let names = names.try_clone(alloc)?;
-        let validity = validity.select_within(alloc, selection)?;
-        let plain = validity.canonical(alloc, len)?;
-        let records = ArrayRef::structure(alloc, names, columns, plain, len)?;
-        Ok(records)
-    }
-
-    // The same of each column.
-    #[cycle(canonical)]
-    fn canonical_columns_at(
-        alloc: Global,
-        columns: &[ArrayRef],
-        selection: &Selection,
-    ) -> Result<Vec<ArrayRef>, VortexError>
-        requires within { AllHave selection.now (trees_from columns.now) }
-        requires countable { All (λ t. plain_overflow (kind_of t) (length selection.now) ≡ None) columns.now }
-        ensures ok { IfOk result (λ cs. AreCanonicalAt (trees_from columns.now) selection.now (trees_from cs.items)) }
-        ensures refuses { Refuses result (columns_fault (trees_from columns.now)) }
-    {
-        let mut made = Vec::with_capacity(alloc, columns.len())?;
-        for column in columns {
-            made.push(column.canonical_at(alloc, selection)?)?;
-        }
-        Ok(made)
-    }
-
     // The record that row `i` is, `None` where it is null.
     #[cycle(value)]
     #[tactic(auto, using(crate::specs::Formed::valid_reads))]
@@ -413,33 +299,4 @@ fn default_columns(
         made.push(column.default_rows(alloc, len)?)?;
     }
     Ok(made)
-}
-
-// The column at a place of each of these arrays of records.
-pub(crate) fn columns_of(
-    alloc: Global,
-    arrays: &[ArrayRef],
-    place: usize,
-) -> Result<Vec<ArrayRef>, VortexError>
-    requires layout { All (λ t. is_struct t ≡ true) arrays.now }
-    requires place { All (λ t. place < column_count (columns_in t)) arrays.now }
-    ensures { Gives result (λ list. list.items ≡ map (column_of place) arrays.now) }
-{
-    let mut list = Vec::with_capacity(alloc, arrays.len())?;
-    for array in arrays {
-        list.push(column_of(alloc, array, place)?)?;
-    }
-    Ok(list)
-}
-
-// The column at a place of an array of records.
-fn column_of(alloc: Global, array: &ArrayRef, place: usize) -> Result<ArrayRef, VortexError>
-    requires layout { is_struct array.now ≡ true }
-    requires place { place < column_count (columns_in array.now) }
-    ensures { Gives result (λ a. a ≡ column_of place array.now) }
-{
-    let Layout::Struct { columns, .. } = array.layout() else {
-        unreachable!();
-    };
-    columns[place].try_clone(alloc)
 }

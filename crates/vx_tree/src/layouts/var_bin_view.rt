@@ -1,30 +1,23 @@
 // Texts and byte lists, each by its view.
 
-ghost use Rattle.std.specs.Prelude.{◌≡◌, ◌<◌, ◌≤◌, ◌+◌, ◌-◌, ◌^◌, ◌++◌, ℕ, true, false, [], length, map, slice_index, slice_index_or, Some};
-ghost use Rattle.std.specs.Prelude.{MatchOption, IfOk, replicate, if◌then◌else◌};
-ghost use Rattle.std.specs.List.{All, range_with_len};
-ghost use Rattle.vx_base.specs.Refusals.{Gives, Refuses, Tests};
+ghost use Rattle.std.specs.Prelude.{◌≡◌, ◌<◌, ◌≤◌, ◌-◌, ℕ, true, false, [], length, map, slice_index_or, Some};
+ghost use Rattle.std.specs.Prelude.{MatchOption, replicate, if◌then◌else◌};
+ghost use Rattle.std.specs.List.{range_with_len};
+ghost use Rattle.vx_base.specs.Refusals.{Gives};
 ghost use Rattle.vx_base.specs.DTypes.{dtype_meaning};
-ghost use Rattle.vx_base.specs.Kinds.{is_nullable_kind, or_nullable};
 ghost use Rattle.vx_base.specs.Bytes.{AreBytes};
 ghost use Rattle.vx_base.specs.MaskRuns.{is_in_run, is_in_runs, AreRuns};
-ghost use Rattle.vx_views.specs.Views.{IsView, buffer_at, view_of, view_size, view_block};
-ghost use Rattle.vx_views.specs.declared.view.TheConstants.{MAX_INLINED_SIZE};
+ghost use Rattle.vx_views.specs.Views.{IsView, buffer_at, view_of};
 ghost use Rattle.vx_tree.specs.Tree.{view_array};
 ghost use Rattle.vx_tree.specs.Layouts.{is_view_array};
 ghost use Rattle.vx_base.specs.Rows.{null};
 ghost use Rattle.vx_base.specs.ValueRows.{option_row, row_under};
-ghost use Rattle.vx_tree.specs.Meaning.{tree_len, kind_of, row_at, is_valid_at, nullable, is_texts, valid_mask, value_row};
+ghost use Rattle.vx_tree.specs.Meaning.{tree_len, kind_of, row_at, is_valid_at, is_texts, valid_mask, value_row};
 ghost use Rattle.vx_tree.specs.Values.{bytes_in};
-ghost use Rattle.vx_tree.specs.Formed.{ValidFits, WellFormed, value_kind};
+ghost use Rattle.vx_tree.specs.Formed.{ValidFits, WellFormed};
 ghost use Rattle.vx_tree.specs.Fitting.{AreViews};
 ghost use Rattle.vx_tree.specs.Parts.{valid_of};
-ghost use Rattle.vx_tree.specs.Plain.{IsPlainValid};
-ghost use Rattle.vx_tree.specs.Extents.{extent_of};
-ghost use Rattle.vx_tree.specs.Canonical.{IsBlank};
 ghost use Rattle.vx_tree.specs.Operations.{IsSlice, IsSelected, IsNulled, IsNulls, IsTakenAt, AreBelow, valid_view};
-ghost use Rattle.vx_tree.specs.PlainValues.{buffers_overflow};
-ghost use Rattle.vx_tree.specs.Joined.{IsJoined, IsValidJoined, AreValues, AreResolved, joined_buffers, shifted_view, views_from};
 
 use crate::array::{ArrayRef, Layout, Validity};
 use std::alloc::Global;
@@ -33,9 +26,6 @@ use vx_base::{
     share_buffers,
 };
 use vx_views::BinaryView;
-
-// How many buffers can be numbered by a `u32`.
-const MAX_BUFFERS: usize = 1 << 32;
 
 impl ArrayRef {
     /// Texts or byte lists, null where the validity is false. Asks that the data type is one of
@@ -62,28 +52,6 @@ impl ArrayRef {
                 validity,
             },
         )
-    }
-
-    // The texts or the byte lists of arrays, one array after another, under the validity of them;
-    // the buffers are shared, one array's after another's.
-    pub(crate) fn join_views(
-        alloc: Global,
-        dtype: &DType,
-        arrays: &[ArrayRef],
-        len: usize,
-        validity: Validity,
-    ) -> Result<ArrayRef, VortexError>
-        requires values { All (AreValues (is_texts (dtype_meaning dtype.now))) arrays.now }
-        requires kind { dtype_meaning dtype.now ≡ value_kind (is_texts (dtype_meaning dtype.now)) (nullable (valid_of validity)) }
-        requires valid { IsValidJoined (nullable (valid_of validity)) arrays.now (valid_of validity) }
-        ensures ok { IfOk result (IsJoined (dtype_meaning dtype.now) arrays.now) }
-        ensures refuses { Refuses result (buffers_overflow (length (joined_buffers arrays.now))) }
-    {
-        let count = buffer_count(arrays)?;
-        let buffers = joined_buffers(alloc, arrays, count)?;
-        let views = joined_views(alloc, arrays, len)?;
-        let dtype = dtype.try_clone(alloc)?;
-        Ok(ArrayRef::var_bin_view(alloc, views, buffers, dtype, validity)?)
     }
 
     #[cycle(slice)]
@@ -223,29 +191,6 @@ impl ArrayRef {
             .try_clone(alloc)?
             .union_nullability(nulls.nullability());
         let validity = validity.nulls(alloc, len, nulls)?;
-        empty_views(alloc, len, buffers, &dtype, validity)
-    }
-
-    // Empty texts or byte lists of this validity, over the same buffers.
-    pub(crate) fn blank_views(
-        &self,
-        alloc: Global,
-        len: usize,
-        validity: Validity,
-    ) -> Result<ArrayRef, VortexError>
-        requires layout { is_view_array self.now ≡ true }
-        requires fits { ValidFits (valid_of validity) len }
-        requires plain { IsPlainValid (valid_of validity) }
-        requires nullable { is_nullable_kind (kind_of self.now) ≡ true → nullable (valid_of validity) ≡ true }
-        ensures { Gives result (IsBlank (or_nullable (nullable (valid_of validity)) (kind_of self.now)) (extent_of self.now) len
-            (valid_of validity)) }
-    {
-        let Layout::VarBinView { buffers, dtype, .. } = self.layout() else {
-            unreachable!();
-        };
-        let dtype = dtype
-            .try_clone(alloc)?
-            .union_nullability(validity.nullability());
         empty_views(alloc, len, buffers, &dtype, validity)
     }
 
@@ -410,123 +355,6 @@ fn empty_range(views: &mut [BinaryView], start: usize, end: usize)
     for k in start..end {
         views[k] = BinaryView::empty_view();
     }
-}
-
-// How many buffers the arrays have, as many as can be numbered.
-fn buffer_count(arrays: &[ArrayRef]) -> Result<usize, VortexError>
-    requires { All AreResolved arrays.now }
-    ensures count { IfOk result (λ n. n ≡ length (joined_buffers arrays.now)) }
-    ensures tests { Tests result (buffers_overflow (length (joined_buffers arrays.now))) }
-{
-    let mut count = 0usize;
-    for array in arrays {
-        let Layout::VarBinView { buffers, .. } = array.layout() else {
-            unreachable!();
-        };
-        if buffers.len() > MAX_BUFFERS - count {
-            return Err(VortexError::Overflow);
-        }
-        count += buffers.len();
-    }
-    Ok(count)
-}
-
-// The buffers of arrays, of which there are `count`, one array after another.
-fn joined_buffers(
-    alloc: Global,
-    arrays: &[ArrayRef],
-    count: usize,
-) -> Result<Vec<ByteBuffer>, VortexError>
-    requires { All AreResolved arrays.now }
-    ensures { Gives result (λ bs. bs.items ≡ joined_buffers arrays.now) }
-{
-    let mut joined = Vec::with_capacity(alloc, count)?;
-    for array in arrays {
-        let Layout::VarBinView { buffers, .. } = array.layout() else {
-            unreachable!();
-        };
-        add_buffers(alloc, buffers, &mut joined)?;
-    }
-    Ok(joined)
-}
-
-// The buffers, each shared, are added to these.
-fn add_buffers(
-    alloc: Global,
-    buffers: &[ByteBuffer],
-    out: &mut Vec<ByteBuffer>,
-) -> Result<(), VortexError>
-    ensures { Gives result (λ _. out.new.items ≡ out.old.items ++ buffers.now) }
-{
-    for buffer in buffers {
-        out.push(buffer.try_clone(alloc)?)?;
-    }
-    Ok(())
-}
-
-// The views of arrays, of which there are `len`, one array after another, their buffers numbered
-// further by the buffers of the arrays before.
-fn joined_views(
-    alloc: Global,
-    arrays: &[ArrayRef],
-    len: usize,
-) -> Result<Buffer<BinaryView>, VortexError>
-    requires resolved { All AreResolved arrays.now }
-    requires few { length (joined_buffers arrays.now) ≤ 2 ^ 32 }
-    ensures { Gives result (λ views. views ≡ views_from 0 arrays.now) }
-{
-    let mut joined = Vec::with_capacity(alloc, len)?;
-    let mut base = 0usize;
-    for array in arrays {
-        let Layout::VarBinView { views, buffers, .. } = array.layout() else {
-            unreachable!();
-        };
-        add_views(views.as_slice(), &[base, 0], &mut joined)?;
-        base += buffers.len();
-    }
-    Buffer::from_vec(alloc, joined)
-}
-
-// The views are added to these, their buffers numbered further by the first of two steps: the
-// second is that of views which hold their value, 0. Not inlined, so that a step is looked up where
-// both lie: a choice between a number and 0 is compiled to a branch, which a processor guesses wrong
-// where short and long values stand by turns.
-#[inline(never)]
-fn add_views(
-    views: &[BinaryView],
-    steps: &[usize; 2],
-    out: &mut Vec<BinaryView>,
-) -> Result<(), VortexError>
-    requires held { slice_index steps.now 1 ≡ 0 }
-    requires few { All (λ view. MAX_INLINED_SIZE < view_size view → slice_index steps.now 0 + view_block view < 2 ^ 32) views.now }
-    ensures { Gives result (λ _. out.new.items ≡ out.old.items ++ map (shifted_view (slice_index steps.now 0)) views.now) }
-{
-    out.reserve(views.len())?;
-    for view in views {
-        out.push_reserved(shifted(view, steps));
-    }
-    Ok(())
-}
-
-// The view, its buffer numbered further by the first step where it refers to one: the number of its
-// buffer is bits 64 to 95 of its bytes as one number, so that views of both kinds go the same way.
-#[inline]
-fn shifted(view: &BinaryView, steps: &[usize; 2]) -> BinaryView
-    requires held { slice_index steps.now 1 ≡ 0 }
-    requires few { MAX_INLINED_SIZE < view_size view.now → slice_index steps.now 0 + view_block view.now < 2 ^ 32 }
-    ensures { result ≡ shifted_view (slice_index steps.now 0) view.now }
-{
-    let further = step_of(view, steps);
-    BinaryView::from(view.as_u128() + ((further as u128) << 64))
-}
-
-// The second step where the view holds its value, and else the first.
-#[inline]
-fn step_of(view: &BinaryView, steps: &[usize; 2]) -> usize
-    ensures held { view_size view.now ≤ MAX_INLINED_SIZE → result ≡ slice_index steps.now 1 }
-    ensures refers { MAX_INLINED_SIZE < view_size view.now → result ≡ slice_index steps.now 0 }
-{
-    steps[usize::from(view.is_inlined())]
 }
 
 // Each view has 16 bytes, and each buffer has bytes. It does nothing.

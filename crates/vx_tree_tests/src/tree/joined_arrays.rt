@@ -6,6 +6,7 @@ use super::views::{LONG, is_null, is_text, texts};
 use super::{booleans, dictionary, expect_bool, expect_list, indices, lists, number};
 use std::alloc::Global;
 use vx_base::{DType, Nullability, PType, Scalar, VortexError};
+use vx_canonical::Concatenate;
 use vx_tree::{ArrayRef, Layout};
 
 // The rows of two arrays.

@@ -9,6 +9,7 @@ ghost use Rattle.vx_tree.specs.Tree.{constant};
 use std::alloc::Global;
 use std::process::Abort;
 use vx_base::{Nullability, PType, Scalar, VortexError};
+use vx_canonical::{Concatenate, ToCanonical};
 use vx_tree::{ArrayRef, Layout};
 
 // Twice the code of the first value.

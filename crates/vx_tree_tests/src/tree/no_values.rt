@@ -13,6 +13,7 @@ use super::views::texts;
 use std::alloc::Global;
 use std::process::Abort;
 use vx_base::{DType, Nullability, PType, Scalar, VortexError};
+use vx_canonical::{Concatenate, ToCanonical};
 use vx_tree::{ArrayRef, Layout, Validity};
 
 // Two null codes.

@@ -9,6 +9,7 @@ use vx_base::{
     DType, FieldNames, Nullability, PType, Scalar, ScalarValue, ScalarValues, StructFields,
     VortexError,
 };
+use vx_canonical::ToCanonical;
 use vx_tree::{ArrayRef, Layout};
 
 // More items in a list than memory holds values.

@@ -8,6 +8,7 @@ use vx_base::{
     ByteBuffer, DType, FieldNames, Nullability, PType, Scalar, ScalarValue, ScalarValues,
     StructFields, VortexError,
 };
+use vx_canonical::ToCanonical;
 use vx_tree::{ArrayRef, Layout};
 
 const LONG: &[u8] = b"this value is definitely long";

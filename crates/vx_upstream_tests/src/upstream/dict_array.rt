@@ -4,6 +4,7 @@ use super::numbers;
 use std::alloc::Global;
 use std::test::Fail;
 use vx_base::{BitBuffer, Mask, VortexError};
+use vx_canonical::{Concatenate, ToCanonical};
 use vx_leaves::{DictArray, DictArrayExt, PrimitiveArray};
 use vx_test_help::{has_numbers, ints, valid_where};
 use vx_text::VarBinViewArray;

@@ -2,7 +2,7 @@ use Rattle.std.proofs.Common.{◌≡◌, ◌++◌, ◌∙◌}
 use Rattle.std.specs.List.{flat_map}
 use Rattle.std.proofs.lemmas.Result.{IfOk-weaker}
 use Rattle.vx_tree.specs.Meaning.{rows}
-use Rattle.vx_tree.specs.Concatenated.{IsConcatenated}
+use Rattle.vx_canonical.specs.Concatenated.{IsConcatenated}
 use Rattle.vx_uses.proofs.AppendedArrays.{appended_rows, appended_extent, appended_refused}
 use Rattle.vx_uses.proofs.appended.appended.Goals as goal
 

@@ -3,7 +3,7 @@ use Rattle.std.proofs.lemmas.Iterator.{YieldsList-from_slice}
 use Rattle.std.proofs.lemmas.Result.{IfOk-weaker}
 use Rattle.vx_base.specs.Refusals.{Refuses, or_else}
 use Rattle.vx_base.proofs.FirstFaults.{or_else-second}
-use Rattle.vx_tree.specs.Concatenated.{concat_fault}
+use Rattle.vx_canonical.specs.Concatenated.{concat_fault}
 use Rattle.vx_tree.specs.Meaning.{kind_of, rows}
 use Rattle.vx_lists.specs.Structs.Faults.{names_fault}
 use Rattle.vx_lists.specs.Structs.Records.{projected, projected_kind}

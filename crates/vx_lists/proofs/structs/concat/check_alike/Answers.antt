@@ -2,7 +2,7 @@ use Rattle.std.proofs.Common.{ap, ◌∙◌}
 use Rattle.std.specs.Prelude.{not}
 use Rattle.vx_base.specs.DTypes.{dtype_meaning}
 use Rattle.vx_base.specs.SameKind.{kind_eq}
-use Rattle.vx_tree.proofs.Concatenated.{alike-more}
+use Rattle.vx_canonical.proofs.Concatenated.{alike-more}
 use Rattle.vx_lists.specs.Structs.Concats.{arrays_of}
 use Rattle.vx_lists.proofs.Records.LentArrays.{lent_at, alike-not, alike_fault}
 use Rattle.vx_lists.proofs.structs.concat.check_alike.Goals as goal

@@ -1,6 +1,6 @@
 use Rattle.std.proofs.Common.{◌≡◌, drop}
 use Rattle.vx_base.specs.DTypes.{dtype_meaning}
-use Rattle.vx_tree.specs.Concatenated.{are_alike}
+use Rattle.vx_canonical.specs.Concatenated.{are_alike}
 use Rattle.vx_lists.specs.Structs.Concats.{arrays_of}
 use Rattle.vx_lists.proofs.structs.concat.check_alike.Given as goal
 

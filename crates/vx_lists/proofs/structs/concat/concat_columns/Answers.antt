@@ -2,7 +2,7 @@ use Rattle.std.proofs.Common.{ap, sym, ◌∙◌, subst}
 use Rattle.std.proofs.lemmas.Result.{err_from_is_err_and}
 use Rattle.vx_base.specs.Refusals.{IsMemoryOr}
 use Rattle.vx_base.proofs.FirstFaults.{first_fault-next}
-use Rattle.vx_tree.specs.Concatenated.{concat_fault}
+use Rattle.vx_canonical.specs.Concatenated.{concat_fault}
 use Rattle.vx_lists.specs.Structs.Concats.{lists_of, at_place, IsConcat}
 use Rattle.vx_lists.proofs.Records.LentArrays.{concats-more, concats_refused}
 use Rattle.vx_lists.proofs.structs.concat.concat_columns.Goals as goal

@@ -1,9 +1,9 @@
 use Rattle.std.proofs.Common.{sym}
 use Rattle.std.proofs.lemmas.Result.{err_from_is_err_and}
 use Rattle.vx_tree.specs.Joins.{join_fault}
-use Rattle.vx_tree.specs.Joined.{joined_len}
+use Rattle.vx_canonical.specs.Joined.{joined_len}
 use Rattle.vx_tree.proofs.Dictionaries.{memory_only}
-use Rattle.vx_tree.proofs.JoinedStates.{parts-lens, parts-fault, valid_joined, nothing_joined}
+use Rattle.vx_canonical.proofs.JoinedStates.{parts-lens, parts-fault, valid_joined, nothing_joined}
 use Rattle.vx_lists.specs.Structs.Concats.{arrays_of}
 use Rattle.vx_lists.proofs.Records.LentArrays.{few_of_none, none_lent}
 use Rattle.vx_lists.proofs.structs.concat.concat_validities.Goals as goal

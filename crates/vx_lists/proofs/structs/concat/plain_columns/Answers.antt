@@ -1,5 +1,5 @@
 use Rattle.std.proofs.lemmas.Result.{err_from_is_err_and}
-use Rattle.vx_tree.proofs.Canonical.{columns_fault-next, columns_fault-all, columns_refused}
+use Rattle.vx_canonical.proofs.CanonicalArrays.{columns_fault-next, columns_fault-all, columns_refused}
 use Rattle.vx_lists.specs.Structs.Concats.{arrays_of, lists_of}
 use Rattle.vx_lists.proofs.Records.LentArrays.{lent_at, all_lent, plain-more, plain-all, lists_of-push}
 use Rattle.vx_lists.proofs.structs.concat.plain_columns.Goals as goal

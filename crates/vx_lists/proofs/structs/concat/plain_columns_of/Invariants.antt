@@ -1,6 +1,6 @@
 use Rattle.std.proofs.Common.{◌≡◌, take, None}
 use Rattle.std.specs.List.{AllZip}
-use Rattle.vx_tree.specs.Canonical.{IsCanonical, columns_fault}
+use Rattle.vx_canonical.specs.Canonical.{IsCanonical, columns_fault}
 use Rattle.vx_tree.specs.Meaning.{trees_from}
 use Rattle.vx_lists.proofs.structs.concat.plain_columns_of.Given as goal
 

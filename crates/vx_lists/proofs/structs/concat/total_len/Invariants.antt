@@ -1,6 +1,6 @@
 use Rattle.std.proofs.Common.{◌≡◌, ◌+◌, ◌<◌, ◌^◌, drop, take}
 use Rattle.std.specs.List.{All}
-use Rattle.vx_tree.specs.Joined.{joined_len}
+use Rattle.vx_canonical.specs.Joined.{joined_len}
 use Rattle.vx_lists.specs.Structs.Concats.{arrays_of, IsRecords}
 use Rattle.vx_lists.proofs.structs.concat.total_len.Given as goal
 

@@ -1,7 +1,7 @@
 use Rattle.std.proofs.Common.{subst}
 use Rattle.vx_tree.specs.Operations.{IsValidityOf}
 use Rattle.vx_tree.specs.Parts.{valid_of}
-use Rattle.vx_tree.proofs.JoinedStates.{parts-more}
+use Rattle.vx_canonical.proofs.JoinedStates.{parts-more}
 use Rattle.vx_lists.specs.Structs.Concats.{arrays_of}
 use Rattle.vx_lists.proofs.Records.LentArrays.{lent_at}
 use Rattle.vx_lists.proofs.structs.concat.validity_parts.Goals as goal

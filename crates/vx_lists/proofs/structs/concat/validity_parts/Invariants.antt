@@ -1,5 +1,5 @@
 use Rattle.std.proofs.Common.{take}
-use Rattle.vx_tree.specs.Joined.{ArePartsOf}
+use Rattle.vx_canonical.specs.Joined.{ArePartsOf}
 use Rattle.vx_lists.specs.Structs.Concats.{arrays_of}
 use Rattle.vx_lists.proofs.structs.concat.validity_parts.Given as goal
 

@@ -1,0 +1,130 @@
+use Rattle.std.proofs.Common.{◌≡◌, ◌<◌, length, map, true, None, Some, ap, sym, subst, ◌∙◌, inr, arith}
+use Rattle.std.specs.Prelude.{if◌then◌else◌}
+use Rattle.std.specs.List.{All}
+use Rattle.vx_base.specs.DTypes.{dtype_meaning, is_nullable}
+use Rattle.vx_base.specs.Kinds.{integers}
+use Rattle.vx_tree.specs.Meaning.{kind_of}
+use Rattle.vx_base.specs.Refusals.{Refuses, overflow}
+use Rattle.vx_canonical.specs.Canonical.{plain_overflow}
+use Rattle.vx_tree.specs.Extents.{extent_of, joined_extent}
+use Rattle.vx_canonical.specs.Joined.{joined_len, AreJoinable}
+use Rattle.vx_canonical.specs.Concatenated.{are_alike}
+use Rattle.vx_canonical.proofs.Concatenated.{alike_kinds, rows_joined, numbers_concatenated, rows_refused, given_none, join_fault-concat, first_kind, first_plain, kinds_of_first, ok_rows, ok_kind, ok_plain, ok_state, ok_extent, ok_flag, plain_count, plain_joinable}
+use Rattle.vx_canonical.proofs.concat.ArrayRefConcatenate.concat.Goals as goal
+
+pub join_like-requires-clause-plain : goal.join_like-requires-clause-plain
+join_like-requires-clause-plain c =
+    let ts = c.args.arrays.now in
+    let ps = c.in_ok-plain.plain.items in
+    let t = c.in-Some.first.now in
+    let alike : are_alike (kind_of t) ts ≡ true = sym (ap (λ k. are_alike k ts) c.dtype.ensures) ∙ sym c.are_alike.ensures ∙ c.if-not-are_alike.false in
+    let some : 0 < length ps = omega (arith, plain_count ts ps c.in_ok-plain.ensures.ok, c.in-Some.ensures.item.3.0) in
+    first_plain ts ps t c.index.result.now c.in_ok-plain.ensures.ok alike some c.index.ensures
+
+pub join_like-requires-clause-arrays : goal.join_like-requires-clause-arrays
+join_like-requires-clause-arrays c =
+    let ts = c.args.arrays.now in
+    let ps = c.in_ok-plain.plain.items in
+    let t = c.in-Some.first.now in
+    let p = c.index.result.now in
+    let alike : are_alike (kind_of t) ts ≡ true = sym (ap (λ k. are_alike k ts) c.dtype.ensures) ∙ sym c.are_alike.ensures ∙ c.if-not-are_alike.false in
+    let some : 0 < length ps = omega (arith, plain_count ts ps c.in_ok-plain.ensures.ok, c.in-Some.ensures.item.3.0) in
+    rw c.deref-2.ensures.value (plain_joinable (kind_of p) ts ps c.in_ok-plain.ensures.ok (kinds_of_first ts ps t p c.in_ok-plain.ensures.ok alike some c.index.ensures) (rw c.deref.ensures.value at c.all_formed.ensures))
+
+pub returns-clause-rows : goal.returns-clause-rows
+returns-clause-rows c =
+    ok_rows c.join_like.result (kind_of c.index.result.now) c.args.arrays.now c.in_ok-plain.plain.items c.in_ok-plain.ensures.ok (rw c.deref-2.ensures.value at c.join_like.ensures.ok)
+
+pub returns-clause-kind : goal.returns-clause-kind
+returns-clause-kind c =
+    let ts = c.args.arrays.now in
+    let ps = c.in_ok-plain.plain.items in
+    let t = c.in-Some.first.now in
+    let p = c.index.result.now in
+    let alike : are_alike (kind_of t) ts ≡ true = sym (ap (λ k. are_alike k ts) c.dtype.ensures) ∙ sym c.are_alike.ensures ∙ c.if-not-are_alike.false in
+    let some : 0 < length ps = omega (arith, plain_count ts ps c.in_ok-plain.ensures.ok, c.in-Some.ensures.item.3.0) in
+    ok_kind c.join_like.result (kind_of p) ts ps (kinds_of_first ts ps t p c.in_ok-plain.ensures.ok alike some c.index.ensures) (rw c.deref-2.ensures.value at c.join_like.ensures.ok)
+
+pub returns-clause-plain : goal.returns-clause-plain
+returns-clause-plain c = ok_plain c.join_like.result (kind_of c.index.result.now) c.deref-2.result.now c.join_like.ensures.ok
+
+pub returns-clause-state : goal.returns-clause-state
+returns-clause-state c =
+    let ts = c.args.arrays.now in
+    let ps = c.in_ok-plain.plain.items in
+    let some : 0 < length ps = omega (arith, plain_count ts ps c.in_ok-plain.ensures.ok, c.in-Some.ensures.item.3.0) in
+    ok_state c.join_like.result (kind_of c.index.result.now) ts ps c.in_ok-plain.ensures.ok some (rw c.deref-2.ensures.value at c.join_like.ensures.ok)
+
+pub returns-clause-extent : goal.returns-clause-extent
+returns-clause-extent c =
+    ok_extent c.join_like.result (kind_of c.index.result.now) c.args.arrays.now c.in_ok-plain.plain.items c.in_ok-plain.ensures.ok (rw c.deref-2.ensures.value at c.join_like.ensures.ok)
+
+pub returns-clause-flag : goal.returns-clause-flag
+returns-clause-flag c = ok_flag c.join_like.result (kind_of c.index.result.now) c.deref-2.result.now c.join_like.ensures.ok
+
+pub returns-clause-refuses : goal.returns-clause-refuses
+returns-clause-refuses c =
+    let ts = c.args.arrays.now in
+    let ps = c.in_ok-plain.plain.items in
+    let t = c.in-Some.first.now in
+    let item = c.in-Some.ensures.item in
+    let alike : are_alike (kind_of t) ts ≡ true = sym (ap (λ k. are_alike k ts) c.dtype.ensures) ∙ sym c.are_alike.ensures ∙ c.if-not-are_alike.false in
+    let some : 0 < length ps = omega (arith, plain_count ts ps c.in_ok-plain.ensures.ok, item.3.0) in
+    let k = kind_of c.index.result.now in
+    let short = c.in_ok-len.ensures.tests in
+    let none = given_none ts t item.3.0 item.1 alike short c.in_ok-plain.ensures.refuses in
+    let same = first_kind ts ps t c.index.result.now c.in_ok-plain.ensures.ok alike some c.index.ensures in
+    let joinable : AreJoinable k ps = plain_joinable k ts ps c.in_ok-plain.ensures.ok (kinds_of_first ts ps t c.index.result.now c.in_ok-plain.ensures.ok alike some c.index.ensures) (rw c.deref.ensures.value at c.all_formed.ensures) in
+    subst (Refuses c.join_like.result) (join_fault-concat ts ps t k c.in_ok-plain.ensures.ok joinable same item.3.0 item.1 short none) (rw c.deref-2.ensures.value at c.join_like.ensures.refuses)
+
+pub concat_numbers-requires-clause-kind : goal.concat_numbers-requires-clause-kind
+concat_numbers-requires-clause-kind c =
+    let ts = c.args.arrays.now in
+    let t = c.in-Some.first.now in
+    let alike : are_alike (kind_of t) ts ≡ true = sym (ap (λ k. are_alike k ts) c.dtype.ensures) ∙ sym c.are_alike.ensures ∙ c.if-not-are_alike.false in
+    let kind : kind_of t ≡ integers c.in-Primitive.ptype (is_nullable c.in-Primitive.nullability) = sym c.dtype-2.ensures ∙ ap dtype_meaning c.in-Primitive.is in
+    subst (λ k. All (λ u. kind_of u ≡ k) ts) kind (alike_kinds (kind_of t) ts alike)
+
+pub returns-in-Primitive-clause-rows : goal.returns-in-Primitive-clause-rows
+returns-in-Primitive-clause-rows c =
+    rows_joined (integers c.in-Primitive.ptype (is_nullable c.in-Primitive.nullability)) c.args.arrays.now c.in_ok-concat_numbers.field-0 c.in_ok-concat_numbers.ensures
+
+pub returns-in-Primitive-clause-kind : goal.returns-in-Primitive-clause-kind
+returns-in-Primitive-clause-kind c =
+    let ts = c.args.arrays.now in
+    let t = c.in-Some.first.now in
+    let alike : are_alike (kind_of t) ts ≡ true = sym (ap (λ k. are_alike k ts) c.dtype.ensures) ∙ sym c.are_alike.ensures ∙ c.if-not-are_alike.false in
+    let kind : kind_of t ≡ integers c.in-Primitive.ptype (is_nullable c.in-Primitive.nullability) = sym c.dtype-2.ensures ∙ ap dtype_meaning c.in-Primitive.is in
+    λ i d l. alike_kinds (kind_of t) ts alike i d l ∙ kind ∙ sym c.in_ok-concat_numbers.ensures.kind
+
+pub returns-in-Primitive-clause-plain : goal.returns-in-Primitive-clause-plain
+returns-in-Primitive-clause-plain c = c.in_ok-concat_numbers.ensures.plain
+
+pub returns-in-Primitive-clause-state : goal.returns-in-Primitive-clause-state
+returns-in-Primitive-clause-state c = c.in_ok-concat_numbers.ensures.state c.in-Some.ensures.item.3.0
+
+pub returns-in-Primitive-clause-extent : goal.returns-in-Primitive-clause-extent
+returns-in-Primitive-clause-extent c =
+    c.in_ok-concat_numbers.ensures.extent ∙ ap (λ k. joined_extent k (map extent_of c.args.arrays.now)) (sym c.in_ok-concat_numbers.ensures.kind)
+
+pub returns-in-Primitive-clause-flag : goal.returns-in-Primitive-clause-flag
+returns-in-Primitive-clause-flag c = c.in_ok-concat_numbers.ensures.flag
+
+pub returns-in-Primitive-clause-refuses : goal.returns-in-Primitive-clause-refuses
+returns-in-Primitive-clause-refuses c =
+    let ts = c.args.arrays.now in
+    let t = c.in-Some.first.now in
+    let item = c.in-Some.ensures.item in
+    let alike : are_alike (kind_of t) ts ≡ true = sym (ap (λ k. are_alike k ts) c.dtype.ensures) ∙ sym c.are_alike.ensures ∙ c.if-not-are_alike.false in
+    let kind : kind_of t ≡ integers c.in-Primitive.ptype (is_nullable c.in-Primitive.nullability) = sym c.dtype-2.ensures ∙ ap dtype_meaning c.in-Primitive.is in
+    numbers_concatenated ts t c.in-Primitive.ptype (is_nullable c.in-Primitive.nullability) kind item.3.0 item.1 alike c.in_ok-len.ensures.tests
+
+pub returns-then-not-is_countable : goal.returns-then-not-is_countable
+returns-then-not-is_countable c =
+    let ts = c.args.arrays.now in
+    let t = c.in-Some.first.now in
+    let item = c.in-Some.ensures.item in
+    let alike : are_alike (kind_of t) ts ≡ true = sym (ap (λ k. are_alike k ts) c.dtype.ensures) ∙ sym c.are_alike.ensures ∙ c.if-not-are_alike.false in
+    let told : plain_overflow (kind_of t) (joined_len ts) ≡ (if c.is_countable.result then None else Some overflow) =
+    (λ i. plain_overflow (sym c.dtype-3.ensures i) (sym c.in_ok-len.ensures.len i)) ∙ c.is_countable.ensures in
+    record { rows = tt; kind = tt; plain = tt; state = tt; extent = tt; flag = tt; refuses = inr (rows_refused ts t c.is_countable.result item.3.0 item.1 alike c.in_ok-len.ensures.tests told c.if-not-is_countable.true) }

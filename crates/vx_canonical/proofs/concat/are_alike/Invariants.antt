@@ -1,0 +1,7 @@
+use Rattle.std.proofs.Common.{◌≡◌, drop}
+use Rattle.vx_base.specs.DTypes.{dtype_meaning}
+use Rattle.vx_canonical.specs.Concatenated.{are_alike}
+use Rattle.vx_canonical.proofs.concat.are_alike.Given as goal
+
+abbrev pub invariant-loop-array : goal.invariant-loop-array
+invariant-loop-array l = are_alike (dtype_meaning l.dtype) l.arrays ≡ are_alike (dtype_meaning l.dtype) (drop l.array-index l.arrays)

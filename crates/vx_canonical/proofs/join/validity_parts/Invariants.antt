@@ -1,0 +1,6 @@
+use Rattle.std.proofs.Common.{take}
+use Rattle.vx_canonical.specs.Joined.{ArePartsOf}
+use Rattle.vx_canonical.proofs.join.validity_parts.Given as goal
+
+abbrev pub invariant-loop-array : goal.invariant-loop-array
+invariant-loop-array l = ArePartsOf (take l.array-index l.arrays) l.parts.items

@@ -1,0 +1,22 @@
+use Rattle.vx_base.specs.Kinds.{booleans}
+use Rattle.vx_base.proofs.Refused.{Gives-weaker}
+use Rattle.vx_tree.specs.Tree.{bools}
+use Rattle.vx_tree.specs.Parts.{valid_of}
+use Rattle.vx_tree.specs.Meaning.{nullable}
+use Rattle.vx_canonical.specs.Joined.{IsJoined}
+use Rattle.vx_canonical.proofs.JoinedLeaves.{bools_joined}
+use Rattle.vx_canonical.proofs.layouts.bool.join_bools.Goals as goal
+
+pub bools-requires : goal.bools-requires
+bools-requires c =
+    let v = valid_of c.args.validity in
+    let bits = c.in_ok-bits.bits.bits in
+    let joined : IsJoined (booleans (nullable v)) c.args.arrays.now (bools bits v) = bools_joined c.args.arrays.now v bits c.requires.layout c.in_ok-bits.ensures c.requires.valid in
+    rw joined.len c.requires.valid.fits
+
+pub returns : goal.returns
+returns c =
+    let v = valid_of c.args.validity in
+    let bits = c.in_ok-bits.bits.bits in
+    let joined : IsJoined (booleans (nullable v)) c.args.arrays.now (bools bits v) = bools_joined c.args.arrays.now v bits c.requires.layout c.in_ok-bits.ensures c.requires.valid in
+    Gives-weaker c.bools.result _ _ (λ a e. rw e joined) c.bools.ensures

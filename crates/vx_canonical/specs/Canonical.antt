@@ -1,0 +1,141 @@
+-- The same rows in plain layout.
+use Rattle.std.specs.Prelude.{◌≡◌, ◌<◌, ◌*◌, ◌^◌, ℕ, suc, false, List, [], ◌∷◌, length, map, Option, Some, None, nat_lt, slice_index}
+use Rattle.std.specs.Prelude.{if◌then◌else◌}
+use Rattle.std.specs.List.{AllZip}
+use Rattle.vx_base.specs.declared.dtypes.DType.{DType}
+use Rattle.vx_base.specs.DTypes.{dtype_meaning}
+use Rattle.vx_base.specs.Rows.{Row, null}
+use Rattle.vx_base.specs.Refusals.{Refusal, overflow, or_else}
+use Rattle.vx_base.specs.Kinds.{Kind, fixed_lists, records, Kinds, no_kinds, kind}
+use Rattle.vx_tree.specs.Tree.{Tree, bools, primitive, constant, dictionary, fixed_list, list_view, structure}
+use Rattle.vx_tree.specs.Tree.{view_array, Trees, no_trees, tree, Valid}
+use Rattle.vx_tree.specs.Meaning.{tree_len, kind_of, row_at, is_valid_at}
+use Rattle.vx_tree.specs.Shapes.{State, state_of, tree_state}
+use Rattle.vx_tree.specs.Flags.{is_flagged, kept_flag}
+use Rattle.vx_tree.specs.Formed.{ValidFits}
+use Rattle.vx_tree.specs.Plain.{IsPlain, ArePlain, IsPlainValid}
+use Rattle.vx_tree.specs.Columns.{AreRowsAt}
+use Rattle.vx_canonical.specs.PlainValues.{kept_fault}
+use Rattle.vx_tree.specs.Extents.{Extent, extent_of, extents_of, rows_extent}
+use Rattle.vx_tree.specs.RowParts.{field_in}
+
+-- the same rows, of the same kind
+pub record HasRowsOf (t r : Tree) : Type 0 where
+  pub len : tree_len r ≡ tree_len t
+  pub kind : kind_of r ≡ kind_of t
+  pub rows : (i : ℕ) → i < tree_len t → row_at r i ≡ row_at t i
+
+-- a list view keeps its numbers and the rows of its elements, a view array its views and buffers
+abbrev pub KeepsParts : Tree → Tree → Type 0
+KeepsParts (list_view e o s v f) (list_view e2 o2 s2 w g) = HasRowsOf e e2 × HasRowsOf o o2 × HasRowsOf s s2
+KeepsParts (list_view e o s v f) _ = ⊥
+KeepsParts (view_array vs bs k v) (view_array ws cs k2 w) = (ws ≡ vs) × (cs ≡ bs)
+KeepsParts (view_array vs bs k v) _ = ⊥
+KeepsParts _ _ = Unit {0}
+
+-- the same rows in plain layout, in the same state and of the same extent: a list view keeps its flag, and none is set else
+pub record IsCanonical (t r : Tree) : Type 0 where
+  pub same : HasRowsOf t r
+  pub plain : IsPlain r
+  pub state : tree_state r ≡ tree_state t
+  pub extent : extent_of r ≡ extent_of t
+  pub flag : is_flagged r ≡ kept_flag t
+  pub kept : KeepsParts t r
+
+-- n rows of each column, in plain layout
+pub record AreCanonical (ts : Trees) (n : ℕ) (us : Trees) : Type 0 where
+  pub rows_at : AreRowsAt ts (λ i. i) n us
+  pub plain : ArePlain us
+  pub extents : extents_of us ≡ extents_of ts
+
+-- the rows at positions in plain layout, in the same state and of the same extent: no flag is set
+pub record IsCanonicalAt (t : Tree) (ps : List ℕ) (r : Tree) : Type 0 where
+  pub len : tree_len r ≡ length ps
+  pub kind : kind_of r ≡ kind_of t
+  pub plain : IsPlain r
+  pub state : tree_state r ≡ tree_state t
+  pub extent : extent_of r ≡ extent_of t
+  pub flag : is_flagged r ≡ false
+  pub rows : (i : ℕ) → i < length ps → row_at r i ≡ row_at t (slice_index ps i)
+
+-- the rows of each column at positions, in plain layout
+pub record AreCanonicalAt (ts : Trees) (ps : List ℕ) (us : Trees) : Type 0 where
+  pub rows_at : AreRowsAt ts (slice_index ps) (length ps) us
+  pub plain : ArePlain us
+  pub extents : extents_of us ≡ extents_of ts
+
+-- the validity of the same n rows, its array a plain one
+pub record IsCanonicalValid (v : Valid) (n : ℕ) (w : Valid) : Type 0 where
+  pub fits : ValidFits w n
+  pub state : state_of w ≡ state_of v
+  pub plain : IsPlainValid w
+  pub bits : (i : ℕ) → i < n → is_valid_at w i ≡ is_valid_at v i
+
+-- n rows of a kind need more elements in plain layout than can be counted
+abbrev mutual
+  pub plain_overflow : Kind → ℕ → Option Refusal
+  plain_overflow (fixed_lists k size m) n = if nat_lt (n * size) (2 ^ 64) then plain_overflow k (n * size) else Some overflow
+  plain_overflow (records names ks m) n = fields_overflow ks n
+  plain_overflow _ n = None
+
+  pub fields_overflow : Kinds → ℕ → Option Refusal
+  fields_overflow no_kinds n = None
+  fields_overflow (kind k ks) n = or_else (plain_overflow k n) (fields_overflow ks n)
+
+-- a row, n times: the elements of n rows cannot be counted, or what the row keeps, once
+abbrev pub constant_fault : Kind → Row → ℕ → Option Refusal
+constant_fault k r n = or_else (plain_overflow k n) (kept_fault k (r ∷ []))
+
+-- the first fault of the parts; taking the values of a dictionary by its codes needs elements for each code
+abbrev mutual
+  pub canonical_fault : Tree → Option Refusal
+  canonical_fault (bools bits v) = None
+  canonical_fault (primitive t bs v) = None
+  canonical_fault (constant k r n) = constant_fault k r n
+  canonical_fault (dictionary c v f) = or_else (canonical_fault v) (plain_overflow (kind_of v) (tree_len c))
+  canonical_fault (fixed_list e k v n) = canonical_fault e
+  canonical_fault (list_view e o s v f) = or_else (canonical_fault e) (or_else (canonical_fault o) (canonical_fault s))
+  canonical_fault (structure ns ts v n) = columns_fault ts
+  canonical_fault (view_array vs bs k v) = None
+
+  pub columns_fault : Trees → Option Refusal
+  columns_fault no_trees = None
+  columns_fault (tree t ts) = or_else (canonical_fault t) (columns_fault ts)
+
+-- n rows in plain layout, of a kind and an extent, of which a validity is known: no flag is set
+pub record IsBlank (k : Kind) (x : Extent) (n : ℕ) (v : Valid) (r : Tree) : Type 0 where
+  pub len : tree_len r ≡ n
+  pub kind : kind_of r ≡ k
+  pub plain : IsPlain r
+  pub state : tree_state r ≡ state_of v
+  pub extent : extent_of r ≡ x
+  pub flag : is_flagged r ≡ false
+  pub nulls : (i : ℕ) → i < n → is_valid_at v i ≡ false → row_at r i ≡ null
+
+-- n rows in plain layout, of a kind and an extent
+pub record IsBlankPart (k : Kind) (x : Extent) (n : ℕ) (r : Tree) : Type 0 where
+  pub len : tree_len r ≡ n
+  pub kind : kind_of r ≡ k
+  pub plain : IsPlain r
+  pub extent : extent_of r ≡ x
+
+-- no rows in plain layout for each field of rows from place c on, of the kind of a data type, with what its rows keep
+abbrev pub AreKeptFields : ℕ → List DType → List Row → List Tree → Type 0
+AreKeptFields c [] rs [] = Unit {0}
+AreKeptFields c (d ∷ ds) rs (t ∷ ts) =
+    IsBlankPart (dtype_meaning d) (rows_extent (dtype_meaning d) (map (field_in c) rs)) 0 t × AreKeptFields (suc c) ds rs ts
+AreKeptFields c _ rs _ = ⊥
+
+-- n rows in plain layout for each array, of its kind and its extent
+abbrev pub AreBlankParts : List Tree → ℕ → List Tree → Type 0
+AreBlankParts ts n rs = AllZip (λ t r. IsBlankPart (kind_of t) (extent_of t) n r) ts rs
+
+-- n rows of null in plain layout, of a kind and an extent, in a state
+pub record IsPlainNulls (k : Kind) (x : Extent) (n : ℕ) (s : State) (r : Tree) : Type 0 where
+  pub len : tree_len r ≡ n
+  pub kind : kind_of r ≡ k
+  pub plain : IsPlain r
+  pub state : tree_state r ≡ s
+  pub extent : extent_of r ≡ x
+  pub flag : is_flagged r ≡ false
+  pub rows : (i : ℕ) → i < n → row_at r i ≡ null

@@ -1,0 +1,365 @@
+// The plain layout of an array: one recursion through all layouts, and the same of rows that are
+// picked.
+
+ghost use Rattle.std.specs.Prelude.{◌≡◌, true, false, length, None, IfOk};
+ghost use Rattle.std.specs.List.{All};
+ghost use Rattle.vx_base.specs.Refusals.{Gives, Refuses};
+ghost use Rattle.vx_tree.specs.Tree.{dictionary};
+ghost use Rattle.vx_tree.specs.Layouts.{is_dictionary, is_fixed_list, is_list_view, is_struct};
+ghost use Rattle.vx_tree.specs.Meaning.{tree_len, kind_of, trees_from};
+ghost use Rattle.vx_tree.specs.Formed.{ValidFits, IsDictionary, AllLen};
+ghost use Rattle.vx_tree.specs.Parts.{valid_of};
+ghost use Rattle.vx_tree.specs.Plain.{IsPlain};
+ghost use Rattle.vx_tree.specs.Columns.{AllHave};
+ghost use Rattle.vx_tree.specs.Operations.{AreBelow};
+ghost use Rattle.vx_canonical.specs.Canonical.{IsCanonical, IsCanonicalAt, IsCanonicalValid, AreCanonical, AreCanonicalAt};
+ghost use Rattle.vx_canonical.specs.Canonical.{canonical_fault, columns_fault, plain_overflow};
+
+use crate::canonical_zeroes::{is_countable, plain_nulls};
+use crate::layouts::constant::{canonical_constant, canonical_constant_at};
+use crate::layouts::leaf::{canonical_leaf, canonical_leaf_at};
+use std::alloc::Global;
+use vx_base::{Selection, VortexError};
+use vx_tree::{ArrayRef, Layout, Validity, told_by};
+
+// The same rows in the plain layout of the data type, in the parts too.
+#[cycle(canonical)]
+pub(crate) fn canonical(alloc: Global, array: &ArrayRef) -> Result<ArrayRef, VortexError>
+    ensures ok { IfOk result (IsCanonical array.now) }
+    ensures refuses { Refuses result (canonical_fault array.now) }
+{
+    match array.layout() {
+        Layout::Bool { .. } | Layout::Primitive { .. } | Layout::VarBinView { .. } => {
+            Ok(canonical_leaf(alloc, array)?)
+        }
+        Layout::Constant { .. } => canonical_constant(alloc, array),
+        Layout::Dict { .. } => canonical_dictionary(alloc, array),
+        Layout::FixedSizeList { .. } => canonical_fixed_lists(alloc, array),
+        Layout::ListView { .. } => canonical_list_view(alloc, array),
+        Layout::Struct { .. } => canonical_struct(alloc, array),
+    }
+}
+
+// The rows that are picked, in plain layout: no others are made. Asks that they can be counted.
+#[cycle(canonical)]
+pub(crate) fn canonical_at(
+    alloc: Global,
+    array: &ArrayRef,
+    selection: &Selection,
+) -> Result<ArrayRef, VortexError>
+    requires within { AreBelow (tree_len array.now) selection.now }
+    requires countable { plain_overflow (kind_of array.now) (length selection.now) ≡ None }
+    ensures ok { IfOk result (IsCanonicalAt array.now selection.now) }
+    ensures refuses { Refuses result (canonical_fault array.now) }
+{
+    match array.layout() {
+        Layout::Bool { .. } | Layout::Primitive { .. } | Layout::VarBinView { .. } => {
+            Ok(canonical_leaf_at(alloc, array, selection)?)
+        }
+        Layout::Constant { .. } => canonical_constant_at(alloc, array, selection),
+        Layout::Dict { .. } => canonical_dictionary_at(alloc, array, selection),
+        Layout::FixedSizeList { .. } => canonical_fixed_lists_at(alloc, array, selection),
+        Layout::ListView { .. } => canonical_list_view_at(alloc, array, selection),
+        Layout::Struct { .. } => canonical_struct_at(alloc, array, selection),
+    }
+}
+
+// The canonical values, taken by the codes.
+#[cycle(canonical)]
+fn canonical_dictionary(alloc: Global, array: &ArrayRef) -> Result<ArrayRef, VortexError>
+    requires { is_dictionary array.now ≡ true }
+    ensures ok { IfOk result (IsCanonical array.now) }
+    ensures refuses { Refuses result (canonical_fault array.now) }
+{
+    let Layout::Dict { codes, values, .. } = array.layout() else {
+        unreachable!();
+    };
+    let named = canonical_named(alloc, values, codes)?;
+    Ok(named)
+}
+
+// The same of the codes that are picked.
+#[cycle(canonical)]
+#[tactic(auto, using(vx_tree::proofs::Dictionaries::selected))]
+fn canonical_dictionary_at(
+    alloc: Global,
+    array: &ArrayRef,
+    selection: &Selection,
+) -> Result<ArrayRef, VortexError>
+    requires layout { is_dictionary array.now ≡ true }
+    requires within { AreBelow (tree_len array.now) selection.now }
+    requires countable { plain_overflow (kind_of array.now) (length selection.now) ≡ None }
+    ensures ok { IfOk result (IsCanonicalAt array.now selection.now) }
+    ensures refuses { Refuses result (canonical_fault array.now) }
+{
+    let Layout::Dict { codes, values, .. } = array.layout() else {
+        unreachable!();
+    };
+    if !is_countable(values.dtype(), codes.len()) {
+        return Err(VortexError::Overflow);
+    }
+    let picked = codes.select_within(alloc, selection)?;
+    let named = canonical_named(alloc, values, &picked)?;
+    Ok(named)
+}
+
+// The values that codes name, in plain layout. Where there are more values than codes, those
+// that no code names are not made.
+#[cycle(canonical)]
+fn canonical_named(
+    alloc: Global,
+    values: &ArrayRef,
+    codes: &ArrayRef,
+) -> Result<ArrayRef, VortexError>
+    requires { IsDictionary codes.now values.now false }
+    ensures ok { IfOk result (IsCanonical (dictionary codes.now values.now false)) }
+    ensures refuses { Refuses result (canonical_fault (dictionary codes.now values.now false)) }
+{
+    if !is_countable(values.dtype(), codes.len()) {
+        return Err(VortexError::Overflow);
+    }
+    if values.len() <= codes.len() {
+        let values = canonical(alloc, values)?;
+        return Ok(named_by(alloc, &values, codes)?);
+    }
+    let nulls = canonical_validity(alloc, &codes.validity(alloc)?, codes.len())?;
+    let positions = codes.code_positions(alloc, values.len())?;
+    let picked = canonical_at(alloc, values, &positions.selection())?;
+    Ok(picked.nulled(alloc, &nulls)?)
+}
+
+// The values that codes name, in plain layout. Asks that the values are in plain layout, and
+// that so many of them can be counted.
+#[tactic(auto, using(crate::proofs::PlainKinds::plain_kinds))]
+fn named_by(alloc: Global, values: &ArrayRef, codes: &ArrayRef) -> Result<ArrayRef, VortexError>
+    requires plain { IsPlain values.now }
+    requires codes { IsDictionary codes.now values.now false }
+    requires countable { plain_overflow (kind_of values.now) (tree_len codes.now) ≡ None }
+    ensures { Gives result (IsCanonical (dictionary codes.now values.now false)) }
+{
+    values.known();
+    let nulls = canonical_validity(alloc, &codes.validity(alloc)?, codes.len())?;
+    if values.is_empty() {
+        return Ok(plain_nulls(alloc, values, codes.len(), &nulls)?);
+    }
+    let positions = codes.code_positions(alloc, values.len())?;
+    let selected = values.select_within(alloc, &positions.selection())?;
+    Ok(selected.nulled(alloc, &nulls)?)
+}
+
+#[cycle(canonical)]
+fn canonical_fixed_lists(alloc: Global, array: &ArrayRef) -> Result<ArrayRef, VortexError>
+    requires { is_fixed_list array.now ≡ true }
+    ensures ok { IfOk result (IsCanonical array.now) }
+    ensures refuses { Refuses result (canonical_fault array.now) }
+{
+    let Layout::FixedSizeList {
+        elements,
+        size,
+        validity,
+        len,
+    } = array.layout()
+    else {
+        unreachable!();
+    };
+    let elements = canonical(alloc, elements)?;
+    let validity = canonical_validity(alloc, validity, *len)?;
+    let lists = ArrayRef::fixed_size_list(alloc, elements, *size, validity, *len)?;
+    Ok(lists)
+}
+
+// The same of the lists that are picked.
+#[cycle(canonical)]
+fn canonical_fixed_lists_at(
+    alloc: Global,
+    array: &ArrayRef,
+    selection: &Selection,
+) -> Result<ArrayRef, VortexError>
+    requires layout { is_fixed_list array.now ≡ true }
+    requires within { AreBelow (tree_len array.now) selection.now }
+    requires countable { plain_overflow (kind_of array.now) (length selection.now) ≡ None }
+    ensures ok { IfOk result (IsCanonicalAt array.now selection.now) }
+    ensures refuses { Refuses result (canonical_fault array.now) }
+{
+    let Layout::FixedSizeList {
+        elements,
+        size,
+        validity,
+        ..
+    } = array.layout()
+    else {
+        unreachable!();
+    };
+    elements.known_len();
+    let len = selection.len();
+    let picked = selection.lists(alloc, *size as usize)?;
+    let elements = canonical_at(alloc, elements, &picked)?;
+    let validity = validity.select_within(alloc, selection)?;
+    let plain = canonical_validity(alloc, &validity, len)?;
+    let lists = ArrayRef::fixed_size_list(alloc, elements, *size, plain, len)?;
+    Ok(lists)
+}
+
+#[cycle(canonical)]
+fn canonical_list_view(alloc: Global, array: &ArrayRef) -> Result<ArrayRef, VortexError>
+    requires { is_list_view array.now ≡ true }
+    ensures ok { IfOk result (IsCanonical array.now) }
+    ensures refuses { Refuses result (canonical_fault array.now) }
+{
+    let Layout::ListView {
+        elements,
+        offsets,
+        sizes,
+        validity,
+        flag,
+    } = array.layout()
+    else {
+        unreachable!();
+    };
+    let elements = canonical(alloc, elements)?;
+    let validity = canonical_validity(alloc, validity, offsets.len())?;
+    let offsets = canonical(alloc, offsets)?;
+    let sizes = canonical(alloc, sizes)?;
+    let flag = *flag;
+    let lists = ArrayRef::list_view(alloc, elements, offsets, sizes, validity, flag)?;
+    Ok(lists)
+}
+
+// The same of the lists that are picked: all elements are kept.
+#[cycle(canonical)]
+#[tactic(auto, using(crate::proofs::CanonicalFaults::integers_countable))]
+fn canonical_list_view_at(
+    alloc: Global,
+    array: &ArrayRef,
+    selection: &Selection,
+) -> Result<ArrayRef, VortexError>
+    requires layout { is_list_view array.now ≡ true }
+    requires within { AreBelow (tree_len array.now) selection.now }
+    ensures ok { IfOk result (IsCanonicalAt array.now selection.now) }
+    ensures refuses { Refuses result (canonical_fault array.now) }
+{
+    let Layout::ListView {
+        elements,
+        offsets,
+        sizes,
+        validity,
+        ..
+    } = array.layout()
+    else {
+        unreachable!();
+    };
+    let elements = canonical(alloc, elements)?;
+    let offsets = canonical_at(alloc, offsets, selection)?;
+    let sizes = canonical_at(alloc, sizes, selection)?;
+    let validity = validity.select_within(alloc, selection)?;
+    let plain = canonical_validity(alloc, &validity, selection.len())?;
+    let lists = ArrayRef::list_view(alloc, elements, offsets, sizes, plain, false)?;
+    Ok(lists)
+}
+
+#[cycle(canonical)]
+fn canonical_struct(alloc: Global, array: &ArrayRef) -> Result<ArrayRef, VortexError>
+    requires { is_struct array.now ≡ true }
+    ensures ok { IfOk result (IsCanonical array.now) }
+    ensures refuses { Refuses result (canonical_fault array.now) }
+{
+    let Layout::Struct {
+        names,
+        columns,
+        validity,
+        len,
+    } = array.layout()
+    else {
+        unreachable!();
+    };
+    let columns = canonical_columns(alloc, columns, *len)?;
+    let names = names.try_clone(alloc)?;
+    let validity = canonical_validity(alloc, validity, *len)?;
+    let records = ArrayRef::structure(alloc, names, columns, validity, *len)?;
+    Ok(records)
+}
+
+// The plain layout of each column, all of which have `len` rows.
+#[cycle(canonical)]
+fn canonical_columns(
+    alloc: Global,
+    columns: &[ArrayRef],
+    len: usize,
+) -> Result<Vec<ArrayRef>, VortexError>
+    requires { AllLen len (trees_from columns.now) }
+    ensures ok { IfOk result (λ cs. AreCanonical (trees_from columns.now) len (trees_from cs.items)) }
+    ensures refuses { Refuses result (columns_fault (trees_from columns.now)) }
+{
+    let mut made = Vec::with_capacity(alloc, columns.len())?;
+    for column in columns {
+        made.push(canonical(alloc, column)?)?;
+    }
+    Ok(made)
+}
+
+// The same of the records that are picked.
+#[cycle(canonical)]
+fn canonical_struct_at(
+    alloc: Global,
+    array: &ArrayRef,
+    selection: &Selection,
+) -> Result<ArrayRef, VortexError>
+    requires layout { is_struct array.now ≡ true }
+    requires within { AreBelow (tree_len array.now) selection.now }
+    requires countable { plain_overflow (kind_of array.now) (length selection.now) ≡ None }
+    ensures ok { IfOk result (IsCanonicalAt array.now selection.now) }
+    ensures refuses { Refuses result (canonical_fault array.now) }
+{
+    let Layout::Struct {
+        names,
+        columns,
+        validity,
+        ..
+    } = array.layout()
+    else {
+        unreachable!();
+    };
+    let len = selection.len();
+    let columns = canonical_columns_at(alloc, columns, selection)?;
+    let names = names.try_clone(alloc)?;
+    let validity = validity.select_within(alloc, selection)?;
+    let plain = canonical_validity(alloc, &validity, len)?;
+    let records = ArrayRef::structure(alloc, names, columns, plain, len)?;
+    Ok(records)
+}
+
+// The same of each column.
+#[cycle(canonical)]
+fn canonical_columns_at(
+    alloc: Global,
+    columns: &[ArrayRef],
+    selection: &Selection,
+) -> Result<Vec<ArrayRef>, VortexError>
+    requires within { AllHave selection.now (trees_from columns.now) }
+    requires countable { All (λ t. plain_overflow (kind_of t) (length selection.now) ≡ None) columns.now }
+    ensures ok { IfOk result (λ cs. AreCanonicalAt (trees_from columns.now) selection.now (trees_from cs.items)) }
+    ensures refuses { Refuses result (columns_fault (trees_from columns.now)) }
+{
+    let mut made = Vec::with_capacity(alloc, columns.len())?;
+    for column in columns {
+        made.push(canonical_at(alloc, column, selection)?)?;
+    }
+    Ok(made)
+}
+
+// The same state, its array a plain one.
+pub(crate) fn canonical_validity(
+    alloc: Global,
+    validity: &Validity,
+    len: usize,
+) -> Result<Validity, VortexError>
+    requires { ValidFits (valid_of validity.now) len }
+    ensures { Gives result (λ w. IsCanonicalValid (valid_of validity.now) len (valid_of w)) }
+{
+    match validity {
+        Validity::NonNullable => Ok(Validity::NonNullable),
+        Validity::AllValid => Ok(Validity::AllValid),
+        Validity::AllInvalid => Ok(Validity::AllInvalid),
+        Validity::Array(array) => told_by(alloc, array.plain_bits(alloc)?),
+    }
+}

@@ -1,0 +1,94 @@
+// Arrays, one after another.
+
+ghost use Rattle.std.specs.Prelude.{◌≡◌, false, map, IfOk};
+ghost use Rattle.std.specs.List.{All, AllZip, flat_map};
+ghost use Rattle.vx_base.specs.DTypes.{dtype_meaning};
+ghost use Rattle.vx_base.specs.Refusals.{Refuses};
+ghost use Rattle.vx_tree.specs.Meaning.{kind_of, rows, trees_from};
+ghost use Rattle.vx_tree.specs.Shapes.{tree_state};
+ghost use Rattle.vx_tree.specs.Plain.{IsPlain};
+ghost use Rattle.vx_tree.specs.Extents.{extent_of, joined_extent};
+ghost use Rattle.vx_canonical.specs.Joined.{joined_state};
+ghost use Rattle.vx_tree.specs.Flags.{is_flagged};
+ghost use Rattle.vx_canonical.specs.Canonical.{IsCanonical, columns_fault};
+ghost use Rattle.vx_canonical.specs.Concatenated.{are_alike, concat_fault};
+
+mod numbers;
+
+use crate::canonical::canonical;
+use crate::canonical_zeroes::is_countable;
+use crate::concat::numbers::concat_numbers;
+use crate::join::{all_formed, join_like, joined_len};
+use std::alloc::Global;
+use vx_base::{DType, VortexError};
+use vx_tree::ArrayRef;
+
+/// What can be joined, one after another.
+pub trait Concatenate: Sized {
+    /// The rows of the arrays, one array after another, in the plain layout of their data type: of
+    /// the numbers 1, 2 and 3, null the numbers 1, 2, 3, null. At every depth they have as many
+    /// elements and buffers as all arrays together. Refuses in this order: with
+    /// `EmptyInput` where no array is given; with `DifferingDtypes` where one is not of the data
+    /// type of the first; with `Overflow` where there are more rows than can be counted; by the
+    /// first fault of making each array plain, as `to_canonical` has it; then with `Overflow` where
+    /// the lists of all arrays, at any depth, have together more elements than can be counted, or
+    /// their texts or byte lists more buffers than a view can number, 4294967296. A list view has
+    /// all of its elements and texts all of their buffers; a constant those of its row once,
+    /// whatever its length, with a buffer for each text or byte list above 12 bytes; a dictionary
+    /// those of its values, also where it has no values; lists of one size have the rows times the
+    /// size.
+    fn concat(alloc: Global, arrays: &[Self]) -> Result<Self, VortexError>;
+}
+
+impl Concatenate for ArrayRef {
+    fn concat(alloc: Global, arrays: &[ArrayRef]) -> Result<ArrayRef, VortexError>
+        ensures rows { IfOk result (λ a. rows a ≡ flat_map rows arrays.now) }
+        ensures kind { IfOk result (λ a. All (λ t. kind_of t ≡ kind_of a) arrays.now) }
+        ensures plain { IfOk result IsPlain }
+        ensures state { IfOk result (λ a. tree_state a ≡ joined_state arrays.now) }
+        ensures extent { IfOk result (λ a. extent_of a ≡ joined_extent (kind_of a) (map extent_of arrays.now)) }
+        ensures flag { IfOk result (λ a. is_flagged a ≡ false) }
+        ensures refuses { Refuses result (concat_fault arrays.now) }
+    {
+        let Some(first) = arrays.first() else {
+            return Err(VortexError::EmptyInput);
+        };
+        if !are_alike(first.dtype(), arrays) {
+            return Err(VortexError::DifferingDtypes);
+        }
+        let len = joined_len(arrays)?;
+        if let DType::Primitive(ptype, nullability) = first.dtype() {
+            return Ok(concat_numbers(alloc, *ptype, *nullability, arrays, len)?);
+        }
+        if !is_countable(first.dtype(), len) {
+            return Err(VortexError::Overflow);
+        }
+        let plain = plain_arrays(alloc, arrays)?;
+        all_formed(&plain);
+        join_like(alloc, &plain[0], &plain)
+    }
+}
+
+// Whether all arrays are of this data type.
+fn are_alike(dtype: &DType, arrays: &[ArrayRef]) -> bool
+    ensures { result ≡ are_alike (dtype_meaning dtype.now) arrays.now }
+{
+    for array in arrays {
+        if array.dtype() != dtype {
+            return false;
+        }
+    }
+    true
+}
+
+// Each array in plain layout.
+fn plain_arrays(alloc: Global, arrays: &[ArrayRef]) -> Result<Vec<ArrayRef>, VortexError>
+    ensures ok { IfOk result (λ ps. AllZip IsCanonical arrays.now ps.items) }
+    ensures refuses { Refuses result (columns_fault (trees_from arrays.now)) }
+{
+    let mut plain = Vec::with_capacity(alloc, arrays.len())?;
+    for array in arrays {
+        plain.push(canonical(alloc, array)?)?;
+    }
+    Ok(plain)
+}

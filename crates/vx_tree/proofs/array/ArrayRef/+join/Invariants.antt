@@ -1,6 +1,0 @@
-use Rattle.std.proofs.Common.{◌≡◌, take, None}
-use Rattle.vx_tree.proofs.JoinedParts.{AreJoinedEach, fault_like}
-use Rattle.vx_tree.proofs.array.ArrayRef.+join.Given as goal
-
-abbrev pub invariant-join_columns-loop-column : goal.invariant-join_columns-loop-column
-invariant-join_columns-loop-column l = AreJoinedEach l.arrays 0 (take l.column-index l.columns) l.made.items × (fault_like (take l.column-index l.columns) 0 l.arrays ≡ None)

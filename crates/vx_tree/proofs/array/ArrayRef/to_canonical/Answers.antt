@@ -1,7 +1,0 @@
-use Rattle.std.proofs.Common.{sym, ◌∙◌}
-use Rattle.vx_tree.proofs.PlainTests.{plain_itself}
-use Rattle.vx_tree.proofs.array.ArrayRef.to_canonical.Goals as goal
-
-pub returns-then-is_plain-clause-canonical : goal.returns-then-is_plain-clause-canonical
-returns-then-is_plain-clause-canonical c =
-    plain_itself c.args.self.now c.in_ok-try_clone.field-0 (sym c.is_plain.ensures ∙ c.if-is_plain.true) c.in_ok-try_clone.ensures

@@ -1,8 +1,0 @@
-use Rattle.std.proofs.Common.{◌≡◌, map, take}
-use Rattle.std.specs.List.{flat_map}
-use Rattle.vx_base.specs.ValueRows.{option_row}
-use Rattle.vx_tree.specs.RowParts.{items_in}
-use Rattle.vx_tree.proofs.canonical_nested.items_of.Given as goal
-
-abbrev pub invariant-loop-value : goal.invariant-loop-value
-invariant-loop-value l = map option_row l.rows.items ≡ flat_map items_in (map option_row (take l.value-index l.values))

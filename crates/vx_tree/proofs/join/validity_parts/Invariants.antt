@@ -1,6 +1,0 @@
-use Rattle.std.proofs.Common.{take}
-use Rattle.vx_tree.specs.Joined.{ArePartsOf}
-use Rattle.vx_tree.proofs.join.validity_parts.Given as goal
-
-abbrev pub invariant-loop-array : goal.invariant-loop-array
-invariant-loop-array l = ArePartsOf (take l.array-index l.arrays) l.parts.items

@@ -1,9 +1,0 @@
-use Rattle.std.proofs.Common.{arith}
-use Rattle.std.proofs.lemmas.Grind.{common_steps}
-use Rattle.vx_tree.proofs.layouts.primitive.joined_bytes.Goals as goal
-
-pub loop-array-preserved : goal.loop-array-preserved
-loop-array-preserved c = grind (arith, common_steps)
-
-pub returns : goal.returns
-returns c = grind (arith, common_steps)

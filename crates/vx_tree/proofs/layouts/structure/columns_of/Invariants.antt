@@ -1,6 +1,0 @@
-use Rattle.std.proofs.Common.{◌≡◌, map, take}
-use Rattle.vx_tree.specs.Joined.{column_of}
-use Rattle.vx_tree.proofs.layouts.structure.columns_of.Given as goal
-
-abbrev pub invariant-loop-array : goal.invariant-loop-array
-invariant-loop-array l = l.list.items ≡ map (column_of l.place) (take l.array-index l.arrays)
