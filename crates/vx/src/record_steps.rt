@@ -6,8 +6,8 @@ use crate::step_arrays::{
 use std::alloc::Global;
 use std::test::Fail;
 use vx_base::{FieldName, VortexError};
-use vx_lists::{StructArray, StructArrayExt};
 use vx_run::{Step, run};
+use vx_structs::{StructArray, StructArrayExt};
 use vx_tree::{ArrayRef, TypedArray};
 
 // More levels than the stack of `rt try` has room for, where each is let go by the one above it.

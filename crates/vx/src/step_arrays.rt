@@ -3,8 +3,9 @@
 use std::alloc::Global;
 use vx_base::{BitBuffer, FieldName, FieldNames, NativePType, VortexError};
 use vx_leaves::{BoolArray, PrimitiveArray};
-use vx_lists::{ListViewArray, ListViewArrayExt, StructArray, StructArrayExt};
+use vx_lists::{ListViewArray, ListViewArrayExt};
 use vx_run::{Step, run};
+use vx_structs::{StructArray, StructArrayExt};
 use vx_tree::{ArrayRef, TypedArray, Validity};
 
 // Numbers, none of them null.

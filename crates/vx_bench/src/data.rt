@@ -10,7 +10,8 @@ use vx_base::{
     ScalarValue, ScalarValues,
 };
 use vx_leaves::{BoolArray, ConstantArray, DictArray, PrimitiveArray};
-use vx_lists::{FixedSizeListArray, ListViewArray, StructArray};
+use vx_lists::{FixedSizeListArray, ListViewArray};
+use vx_structs::StructArray;
 use vx_text::VarBinViewArray;
 use vx_tree::{ArrayRef, TypedArray, Validity};
 use vx_views::{BinaryView, MAX_BUFFER_LEN, build_views};

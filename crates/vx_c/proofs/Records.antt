@@ -6,7 +6,7 @@ use Rattle.std.proofs.lemmas.Iterator.{YieldsList, items_from_drains}
 use Rattle.vx_base.specs.declared.errors.VortexError.{VortexError}
 use Rattle.vx_base.specs.Refusals.{Refusal, IsMemoryOr}
 use Rattle.vx_tree.specs.Tree.{Tree}
-use Rattle.vx_lists.specs.Structs.Faults.{IsMadeOf, AreFaulty}
+use Rattle.vx_structs.specs.Structs.Faults.{IsMadeOf, AreFaulty}
 
 map_same : (ts : List Tree) → map (λ t. t) ts ≡ ts
 map_same [] = refl

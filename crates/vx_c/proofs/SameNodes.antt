@@ -5,7 +5,7 @@ use Rattle.std.specs.Global.{Vec}
 use Rattle.std.proofs.lemmas.Simd.{map-map}
 use Rattle.vx_base.specs.Kinds.{Kind, texts, binaries}
 use Rattle.vx_base.specs.Refusals.{or_else}
-use Rattle.vx_lists.specs.Structs.Faults.{struct_fault}
+use Rattle.vx_structs.specs.Structs.Faults.{struct_fault}
 use Rattle.vx_text.specs.TextFaults.{view_array_fault}
 use Rattle.vx_text.specs.Texts.{array_of_views}
 use Rattle.vx_tree.specs.Meaning.{nullable, trees_from}

@@ -21,7 +21,7 @@ use Rattle.vx_views.proofs.FaultyViews.{views_fault-AreSoundViews}
 use Rattle.vx_leaves.specs.Spread.{whole_fault}
 use Rattle.vx_lists.specs.FixedSizeLists.{element_count_fault, fixed_list_fault}
 use Rattle.vx_lists.specs.ListViews.Faults.{list_row_fault, list_rows_fault, list_parts_fault, list_view_fault, count_type_fault, sizes_len_fault, whole_at}
-use Rattle.vx_lists.specs.Structs.Faults.{column_lens_fault, columns_fault, struct_fault}
+use Rattle.vx_structs.specs.Structs.Faults.{column_lens_fault, columns_fault, struct_fault}
 use Rattle.vx_text.specs.Texts.{array_of_views}
 use Rattle.vx_text.specs.TextFaults.{view_array_fault, parts_fault, value_type_fault, nullability_fault, is_values}
 use Rattle.vx_tree.specs.Faults.{length_fault, valid_type_fault, valid_len_fault, validity_fault}

@@ -14,7 +14,7 @@ use Rattle.vx_leaves.specs.Dictionaries.{dictionary_fault}
 use Rattle.vx_leaves.specs.Spread.{whole_fault}
 use Rattle.vx_lists.specs.FixedSizeLists.{fixed_list_fault}
 use Rattle.vx_lists.specs.ListViews.Faults.{list_view_fault}
-use Rattle.vx_lists.specs.Structs.Faults.{struct_fault}
+use Rattle.vx_structs.specs.Structs.Faults.{struct_fault}
 use Rattle.vx_text.specs.Texts.{array_of_views}
 use Rattle.vx_text.specs.TextFaults.{view_array_fault}
 use Rattle.vx_c.specs.declared.table.CodraskNode.{CodraskNode}

@@ -3,7 +3,7 @@
 use std::alloc::Global;
 use std::test::Fail;
 use vx_base::{Buffer, DType, Nullability, PType, VortexError};
-use vx_lists::{StructArray, StructArrayExt};
+use vx_structs::{StructArray, StructArrayExt};
 use vx_test_help::ints;
 use vx_tree::{ArrayRef, TypedArray, Validity};
 

@@ -7,7 +7,7 @@ use crate::random::Random;
 use crate::scale::Scale;
 use std::alloc::Global;
 use vx_base::{FieldName, PType};
-use vx_lists::{StructArray, StructArrayExt};
+use vx_structs::{StructArray, StructArrayExt};
 use vx_tree::{ArrayRef, TypedArray, Validity};
 
 // The columns that are chosen of a table: no lists, since each batch of a list view has all of its

@@ -6,7 +6,8 @@ use crate::texts::names;
 use std::alloc::Global;
 use vx_base::{BitBuffer, Buffer, FieldNames, PType};
 use vx_leaves::{BoolArray, DictArray, PrimitiveArray};
-use vx_lists::{FixedSizeListArray, ListViewArray, StructArray};
+use vx_lists::{FixedSizeListArray, ListViewArray};
+use vx_structs::StructArray;
 use vx_tree::{ArrayRef, TypedArray, Validity};
 
 pub(crate) fn bool_array(alloc: Global, bits: BitBuffer) -> Result<ArrayRef, Fault> {

@@ -8,7 +8,7 @@ use crate::scale::Scale;
 use std::alloc::Global;
 use vx_base::PType;
 use vx_leaves::{BoolArray, BoolArrayExt};
-use vx_lists::StructArray;
+use vx_structs::StructArray;
 use vx_tree::{ArrayRef, TypedArray, Validity};
 
 // The names of the columns of records.

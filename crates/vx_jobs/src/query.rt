@@ -9,7 +9,7 @@ use std::alloc::Global;
 use vx_base::{BitBuffer, Buffer, Mask};
 use vx_canonical::ToCanonical;
 use vx_leaves::PrimitiveArray;
-use vx_lists::{StructArray, StructArrayExt};
+use vx_structs::{StructArray, StructArrayExt};
 use vx_tree::{ArrayRef, TypedArray, Validity};
 
 // The rows of a batch at which the bits are true.

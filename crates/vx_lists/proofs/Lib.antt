@@ -1,4 +1,3 @@
 pub mod ListViews
 pub mod ListLaws
-pub mod Records
 pub mod FixedSizeLists

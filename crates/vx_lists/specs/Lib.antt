@@ -1,3 +1,2 @@
 pub mod ListViews
 pub mod FixedSizeLists
-pub mod Structs

@@ -1,11 +1,7 @@
-//! Laws of list layouts and of columns. Each function stands for the law that its clause states.
+//! Laws of list layouts. Each function stands for the law that its clause states.
 
-mod columns;
 mod lists;
 
-pub use crate::laws::columns::{
-    a_column_added_is_removed, pushed_fields_are_null_with_their_records,
-};
 pub use crate::laws::lists::{
     alike_views_have_equal_places, canonical_is_exact, canonical_is_tidy,
     canonical_len_is_valid_total, canonical_offset_is_sum, canonical_rows_are_exact,

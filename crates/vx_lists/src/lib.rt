@@ -1,10 +1,9 @@
-//! Columns of lists and of records: the one layout that rows of lists fix, and their arrays.
+//! Columns of lists: the one layout that their rows fix, and their arrays.
 #![tactic(auto)]
 
 mod fixed_size_list;
 pub mod laws;
 mod list_view;
-mod structs;
 
 pub use crate::fixed_size_list::array::FixedSizeListArray;
 pub use crate::fixed_size_list::data::FixedSizeListData;
@@ -15,6 +14,3 @@ pub use crate::list_view::array::ListViewArray;
 pub use crate::list_view::data::ListViewData;
 pub use crate::list_view::ext::{ListViewArrayExt, ListViewDataParts, ListViewSlots};
 pub use crate::list_view::rebuild::ListViewRebuildMode;
-pub use crate::structs::array::StructArray;
-pub use crate::structs::ext::{StructArrayExt, StructDataParts, StructSlots};
-pub use crate::structs::unmasked_fields::UnmaskedFields;

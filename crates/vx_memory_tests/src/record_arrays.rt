@@ -9,8 +9,8 @@ use crate::samples::{first_and_last, numbers, one_name, records};
 use crate::typed::{is_same, typed};
 use std::alloc::Global;
 use vx_base::{FieldNames, VortexError};
-use vx_lists::{StructArray, StructArrayExt};
 use vx_memory_help::{Compare, End, are_alike, deep, judged};
+use vx_structs::{StructArray, StructArrayExt};
 use vx_tree::{ArrayRef, TypedArray, Validity};
 
 // Records of numbers `a` and truth values `b`, the second null.

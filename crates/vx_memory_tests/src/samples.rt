@@ -3,7 +3,8 @@
 use std::alloc::Global;
 use vx_base::{BitBuffer, Buffer, FieldName, NativePType, Nullability, PType, Scalar, VortexError};
 use vx_leaves::{BoolArray, DictArray, PrimitiveArray};
-use vx_lists::{FixedSizeListArray, ListViewArray, StructArray};
+use vx_lists::{FixedSizeListArray, ListViewArray};
+use vx_structs::StructArray;
 use vx_text::VarBinViewArray;
 use vx_tree::{ArrayRef, IntoArray, TypedArray, Validity};
 

@@ -9,9 +9,10 @@ use vx_base::{BitBuffer, Buffer, Mask, Nullability, VortexError};
 use vx_leaves::{BoolArray, DictArray, PrimitiveArray, PrimitiveArrayExt};
 use vx_lists::{
     FixedSizeListArray, FixedSizeListArrayExt, FixedSizeListData, ListViewArray, ListViewArrayExt,
-    ListViewData, StructArray, StructArrayExt,
+    ListViewData,
 };
 use vx_memory_help::{End, judged};
+use vx_structs::{StructArray, StructArrayExt};
 use vx_text::{VarBinViewArray, VarBinViewArrayExt, VarBinViewData};
 use vx_tree::{ArrayRef, TypedArray, Validity};
 

@@ -10,10 +10,10 @@ use Rattle.vx_tree.specs.Tree.{Tree, bools, primitive, constant, dictionary, fix
 use Rattle.vx_tree.specs.Meaning.{kind_of, rows}
 use Rattle.vx_tree.specs.Shapes.{tree_state}
 use Rattle.vx_tree.specs.Validities.{is_full_state}
-use Rattle.vx_lists.specs.Structs.Records.{projected, with_column, without_column, pushed, names_in}
-use Rattle.vx_lists.specs.Structs.Records.{projected_kind, kind_with_column, kind_without, kind_without_column, pushed_kind}
-use Rattle.vx_lists.specs.Structs.Faults.{unknown_fault}
-use Rattle.vx_lists.specs.Structs.{is_struct, names_of, IsProjected, added, removed, IsPushed}
+use Rattle.vx_structs.specs.Structs.Records.{projected, with_column, without_column, pushed, names_in}
+use Rattle.vx_structs.specs.Structs.Records.{projected_kind, kind_with_column, kind_without, kind_without_column, pushed_kind}
+use Rattle.vx_structs.specs.Structs.Faults.{unknown_fault}
+use Rattle.vx_structs.specs.Structs.{is_struct, names_of, IsProjected, added, removed, IsPushed}
 use Rattle.vx_run.specs.declared.steps.Step.TheVariants.{Project, WithColumn, RemoveColumn, PushValidity}
 use Rattle.vx_run.specs.Steps.{names_without, array_at, records_fault, step_fault, IsStep}
 use Rattle.vx_run.proofs.StepResults.{named_rows-same}

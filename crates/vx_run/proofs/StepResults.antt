@@ -27,7 +27,7 @@ use Rattle.vx_lists.specs.declared.list_view.rebuild.ListViewRebuildMode.TheVari
 use Rattle.vx_lists.specs.ListViews.References.{IsTrimmedToBounds}
 use Rattle.vx_lists.specs.ListViews.Faults.{rebuild_fault}
 use Rattle.vx_lists.specs.ListViews.{flag_of, with_flag, IsRebuilt}
-use Rattle.vx_lists.specs.Structs.Records.{names_in}
+use Rattle.vx_structs.specs.Structs.Records.{names_in}
 use Rattle.vx_lists.specs.ListViews.Modes.{IsMadeBy, IsRebuiltBy}
 use Rattle.vx_run.specs.declared.steps.Step.TheVariants.{Slice, Take, Filter, Mask, Concat, Canonical, Rebuild, Narrow}
 use Rattle.vx_run.specs.Steps.{named_rows, rows_of, joined_names, array_at, arrays_at, joined_kind, narrowed_kind, IsStep}

@@ -24,10 +24,10 @@ use Rattle.vx_tree.specs.Validities.{is_full_state}
 use Rattle.vx_leaves.specs.Narrow.{narrowed_type, numbers_among, IsNarrowed}
 use Rattle.vx_lists.specs.ListViews.Faults.{rebuild_fault}
 use Rattle.vx_lists.specs.ListViews.Modes.{IsRebuiltBy}
-use Rattle.vx_lists.specs.Structs.Records.{projected, with_column, without_column, pushed, names_in}
-use Rattle.vx_lists.specs.Structs.Records.{projected_kind, kind_with_column, kind_without_column, pushed_kind}
-use Rattle.vx_lists.specs.Structs.Faults.{names_fault, unknown_fault}
-use Rattle.vx_lists.specs.Structs.{is_struct, names_of, IsProjected, added, removed, IsPushed}
+use Rattle.vx_structs.specs.Structs.Records.{projected, with_column, without_column, pushed, names_in}
+use Rattle.vx_structs.specs.Structs.Records.{projected_kind, kind_with_column, kind_without_column, pushed_kind}
+use Rattle.vx_structs.specs.Structs.Faults.{names_fault, unknown_fault}
+use Rattle.vx_structs.specs.Structs.{is_struct, names_of, IsProjected, added, removed, IsPushed}
 use Rattle.vx_run.specs.declared.steps.Step.{Step}
 use Rattle.vx_run.specs.declared.steps.Step.TheVariants.{Slice, Take, Filter, Mask, Concat, Canonical, Rebuild, Narrow}
 use Rattle.vx_run.specs.declared.steps.Step.TheVariants.{Project, WithColumn, RemoveColumn, PushValidity}

@@ -8,7 +8,7 @@ use crate::run_steps::{array_at, typed, typed_at};
 use crate::steps::Step;
 use std::alloc::Global;
 use vx_base::{FieldName, VortexError};
-use vx_lists::{StructArray, StructArrayExt};
+use vx_structs::{StructArray, StructArrayExt};
 use vx_tree::{ArrayRef, TypedArray};
 
 // Records with the first field of each of these names.

@@ -14,7 +14,8 @@ use crate::steps::Step;
 use std::alloc::Global;
 use std::mem;
 use vx_leaves::DictArray;
-use vx_lists::{FixedSizeListArray, ListViewArray, StructArray};
+use vx_lists::{FixedSizeListArray, ListViewArray};
+use vx_structs::StructArray;
 use vx_tree::{ArrayRef, TypedArray, Validity};
 
 // The arrays that a script has made, by the numbers of their registers.

@@ -11,7 +11,7 @@ mod pushed;
 
 use std::alloc::Global;
 use vx_base::{DType, FieldNames, Nullability, PType, VortexError};
-use vx_lists::{StructArray, StructArrayExt, StructDataParts, StructSlots};
+use vx_structs::{StructArray, StructArrayExt, StructDataParts, StructSlots};
 use vx_test_help::{bools, has_numbers_or_nulls, ints, valid_where};
 use vx_tree::{ArrayRef, TypedArray, Validity};
 

@@ -6,7 +6,7 @@ use Rattle.vx_base.specs.Rows.{Row}
 use Rattle.vx_canonical.specs.Concatenated.{concat_fault}
 use Rattle.vx_tree.specs.Meaning.{rows}
 use Rattle.vx_tree.specs.Tree.{Tree}
-use Rattle.vx_lists.specs.Structs.{column_named, with_columns}
+use Rattle.vx_structs.specs.Structs.{column_named, with_columns}
 
 -- the rows of a column: none where there is no column
 abbrev pub rows_in : Option Tree → List Row

@@ -5,15 +5,15 @@ ghost use Rattle.std.specs.Option.{option_map};
 ghost use Rattle.vx_base.specs.Refusals.{Refuses, or_else};
 ghost use Rattle.vx_canonical.specs.Concatenated.{concat_fault};
 ghost use Rattle.vx_tree.specs.Meaning.{kind_of, rows};
-ghost use Rattle.vx_lists.specs.Structs.Faults.{names_fault};
-ghost use Rattle.vx_lists.specs.Structs.Records.{projected, projected_kind};
-ghost use Rattle.vx_lists.specs.Structs.{column_named, names_of};
+ghost use Rattle.vx_structs.specs.Structs.Faults.{names_fault};
+ghost use Rattle.vx_structs.specs.Structs.Records.{projected, projected_kind};
+ghost use Rattle.vx_structs.specs.Structs.{column_named, names_of};
 ghost use Rattle.vx_uses.specs.Tables.{chosen, join_fault, rows_named};
 
 use std::alloc::Global;
 use vx_base::{FieldName, VortexError};
 use vx_canonical::Concatenate;
-use vx_lists::{StructArray, StructArrayExt};
+use vx_structs::{StructArray, StructArrayExt};
 use vx_tree::{ArrayRef, TypedArray};
 
 /// The columns of a name of two tables, joined: the rows of the first column of that name, those of

@@ -9,7 +9,7 @@ use crate::made::Made;
 use crate::operation::Operation;
 use std::alloc::Global;
 use vx_base::{FieldName, FieldNames, VortexError};
-use vx_lists::{StructArray, StructArrayExt};
+use vx_structs::{StructArray, StructArrayExt};
 use vx_tree::{ArrayRef, TypedArray, Validity};
 
 // The names of five columns.

@@ -7,7 +7,7 @@ ghost use Rattle.vx_tree.specs.Meaning.{tree_len};
 use std::alloc::Global;
 use std::test::Fail;
 use vx_base::{FieldNames, VortexError};
-use vx_lists::{StructArray, StructArrayExt};
+use vx_structs::{StructArray, StructArrayExt};
 use vx_test_help::{Boasting, has_numbers, ints};
 use vx_tree::{ArrayRef, TypedArray, Validity};
 

@@ -4,7 +4,8 @@
 use super::has_ranges;
 use std::alloc::Global;
 use vx_base::{FieldNames, VortexError};
-use vx_lists::{ListViewArray, ListViewRebuildMode, StructArray, StructArrayExt};
+use vx_lists::{ListViewArray, ListViewRebuildMode};
+use vx_structs::{StructArray, StructArrayExt};
 use vx_test_help::ints;
 use vx_text::VarBinViewArray;
 use vx_tree::{ArrayRef, TypedArray, Validity};

@@ -3,7 +3,7 @@
 use super::{is_true_false, two_records};
 use std::alloc::Global;
 use vx_base::{FieldName, VortexError};
-use vx_lists::{StructArray, StructArrayExt};
+use vx_structs::{StructArray, StructArrayExt};
 use vx_test_help::{bools, has_numbers_or_nulls, ints, valid_where};
 use vx_tree::{ArrayRef, TypedArray, Validity};
 

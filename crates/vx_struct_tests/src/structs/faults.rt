@@ -3,7 +3,7 @@
 use super::{both, one, two_records};
 use std::alloc::Global;
 use vx_base::{FieldNames, VortexError};
-use vx_lists::{StructArray, StructArrayExt};
+use vx_structs::{StructArray, StructArrayExt};
 use vx_test_help::{bools, ints, valid_where};
 use vx_tree::{ArrayRef, Validity};
 

@@ -3,7 +3,7 @@
 use super::{both, two_records};
 use std::alloc::Global;
 use vx_base::{FieldNames, VortexError};
-use vx_lists::{StructArray, StructArrayExt};
+use vx_structs::{StructArray, StructArrayExt};
 use vx_test_help::{has_numbers_or_nulls, ints};
 use vx_tree::{TypedArray, Validity};
 

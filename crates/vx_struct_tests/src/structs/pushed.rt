@@ -2,7 +2,7 @@
 
 use std::alloc::Global;
 use vx_base::{Nullability, VortexError};
-use vx_lists::{StructArray, StructArrayExt};
+use vx_structs::{StructArray, StructArrayExt};
 use vx_test_help::{has_numbers_or_nulls, ints, valid_where};
 use vx_tree::{ArrayRef, TypedArray, Validity};
 

@@ -2,7 +2,7 @@
 
 use std::alloc::Global;
 use vx_base::{FieldName, VortexError};
-use vx_lists::{StructArray, StructArrayExt};
+use vx_structs::{StructArray, StructArrayExt};
 use vx_test_help::{bools, has_numbers, ints};
 use vx_tree::TypedArray;
 use vx_uses::tables::{joined_column, joined_columns};

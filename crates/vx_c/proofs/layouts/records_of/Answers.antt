@@ -2,8 +2,8 @@ use Rattle.std.proofs.Common.{◌≡◌, ◌∙◌, length, arith}
 use Rattle.std.proofs.lemmas.Iterator.Adapters.{YieldsList-from_vec}
 use Rattle.std.proofs.lemmas.Result.{err_from_is_err_and}
 use Rattle.std.specs.Vec.Iter.{into_iter_len}
-use Rattle.vx_lists.specs.Structs.Faults.{struct_fault}
-use Rattle.vx_lists.specs.Structs.{records_by}
+use Rattle.vx_structs.specs.Structs.Faults.{struct_fault}
+use Rattle.vx_structs.specs.Structs.{records_by}
 use Rattle.vx_tree.specs.Parts.{valid_of}
 use Rattle.vx_c.proofs.Records.{records-made, records-faultless, records-refused}
 use Rattle.vx_c.proofs.layouts.records_of.Goals as goal

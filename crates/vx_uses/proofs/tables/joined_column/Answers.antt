@@ -2,7 +2,7 @@ use Rattle.std.proofs.Common.{◌≡◌, Some, sym, ◌∙◌, ap}
 use Rattle.std.specs.Option.{option_map}
 use Rattle.std.proofs.lemmas.Result.{IfOk-weaker}
 use Rattle.vx_tree.specs.Meaning.{kind_of}
-use Rattle.vx_lists.specs.Structs.{column_named}
+use Rattle.vx_structs.specs.Structs.{column_named}
 use Rattle.vx_uses.proofs.JoinedTables.{of_first, of_second}
 use Rattle.vx_uses.proofs.tables.joined_column.Goals as goal
 

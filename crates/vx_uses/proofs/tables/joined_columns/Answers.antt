@@ -5,9 +5,9 @@ use Rattle.vx_base.specs.Refusals.{Refuses, or_else}
 use Rattle.vx_base.proofs.FirstFaults.{or_else-second}
 use Rattle.vx_canonical.specs.Concatenated.{concat_fault}
 use Rattle.vx_tree.specs.Meaning.{kind_of, rows}
-use Rattle.vx_lists.specs.Structs.Faults.{names_fault}
-use Rattle.vx_lists.specs.Structs.Records.{projected, projected_kind}
-use Rattle.vx_lists.specs.Structs.{AreConcatenated, names_of}
+use Rattle.vx_structs.specs.Structs.Faults.{names_fault}
+use Rattle.vx_structs.specs.Structs.Records.{projected, projected_kind}
+use Rattle.vx_structs.specs.Structs.{AreConcatenated, names_of}
 use Rattle.vx_uses.specs.Tables.{chosen}
 use Rattle.vx_uses.proofs.JoinedTables.{of_first, of_second, made_of_lent, lent_refuse, projected_is_chosen}
 use Rattle.vx_uses.proofs.TwoFaults.{refuses_after}

@@ -1,5 +1,0 @@
-use Rattle.vx_lists.proofs.Records.PushedNulls.{pushed_field}
-use Rattle.vx_lists.proofs.laws.columns.pushed_fields_are_null_with_their_records.Goals as goal
-
-pub returns : goal.returns
-returns c = pushed_field

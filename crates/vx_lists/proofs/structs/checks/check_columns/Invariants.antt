@@ -1,6 +1,0 @@
-use Rattle.std.proofs.Common.{◌≡◌, drop}
-use Rattle.vx_lists.specs.Structs.Faults.{column_lens_fault}
-use Rattle.vx_lists.proofs.structs.checks.check_columns.Given as goal
-
-abbrev pub invariant-loop-column : goal.invariant-loop-column
-invariant-loop-column l = column_lens_fault l.len l.columns ≡ column_lens_fault l.len (drop l.column-index l.columns)
