@@ -3,8 +3,8 @@
 mod bool;
 pub(crate) mod constant;
 mod dict;
-pub(crate) mod fixed_size_list;
-pub(crate) mod list_view;
-pub(crate) mod primitive;
+mod fixed_size_list;
+mod list_view;
+mod primitive;
 pub(crate) mod structure;
 pub(crate) mod var_bin_view;
