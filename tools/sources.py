@@ -270,7 +270,8 @@ class Crate:
                 trait, owner = parts_of_impl(item) if item.kind == 'impl' else ('', item.name())
                 if item.kind == 'fn' and self.reaches(module, item):
                     yield Function('', path, item.at + 1, item)
-                elif item.kind in ('impl', 'trait') and owner in self.public and (not trait or trait in self.public):
+                elif item.kind in ('impl', 'trait') and (owner not in self.own - self.public if trait in self.public else
+                                                         owner in self.public and not trait):
                     is_open = bool(trait) or item.kind == 'trait'
                     for member in members_of(item):
                         if member.kind == 'fn' and (is_open or member.is_public()):
