@@ -7,22 +7,17 @@
 //! checksum. The exit status is 0, or 1 where the words are not understood or something fails.
 #![tactic(auto)]
 
-mod checksum;
-mod data;
-mod fault;
-mod made;
-mod operation;
-mod operations;
+mod steps;
 
-use crate::data::Scale;
-use crate::fault::Fault;
-use crate::operation::{Bench, Report};
-use crate::operations::{OPERATIONS, measure};
 use std::env;
 use std::process::ExitCode;
+use vx_timed::{Bench, Fault, Report, Scale, measure, measure_all};
 
 // How many rows there are where the arguments do not say.
 const ROWS: u32 = 1_000_000;
+
+// The names of the operations of steps, which stand last.
+const STEPS: [&str; 2] = ["steps_run", "steps_direct"];
 
 // Each operation once, on a thousand rows.
 fn run_all(rt: &HostRuntime) -> Result<(), Fault> {
@@ -30,11 +25,26 @@ fn run_all(rt: &HostRuntime) -> Result<(), Fault> {
         scale: Scale::of_rows(1_000),
         report: Report::Checksum,
     };
-    for name in OPERATIONS {
+    measure_all(rt, &bench)?;
+    for name in STEPS {
         print!(rt; "{name} ")?;
-        measure(rt, &bench, name)?;
+        measure_steps(rt, &bench, name)?;
     }
     Ok(())
+}
+
+// Measures a list of steps, or the same calls.
+fn measure_steps(rt: &HostRuntime, bench: &Bench, name: &str) -> Result<(), Fault> {
+    bench.measure(rt, steps::ready(rt.alloc(), bench.scale, name)?)
+}
+
+// Measures the operation of a name.
+fn measure_named(rt: &HostRuntime, bench: &Bench, name: &str) -> Result<(), Fault> {
+    let (verb, _rest) = name.split_once('_').unwrap_or((name, ""));
+    if verb == "steps" {
+        return measure_steps(rt, bench, name);
+    }
+    measure(rt, bench, name)
 }
 
 // The runs and the rows that the arguments after the operation ask for.
@@ -59,7 +69,7 @@ fn start(rt: &HostRuntime) -> Result<(), Fault> {
     };
     let (runs, rows) = (words.next(), words.next());
     match asked(runs.as_deref(), rows.as_deref()) {
-        Some(bench) => measure(rt, &bench, &name),
+        Some(bench) => measure_named(rt, &bench, &name),
         None => Err(Fault::Usage),
     }
 }

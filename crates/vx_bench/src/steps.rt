@@ -1,14 +1,11 @@
 // A list of eight steps, and the same calls made directly.
 
-use crate::data::{Scale, limit_of, numbers_below, truths};
-use crate::fault::Fault;
-use crate::made::Made;
-use crate::operation::Operation;
 use std::alloc::Global;
 use vx_base::Mask;
 use vx_canonical::{Concatenate, ToCanonical};
 use vx_leaves::{PrimitiveArray, PrimitiveArrayExt};
 use vx_run::{Step, run};
+use vx_timed::{Fault, Made, Operation, Scale, limit_of, numbers_below, truths};
 use vx_tree::{ArrayRef, TypedArray, Validity};
 
 // Numbers, indices of half of the rows, and truth values.

@@ -6,33 +6,35 @@ use crate::made::Made;
 use std::alloc::Global;
 use std::time::Instant;
 
-// An operation over data that is ready.
-pub(crate) trait Operation {
-    // The operation: this alone is timed.
+/// An operation over data that is ready.
+pub trait Operation {
+    /// The operation: this alone is timed.
     fn run(&mut self, alloc: Global) -> Result<Made, Fault>;
 }
 
-// What is printed.
+/// What is printed.
 #[derive(Drop)]
-pub(crate) enum Report {
-    // The checksum of one run.
+pub enum Report {
+    /// The checksum of one run.
     Checksum,
-    // Nanoseconds and checksum of each of some runs.
+    /// Nanoseconds and checksum of each of some runs.
     Times { runs: usize },
 }
 
-// How operations are measured.
+/// How operations are measured.
 #[derive(Drop)]
-pub(crate) struct Bench {
-    pub(crate) scale: Scale,
-    pub(crate) report: Report,
+pub struct Bench {
+    /// How much data they have.
+    pub scale: Scale,
+    /// What is printed of them.
+    pub report: Report,
 }
 
 // Runs the operation so many times, and once where that is 0: each result but the last is let go at
 // once.
 fn run_often<O: Operation>(operation: &mut O, alloc: Global, times: usize) -> Result<Made, Fault> {
     for _ in 1..times {
-        let _made = operation.run(alloc)?;
+        drop(operation.run(alloc)?);
     }
     operation.run(alloc)
 }
@@ -65,8 +67,8 @@ impl Bench {
         Ok(())
     }
 
-    // Measures an operation whose data is ready.
-    pub(crate) fn measure<O: Operation + Drop>(
+    /// Measures an operation whose data is ready.
+    pub fn measure<O: Operation + Drop>(
         &self,
         rt: &HostRuntime,
         operation: O,

@@ -16,19 +16,20 @@ use vx_text::VarBinViewArray;
 use vx_tree::{ArrayRef, TypedArray, Validity};
 use vx_views::{BinaryView, MAX_BUFFER_LEN, build_views};
 
-// How much data there is.
+/// How much data there is.
 #[derive(Clone, Copy)]
-pub(crate) struct Scale {
+pub struct Scale {
     rows: u32,
 }
 
 impl Scale {
-    // So many rows.
-    pub(crate) fn of_rows(rows: u32) -> Scale {
+    /// So many rows.
+    pub fn of_rows(rows: u32) -> Scale {
         Scale { rows }
     }
 
-    pub(crate) fn rows(self) -> usize
+    /// How many rows these are.
+    pub fn rows(self) -> usize
         ensures { result < 4294967296 }
     {
         self.rows as usize
@@ -70,8 +71,8 @@ impl Random {
     }
 }
 
-// A limit of random numbers that are places: all of them, or as many as an u32 can tell.
-pub(crate) fn limit_of(places: usize) -> u32 {
+/// A limit of random numbers that are places: all of them, or as many as an u32 can tell.
+pub fn limit_of(places: usize) -> u32 {
     u32::try_from(places).unwrap_or(u32::MAX)
 }
 
@@ -175,13 +176,8 @@ pub(crate) fn number_array(alloc: Global, numbers: Vec<u32>) -> Result<ArrayRef,
     Ok(PrimitiveArray::try_new(alloc, buffer, Validity::NonNullable)?.into_array())
 }
 
-// So many numbers below `limit`, as an array.
-pub(crate) fn numbers_below(
-    alloc: Global,
-    rows: usize,
-    limit: u32,
-    seed: u64,
-) -> Result<ArrayRef, Fault> {
+/// So many numbers below `limit`, as an array.
+pub fn numbers_below(alloc: Global, rows: usize, limit: u32, seed: u64) -> Result<ArrayRef, Fault> {
     number_array(alloc, random_numbers(alloc, rows, limit, seed)?)
 }
 
@@ -200,8 +196,8 @@ pub(crate) fn bool_array(alloc: Global, bits: BitBuffer) -> Result<ArrayRef, Fau
     Ok(BoolArray::try_new(alloc, bits, Validity::NonNullable)?.into_array())
 }
 
-// So many truth values, of which one in `limit` is false, as an array.
-pub(crate) fn truths(alloc: Global, rows: usize, limit: u32, seed: u64) -> Result<ArrayRef, Fault> {
+/// So many truth values, of which one in `limit` is false, as an array.
+pub fn truths(alloc: Global, rows: usize, limit: u32, seed: u64) -> Result<ArrayRef, Fault> {
     bool_array(alloc, random_bits(alloc, rows, limit, seed)?)
 }
 

@@ -7,28 +7,32 @@ use vx_lists::ListViewArray;
 use vx_tree::{ArrayRef, Validity};
 use vx_views::BinaryView;
 
-// What an operation made.
+/// What an operation made.
 #[derive(Drop)]
-pub(crate) enum Made {
-    // An array: its parts and its validity are summed.
+pub enum Made {
+    /// An array: its parts and its validity are summed.
     Array(ArrayRef),
-    // Lists: offsets, sizes and elements are summed.
+    /// Lists: offsets, sizes and elements are summed.
     Lists(ListViewArray),
-    // Texts: their views and their buffers are summed.
+    /// Texts: their views and their buffers are summed.
     Texts(ArrayRef),
-    // A validity: its truth values are summed, where it has some.
+    /// A validity: its truth values are summed, where it has some.
     Validity(Validity),
-    // Views and the buffers that they refer to.
+    /// Views and the buffers that they refer to.
     Views(Vec<ByteBuffer>, Buffer<BinaryView>),
+    /// Bits.
     Bits(BitBuffer),
-    // Bits that may still be changed.
+    /// Bits that may still be changed.
     Filled(BitBufferMut),
-    // A mask: its true rows are counted.
+    /// A mask: its true rows are counted.
     Mask(Mask),
-    // One number, which is its own sum.
+    /// One number, which is its own sum.
     Number(u64),
+    /// Numbers.
     Numbers(Buffer<u32>),
+    /// Positions.
     Positions(Vec<usize>),
+    /// Bytes, eight of them in a word.
     Bytes(ByteBuffer),
 }
 
@@ -37,7 +41,11 @@ impl Made {
     pub(crate) fn checksum(self) -> Result<u64, Fault> {
         match self {
             Made::Filled(bits) => Ok(Checksum::new().with_bits(&bits.freeze()?).value()),
-            made => Ok(made.sum()),
+            made => {
+                let sum = made.sum();
+                drop(made);
+                Ok(sum)
+            }
         }
     }
 

@@ -4,16 +4,16 @@ use std::alloc::{AllocError, AllocFailed};
 use std::io;
 use vx_base::VortexError;
 
-// Why the program stops before its end.
+/// Why the program stops before its end.
 #[derive(Debug, Drop)]
-pub(crate) enum Fault {
-    // The arguments name no operation, or no number of runs.
+pub enum Fault {
+    /// The arguments name no operation, or no number of runs.
     Usage,
-    // A call of the arrays refused.
+    /// A call of the arrays refused.
     Refused(VortexError),
-    // There was no memory.
+    /// There was no memory.
     Memory,
-    // The clock or the output failed.
+    /// The clock or the output failed.
     Io,
 }
 

@@ -7,7 +7,6 @@ mod lists;
 mod numbers;
 mod records;
 mod runs;
-mod steps;
 mod texts;
 mod trees;
 mod validities;
@@ -17,7 +16,7 @@ use crate::fault::Fault;
 use crate::operation::Bench;
 
 // The names of the operations.
-pub(crate) const OPERATIONS: [&str; 109] = [
+const OPERATIONS: [&str; 107] = [
     "rebuild_in_order",
     "rebuild_at_random",
     "rebuild_in_order_null",
@@ -125,12 +124,19 @@ pub(crate) const OPERATIONS: [&str; 109] = [
     "validity_and",
     "validity_not",
     "validity_patch",
-    "steps_run",
-    "steps_direct",
 ];
 
-// Measures the operation of a name, by the first word of it.
-pub(crate) fn measure(rt: &HostRuntime, bench: &Bench, name: &str) -> Result<(), Fault> {
+/// Measures each operation, and prints its name before what is printed of it.
+pub fn measure_all(rt: &HostRuntime, bench: &Bench) -> Result<(), Fault> {
+    for name in OPERATIONS {
+        print!(rt; "{name} ")?;
+        measure(rt, bench, name)?;
+    }
+    Ok(())
+}
+
+/// Measures the operation of a name, by the first word of it.
+pub fn measure(rt: &HostRuntime, bench: &Bench, name: &str) -> Result<(), Fault> {
     let (verb, rest) = name.split_once('_').unwrap_or((name, ""));
     match verb {
         "take" | "filter" | "kept" | "mask" | "concat" | "canonical" => {
@@ -184,13 +190,12 @@ fn measure_leaves(rt: &HostRuntime, bench: &Bench, name: &str, rest: &str) -> Re
     bench.measure(rt, encodings::ready(alloc, scale, name)?)
 }
 
-// Measures an operation on what arrays are made of, or a list of steps.
+// Measures an operation on what arrays are made of.
 fn measure_parts(rt: &HostRuntime, bench: &Bench, verb: &str, name: &str) -> Result<(), Fault> {
     let (alloc, scale) = (rt.alloc(), bench.scale);
     match verb {
         "build" | "check" => bench.measure(rt, views::ready(alloc, scale, name)?),
         "validity" => bench.measure(rt, validities::ready(alloc, scale, name)?),
-        "steps" => bench.measure(rt, steps::ready(alloc, scale, name)?),
         "bits" | "true" | "and" | "equal" | "fill" | "execute" => {
             bench.measure(rt, bits::ready(alloc, bench, name)?)
         }
