@@ -45,17 +45,17 @@ impl Scale {
 
 // Numbers that look random, the same ones at each start.
 #[derive(Drop)]
-pub(crate) struct Random {
+struct Random {
     state: u64,
 }
 
 impl Random {
-    pub(crate) fn new(seed: u64) -> Random {
+    fn new(seed: u64) -> Random {
         Random { state: seed }
     }
 
     // A number below 2^31.
-    pub(crate) fn number(&mut self) -> u32
+    fn number(&mut self) -> u32
         ensures { result < 2147483648 }
     {
         self.state = self
@@ -66,7 +66,7 @@ impl Random {
     }
 
     // A number below `limit`, or 0 where that is 0.
-    pub(crate) fn below(&mut self, limit: u32) -> u32 {
+    fn below(&mut self, limit: u32) -> u32 {
         self.number() % limit.max(1)
     }
 }
@@ -171,7 +171,7 @@ pub(crate) fn multiples(alloc: Global, count: usize, step: u32) -> Result<Vec<u3
     Ok(numbers)
 }
 
-pub(crate) fn number_array(alloc: Global, numbers: Vec<u32>) -> Result<ArrayRef, Fault> {
+fn number_array(alloc: Global, numbers: Vec<u32>) -> Result<ArrayRef, Fault> {
     let buffer = Buffer::from_vec(alloc, numbers)?;
     Ok(PrimitiveArray::try_new(alloc, buffer, Validity::NonNullable)?.into_array())
 }
@@ -186,10 +186,15 @@ pub(crate) fn numbers(alloc: Global, rows: usize) -> Result<ArrayRef, Fault> {
     numbers_below(alloc, rows, u32::MAX, 6)
 }
 
+// The same, in a buffer.
+pub(crate) fn number_buffer(alloc: Global, rows: usize) -> Result<Buffer<u32>, Fault> {
+    let numbers = random_numbers(alloc, rows, u32::MAX, 6)?;
+    Ok(Buffer::from_vec(alloc, numbers)?)
+}
+
 // The bytes of the same.
 pub(crate) fn number_bytes(alloc: Global, rows: usize) -> Result<ByteBuffer, Fault> {
-    let buffer = Buffer::from_vec(alloc, random_numbers(alloc, rows, u32::MAX, 6)?)?;
-    Ok(buffer.into_byte_buffer(alloc)?)
+    Ok(number_buffer(alloc, rows)?.into_byte_buffer(alloc)?)
 }
 
 pub(crate) fn bool_array(alloc: Global, bits: BitBuffer) -> Result<ArrayRef, Fault> {
@@ -216,6 +221,13 @@ pub(crate) struct ListShape {
     // Whether one row in ten is null.
     pub(crate) some_null: bool,
 }
+
+// Lists of four elements that lie anywhere, none of them null.
+pub(crate) const AT_RANDOM: ListShape = ListShape {
+    size: 4,
+    in_order: false,
+    some_null: false,
+};
 
 // A list view over four numbers a row of the scale.
 pub(crate) fn list_view(
@@ -382,19 +394,28 @@ pub(crate) fn nested_dictionary(alloc: Global, rows: usize) -> Result<ArrayRef, 
     Ok(DictArray::try_new(alloc, codes, values)?.into_array())
 }
 
+// A value in so many rows.
+fn constant(
+    alloc: Global,
+    dtype: DType,
+    value: ScalarValue,
+    rows: usize,
+) -> Result<ArrayRef, Fault> {
+    let scalar = Scalar::try_new(dtype, Some(value))?;
+    Ok(ConstantArray::new(alloc, scalar, rows)?.into_array())
+}
+
 // A number in so many rows.
 pub(crate) fn constant_number(alloc: Global, number: u32, rows: usize) -> Result<ArrayRef, Fault> {
     let dtype = DType::Primitive(PType::U32, Nullability::NonNullable);
-    let scalar = Scalar::try_new(dtype, Some(ScalarValue::Int(number as i128)))?;
-    Ok(ConstantArray::new(alloc, scalar, rows)?.into_array())
+    constant(alloc, dtype, ScalarValue::Int(number as i128), rows)
 }
 
 // A text of 24 bytes in so many rows.
 pub(crate) fn constant_text(alloc: Global, rows: usize) -> Result<ArrayRef, Fault> {
     let text = ByteBuffer::copy_from(alloc, b"the same text everywhere")?;
     let dtype = DType::Utf8(Nullability::NonNullable);
-    let scalar = Scalar::try_new(dtype, Some(ScalarValue::Text(text)))?;
-    Ok(ConstantArray::new(alloc, scalar, rows)?.into_array())
+    constant(alloc, dtype, ScalarValue::Text(text), rows)
 }
 
 // A list of a hundred numbers in so many rows.
@@ -403,11 +424,10 @@ pub(crate) fn constant_list(alloc: Global, rows: usize) -> Result<ArrayRef, Faul
     for number in random_numbers(alloc, 100, u32::MAX, 6)? {
         values.push(Some(ScalarValue::Int(number as i128)))?;
     }
-    let values = ScalarValue::List(ScalarValues::from_vec(alloc, values)?);
+    let values = ScalarValues::from_vec(alloc, values)?;
     let items = DType::Primitive(PType::U32, Nullability::NonNullable);
     let dtype = DType::List(Rc::new(alloc, items)?, Nullability::NonNullable);
-    let scalar = Scalar::try_new(dtype, Some(values))?;
-    Ok(ConstantArray::new(alloc, scalar, rows)?.into_array())
+    constant(alloc, dtype, ScalarValue::List(values), rows)
 }
 
 // Lists of four numbers each that lie anywhere, their sizes a constant.

@@ -61,8 +61,9 @@ impl Bench {
         for _ in 0..self.runs() {
             let start = Instant::now(rt)?;
             let made = run_often(&mut operation, rt.alloc(), times)?;
-            let nanos = start.elapsed(rt)?.as_nanos();
-            self.print(rt, nanos, made.checksum()?)?;
+            let elapsed = start.elapsed(rt);
+            let checksum = made.checksum()?;
+            self.print(rt, elapsed?.as_nanos(), checksum)?;
         }
         Ok(())
     }

@@ -1,6 +1,6 @@
 // Operations on lists.
 
-use crate::data::{ListShape, Scale, list_view, lists_over, numbers_below, text_array};
+use crate::data::{AT_RANDOM, ListShape, Scale, list_view, lists_over, numbers_below, text_array};
 use crate::fault::Fault;
 use crate::made::Made;
 use crate::operation::Operation;
@@ -9,16 +9,10 @@ use vx_base::VortexError;
 use vx_lists::{FixedSizeListArray, ListViewArray, ListViewRebuildMode};
 use vx_tree::{ArrayRef, TypedArray, Validity};
 
-// Lists of four elements in a million rows, and the ways in which they lie.
+// Lists of four elements, one after another.
 const IN_ORDER: ListShape = ListShape {
     size: 4,
     in_order: true,
-    some_null: false,
-};
-
-const AT_RANDOM: ListShape = ListShape {
-    size: 4,
-    in_order: false,
     some_null: false,
 };
 

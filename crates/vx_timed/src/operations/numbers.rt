@@ -1,6 +1,6 @@
 // Operations on numbers.
 
-use crate::data::{Scale, number_array, random_numbers};
+use crate::data::{Scale, number_buffer, number_bytes, numbers};
 use crate::fault::Fault;
 use crate::made::Made;
 use crate::operation::Operation;
@@ -74,21 +74,17 @@ fn write(alloc: Global, counts: &[usize]) -> Result<ByteBuffer, Fault> {
 
 // An operation on numbers.
 pub(crate) fn ready(alloc: Global, scale: Scale, name: &str) -> Result<NumberOperation, Fault> {
-    let numbers = random_numbers(alloc, scale.rows(), u32::MAX, 6)?;
-    if name == "int_at" {
-        return Ok(NumberOperation::IntAt(number_array(alloc, numbers)?));
-    }
-    let numbers = Buffer::from_vec(alloc, numbers)?;
+    let rows = scale.rows();
     match name {
-        "primitive_try_new" => return Ok(NumberOperation::TryNew(numbers)),
-        "into_byte_buffer" => return Ok(NumberOperation::IntoByteBuffer(numbers)),
-        _ => {}
-    }
-    let bytes = numbers.into_byte_buffer(alloc)?;
-    match name {
-        "from_byte_buffer" => Ok(NumberOperation::FromByteBuffer(bytes)),
-        "read_counts" => Ok(NumberOperation::ReadCounts(bytes)),
-        "write_counts" => Ok(NumberOperation::WriteCounts(read(alloc, bytes.as_slice())?)),
+        "primitive_try_new" => Ok(NumberOperation::TryNew(number_buffer(alloc, rows)?)),
+        "int_at" => Ok(NumberOperation::IntAt(numbers(alloc, rows)?)),
+        "into_byte_buffer" => Ok(NumberOperation::IntoByteBuffer(number_buffer(alloc, rows)?)),
+        "from_byte_buffer" => Ok(NumberOperation::FromByteBuffer(number_bytes(alloc, rows)?)),
+        "read_counts" => Ok(NumberOperation::ReadCounts(number_bytes(alloc, rows)?)),
+        "write_counts" => {
+            let bytes = number_bytes(alloc, rows)?;
+            Ok(NumberOperation::WriteCounts(read(alloc, bytes.as_slice())?))
+        }
         _ => Err(Fault::Usage),
     }
 }

@@ -1,7 +1,7 @@
 // Operations on arrays of each layout: rows that are picked, kept, made null, joined.
 
 use crate::data::{
-    ListShape, Scale, bits_in_one_run, bits_in_runs, constant_list, constant_number, constant_text,
+    AT_RANDOM, Scale, bits_in_one_run, bits_in_runs, constant_list, constant_number, constant_text,
     copies, dictionary, fixed_size_lists, list_view, lists_of_one_size, nested_dictionary, numbers,
     numbers_below, random_bits, records, text_array, truths,
 };
@@ -12,12 +12,6 @@ use std::alloc::Global;
 use vx_base::{BitBuffer, Mask, VortexError};
 use vx_canonical::{Concatenate, ToCanonical};
 use vx_tree::{ArrayRef, TypedArray};
-
-const LISTS: ListShape = ListShape {
-    size: 4,
-    in_order: false,
-    some_null: false,
-};
 
 // Arrays, and what picks their rows.
 #[derive(Drop)]
@@ -68,7 +62,7 @@ fn array_of(alloc: Global, scale: Scale, layout: &str) -> Result<ArrayRef, Fault
     match layout {
         "numbers" => numbers(alloc, rows),
         "bools" => truths(alloc, rows, 2, 7),
-        "list_view" => Ok(list_view(alloc, scale, LISTS)?.into_array()),
+        "list_view" => Ok(list_view(alloc, scale, AT_RANDOM)?.into_array()),
         "views" => text_array(alloc, rows),
         "fixed_lists" => fixed_size_lists(alloc, scale),
         "records" => records(alloc, rows),

@@ -1,6 +1,6 @@
 // Operations on views.
 
-use crate::data::{Heap, Scale, Texts, offsets_of, short_texts, text_heap};
+use crate::data::{Heap, Scale, Texts, offsets_of, short_texts, text_heap, text_views};
 use crate::fault::Fault;
 use crate::made::Made;
 use crate::operation::Operation;
@@ -75,8 +75,7 @@ fn views_to_check(
     texts: Texts,
     is_text: bool,
 ) -> Result<ViewOperation, Fault> {
-    let heap = text_heap(alloc, rows, texts)?;
-    let (buffers, views) = build_views(alloc, 0, MAX_BUFFER_LEN, heap.bytes, &heap.lengths)?;
+    let (buffers, views) = text_views(alloc, rows, texts)?;
     Ok(ViewOperation::Check(Checked {
         buffers,
         views,
