@@ -34,8 +34,10 @@ impl Inputs {
 
     // The numbers at which the truth values are true, in the narrowest type.
     fn narrowed(&self, alloc: Global) -> Result<ArrayRef, Fault> {
-        let kept = self.numbers.filter(alloc, &self.mask(alloc)?)?;
-        match PrimitiveArray::try_from_array(kept) {
+        let mask = self.mask(alloc)?;
+        let kept = self.numbers.filter(alloc, &mask);
+        drop(mask);
+        match PrimitiveArray::try_from_array(kept?) {
             Ok(numbers) => Ok(numbers.narrow(alloc)?.into_array()),
             Err(_) => Err(Fault::Usage),
         }

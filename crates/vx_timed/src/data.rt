@@ -6,7 +6,7 @@ use crate::fault::Fault;
 use std::alloc::Global;
 use std::rc::Rc;
 use vx_base::{
-    BitBuffer, Buffer, ByteBuffer, DType, FieldName, FieldNames, Nullability, PType, Scalar,
+    BitBuffer, Buffer, ByteBuffer, DType, FieldName, FieldNames, Mask, Nullability, PType, Scalar,
     ScalarValue, ScalarValues,
 };
 use vx_leaves::{BoolArray, ConstantArray, DictArray, PrimitiveArray};
@@ -129,6 +129,11 @@ pub(crate) fn random_bits(
     Ok(BitBuffer::from_bools(alloc, &bools)?)
 }
 
+// A mask that keeps three of four rows, at random.
+pub(crate) fn random_mask(alloc: Global, rows: usize) -> Result<Mask, Fault> {
+    Ok(Mask::from_buffer(alloc, random_bits(alloc, rows, 4, 8)?)?)
+}
+
 // So many bits in runs of a hundredth of them, of which one run in four is false.
 pub(crate) fn bits_in_runs(alloc: Global, count: usize) -> Result<BitBuffer, Fault> {
     let run = (count / 100).max(1);
@@ -240,6 +245,20 @@ pub(crate) fn list_view(
     lists_over(alloc, elements, shape)
 }
 
+// Where so many lists begin, over so many elements.
+fn offsets_within(
+    alloc: Global,
+    len: usize,
+    rows: usize,
+    shape: ListShape,
+) -> Result<ArrayRef, Fault> {
+    if shape.in_order {
+        return number_array(alloc, multiples(alloc, rows, shape.size)?);
+    }
+    let limit = limit_of(len).saturating_sub(shape.size);
+    numbers_below(alloc, rows, limit, 2)
+}
+
 // As many lists over elements as could lie in them one after another.
 pub(crate) fn lists_over(
     alloc: Global,
@@ -247,13 +266,7 @@ pub(crate) fn lists_over(
     shape: ListShape,
 ) -> Result<ListViewArray, Fault> {
     let rows = elements.len() / shape.size.max(1) as usize;
-    let offsets = if shape.in_order {
-        multiples(alloc, rows, shape.size)?
-    } else {
-        let limit = limit_of(elements.len()).saturating_sub(shape.size);
-        random_numbers(alloc, rows, limit, 2)?
-    };
-    let offsets = number_array(alloc, offsets)?;
+    let offsets = offsets_within(alloc, elements.len(), rows, shape)?;
     let sizes = number_array(alloc, vec![in alloc; shape.size; rows]?)?;
     let validity = if shape.some_null {
         some_null(alloc, rows, 3)?
@@ -467,12 +480,15 @@ pub(crate) fn repeated_texts(
 pub(crate) fn five_columns(alloc: Global, rows: usize) -> Result<Vec<ArrayRef>, Fault> {
     let numbers = numbers(alloc, rows)?;
     let truths = truths(alloc, rows, 2, 7)?;
+    five_by_turns(alloc, &numbers, &truths)
+}
+
+// Three times the one array and twice the other, in turns.
+fn five_by_turns(alloc: Global, one: &ArrayRef, other: &ArrayRef) -> Result<Vec<ArrayRef>, Fault> {
     let mut columns = Vec::with_capacity(alloc, 5)?;
-    for _ in 0..2 {
-        columns.push(numbers.try_clone(alloc)?)?;
-        columns.push(truths.try_clone(alloc)?)?;
+    for column in [one, other, one, other, one] {
+        columns.push(column.try_clone(alloc)?)?;
     }
-    columns.push(numbers)?;
     Ok(columns)
 }
 

@@ -1,14 +1,14 @@
 // Operations on columns of texts.
 
 use crate::data::{
-    Scale, random_bits, repeated_texts, short_texts, some_left_out, some_null, text_array,
+    Scale, random_mask, repeated_texts, short_texts, some_left_out, some_null, text_array,
     text_views,
 };
 use crate::fault::Fault;
 use crate::made::Made;
 use crate::operation::Operation;
 use std::alloc::Global;
-use vx_base::{Buffer, ByteBuffer, DType, Mask, VortexError, share_buffers};
+use vx_base::{Buffer, ByteBuffer, DType, VortexError, share_buffers};
 use vx_text::{VarBinViewArray, VarBinViewData};
 use vx_tree::{ArrayRef, TypedArray, Validity};
 use vx_views::{BinaryView, MAX_BUFFER_LEN};
@@ -97,8 +97,11 @@ fn texts_of(array: ArrayRef) -> Result<VarBinViewArray, Fault> {
 
 // A column of which a filter kept three rows of four.
 fn filtered(alloc: Global, rows: usize) -> Result<VarBinViewArray, Fault> {
-    let mask = Mask::from_buffer(alloc, random_bits(alloc, rows, 4, 8)?)?;
-    texts_of(text_array(alloc, rows)?.filter(alloc, &mask)?)
+    let array = text_array(alloc, rows)?;
+    let mask = random_mask(alloc, rows)?;
+    let kept = array.filter(alloc, &mask);
+    drop(mask);
+    texts_of(kept?)
 }
 
 // The parts of a column of so many rows.

@@ -3,7 +3,7 @@
 use crate::data::{
     AT_RANDOM, Scale, bits_in_one_run, bits_in_runs, constant_list, constant_number, constant_text,
     copies, dictionary, fixed_size_lists, list_view, lists_of_one_size, nested_dictionary, numbers,
-    numbers_below, random_bits, records, text_array, truths,
+    numbers_below, random_bits, random_mask, records, text_array, truths,
 };
 use crate::fault::Fault;
 use crate::made::Made;
@@ -119,7 +119,7 @@ pub(crate) fn ready(
         }
         "filter" => {
             let array = array_of(alloc, scale, layout)?;
-            let mask = Mask::from_buffer(alloc, random_bits(alloc, rows, 4, 8)?)?;
+            let mask = random_mask(alloc, rows)?;
             Ok(TreeOperation::Filter { array, mask })
         }
         "kept" => {

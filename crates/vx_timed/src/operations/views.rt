@@ -55,7 +55,9 @@ impl Checked {
     fn check(&self, alloc: Global) -> Result<Made, Fault> {
         let views = self.views.as_slice();
         let mask = Mask::new_true(views.len());
-        check_views(alloc, views, &mask, &self.buffers, self.is_text, usize::MAX)?;
+        let checked = check_views(alloc, views, &mask, &self.buffers, self.is_text, usize::MAX);
+        drop(mask);
+        checked?;
         Ok(Made::Number(views.len() as u64))
     }
 }
