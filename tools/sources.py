@@ -10,7 +10,7 @@ HEAD = re.compile(r'(?:pub(?:\(crate\))? )?(?:const |unsafe |final |extern "C" )
 EXPORT = re.compile(r'^pub use crate::([\w:]+)::(?:\{([^}]*)\}|(\w+));', re.M)
 OUTSIDE = re.compile(r'^pub (?:const |unsafe |extern "C" )*(?:fn|struct|enum|trait|type|const) (\w+)', re.M)
 SHOWN = r'^ *(?:const |unsafe |extern "C" )*(?:fn|struct|enum|trait|type|const) %s\b'
-HELPERS = re.compile(r'tests$|help$')  # libraries that only tests use
+HELPERS = re.compile(r'tests$|help$|timed$')  # libraries that only tests and times use
 NAMED = re.compile(r'\b(?:fn|struct|enum|trait|type|const|macro_rules!) (\w+)')
 CLAUSE = re.compile(r'((?:requires|ensures)\*?)(?: (\w+))? \{ ?(.*?) ?\};?')
 GHOST = re.compile(r'ghost (\w+)( =|:) \{ ?(.*?) ?\}[;,]')

@@ -1,7 +1,8 @@
 //! The operations of `vx_bench` in plain Rust, as a good columnar library writes them.
 //!
-//! The data, the names, the checksums and what is printed are those of `crates/vx_bench`. Buffers are
-//! shared by `Arc`; each function tests what it is given, and refuses by an `Err`.
+//! The data, the names, the checksums and what is printed are those of `crates/vx_timed` and of
+//! `crates/vx_bench`. Buffers are shared by `Arc`; each function tests what it is given, and refuses by
+//! an `Err`.
 
 mod leaves;
 mod lists;
