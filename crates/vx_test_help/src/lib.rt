@@ -2,9 +2,18 @@
 //! iterators whose hints promise too much.
 #![tactic(auto)]
 
+ghost use Rattle.std.specs.Prelude.{◌≡◌, length, IfOk};
+ghost use Rattle.vx_tree.specs.Formed.{WellFormed, ValidFits};
+ghost use Rattle.vx_tree.specs.Meaning.{tree_len};
+ghost use Rattle.vx_tree.specs.Parts.{valid_of};
+ghost use Rattle.vx_tree.specs.Tree.{bools, primitive, non_nullable, by_array};
+
 use std::alloc::Global;
-use vx_base::{BitBuffer, Buffer, DType, NativePType, PType, VortexError};
-use vx_tree::{ArrayRef, Validity};
+use vx_base::{BitBuffer, Buffer, ByteBuffer, DType, FieldNames, NativePType, PType, VortexError};
+use vx_tree::{ArrayRef, Layout, Validity};
+
+pub mod rows;
+pub mod samples;
 
 /// Numbers, none of them null.
 pub fn ints<T: NativePType>(alloc: Global, items: &[T]) -> Result<ArrayRef, VortexError> {
@@ -12,15 +21,70 @@ pub fn ints<T: NativePType>(alloc: Global, items: &[T]) -> Result<ArrayRef, Vort
     ArrayRef::primitive(alloc, T::PTYPE, bytes, Validity::NonNullable)
 }
 
+/// Numbers, by their bytes. Asks for bytes of whole numbers, and for a validity of as many rows.
+pub fn numbers(
+    alloc: Global,
+    ptype: PType,
+    bytes: &[u8],
+    validity: Validity,
+) -> Result<ArrayRef, VortexError>
+    requires { WellFormed (primitive ptype bytes.now (valid_of validity)) }
+    ensures { IfOk result (λ a. a ≡ primitive ptype bytes.now (valid_of validity)) }
+{
+    let bytes = ByteBuffer::copy_from(alloc, bytes)?;
+    ArrayRef::from_parts(
+        alloc,
+        Layout::Primitive {
+            ptype,
+            bytes,
+            validity,
+        },
+    )
+}
+
 /// Truth values, none of them null.
-pub fn bools(alloc: Global, items: &[bool]) -> Result<ArrayRef, VortexError> {
+pub fn bools(alloc: Global, items: &[bool]) -> Result<ArrayRef, VortexError>
+    ensures { IfOk result (λ a. a ≡ bools items.now non_nullable) }
+{
     let bits = BitBuffer::from_bools(alloc, items)?;
     ArrayRef::bools(alloc, bits, Validity::NonNullable)
+}
+
+/// Truth values, of which the second ones, as many, say which are not null.
+pub fn some_bools(alloc: Global, items: &[bool], valid: &[bool]) -> Result<ArrayRef, VortexError>
+    requires { length valid.now ≡ length items.now }
+    ensures { IfOk result (λ a. a ≡ bools items.now (by_array (bools valid.now non_nullable))) }
+{
+    let bits = BitBuffer::from_bools(alloc, items)?;
+    let validity = Validity::Array(bools(alloc, valid)?);
+    ArrayRef::from_parts(alloc, Layout::Bool { bits, validity })
 }
 
 /// Valid where these are true.
 pub fn valid_where(alloc: Global, items: &[bool]) -> Result<Validity, VortexError> {
     Ok(Validity::Array(bools(alloc, items)?))
+}
+
+/// Records of two columns. Asks for two names, and for columns and a validity of so many rows.
+pub fn columns_of(
+    alloc: Global,
+    names: &[&str],
+    first: ArrayRef,
+    second: ArrayRef,
+    validity: Validity,
+    len: usize,
+) -> Result<ArrayRef, VortexError>
+    requires named { length names.now ≡ 2 }
+    requires first { tree_len first ≡ len }
+    requires second { tree_len second ≡ len }
+    requires fits { ValidFits (valid_of validity) len }
+    ensures { IfOk result (λ a. tree_len a ≡ len) }
+{
+    let names = FieldNames::try_new(alloc, names)?;
+    let mut columns = Vec::with_capacity(alloc, 2)?;
+    columns.push(first)?;
+    columns.push(second)?;
+    ArrayRef::structure(alloc, names, columns, validity, len)
 }
 
 /// Whether an array has these numbers and no null.
