@@ -2,6 +2,4 @@
 #![tactic(auto)]
 
 #[cfg(test)]
-mod nested;
-#[cfg(test)]
 mod tree;

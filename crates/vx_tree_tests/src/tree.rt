@@ -1,15 +1,9 @@
 // Each public call once, on values from outside.
 
-ghost use Rattle.std.specs.Prelude.{◌≡◌, length, IfOk};
-ghost use Rattle.vx_tree.specs.Formed.{WellFormed};
-ghost use Rattle.vx_tree.specs.Parts.{valid_of};
-ghost use Rattle.vx_tree.specs.Tree.{bools, primitive, non_nullable, by_array};
-
-use std::alloc::Global;
-use std::process::Abort;
-use vx_base::{BitBuffer, ByteBuffer, DType, Nullability, PType, Scalar, Selection, VortexError};
-use vx_canonical::ToCanonical;
-use vx_canonical::laws::concats_of_concats_are_concats;
+use vx_base::{BitBuffer, DType, Nullability, PType, Scalar, Selection, VortexError};
+use vx_test_help::rows::{is_list, is_number, is_truth};
+use vx_test_help::samples::{dictionary, indices, lists};
+use vx_test_help::{bools, numbers, some_bools};
 use vx_tree::{
     ArrayRef, Layout, Validity, dictionaries_keep_their_values, faults_of_worked_arrays,
     rows_fit_their_dtype, rows_fit_their_kind, rows_of_worked_arrays,
@@ -18,15 +12,10 @@ use vx_tree::{
 
 mod fixed_size_lists;
 mod into_array;
-mod joined_arrays;
 mod joined_bits;
 mod joined_validities;
-mod many_values;
 mod masks;
-mod no_values;
 mod null_indices;
-mod null_lists;
-mod plain_constants;
 mod records;
 mod runs;
 mod scalars;
@@ -35,148 +24,10 @@ mod views;
 
 // ---- arrays
 
-// Booleans, none of them null.
-fn booleans(alloc: Global, values: &[bool]) -> Result<ArrayRef, VortexError>
-    ensures { IfOk result (λ a. a ≡ bools values.now non_nullable) }
-{
-    let bits = BitBuffer::from_bools(alloc, values)?;
-    let validity = Validity::NonNullable;
-    ArrayRef::from_parts(alloc, Layout::Bool { bits, validity })
-}
-
-// Booleans, of which the second ones say which are not null.
-fn some_booleans(alloc: Global, values: &[bool], valid: &[bool]) -> Result<ArrayRef, VortexError>
-    requires { length valid.now ≡ length values.now }
-    ensures { IfOk result (λ a. a ≡ bools values.now (by_array (bools valid.now non_nullable))) }
-{
-    let bits = BitBuffer::from_bools(alloc, values)?;
-    let validity = Validity::Array(booleans(alloc, valid)?);
-    ArrayRef::from_parts(alloc, Layout::Bool { bits, validity })
-}
-
-// Numbers, by their bytes.
-fn numbers(
-    alloc: Global,
-    ptype: PType,
-    bytes: &[u8],
-    validity: Validity,
-) -> Result<ArrayRef, VortexError>
-    requires { WellFormed (primitive ptype bytes.now (valid_of validity)) }
-    ensures { IfOk result (λ a. a ≡ primitive ptype bytes.now (valid_of validity)) }
-{
-    let bytes = ByteBuffer::copy_from(alloc, bytes)?;
-    ArrayRef::from_parts(
-        alloc,
-        Layout::Primitive {
-            ptype,
-            bytes,
-            validity,
-        },
-    )
-}
-
-// The numbers 2, null, 0 of type u8.
-fn indices(alloc: Global) -> Result<ArrayRef, VortexError> {
-    let validity = Validity::Array(booleans(alloc, &[true, false, true])?);
-    numbers(alloc, PType::U8, &[2, 0, 0], validity)
-}
-
-// The lists [3, 4], [1], [2, 3] of the numbers 1 to 4.
-fn lists(alloc: Global) -> Result<ArrayRef, VortexError> {
-    let elements = numbers(alloc, PType::U8, &[1, 2, 3, 4], Validity::NonNullable)?;
-    let offsets = [2, 0, 0, 0, 0, 0, 0, 0, 1, 0, 0, 0];
-    let offsets = numbers(alloc, PType::U32, &offsets, Validity::NonNullable)?;
-    let sizes = [2, 0, 0, 0, 1, 0, 0, 0, 2, 0, 0, 0];
-    let sizes = numbers(alloc, PType::U32, &sizes, Validity::NonNullable)?;
-    let validity = Validity::NonNullable;
-    let flag = false;
-    ArrayRef::from_parts(
-        alloc,
-        Layout::ListView {
-            elements,
-            offsets,
-            sizes,
-            validity,
-            flag,
-        },
-    )
-}
-
-// ---- what they hold
-
-// Row `i` of an array of numbers.
-fn number(rt: &impl Abort, array: &ArrayRef, i: usize) -> Option<i128> {
-    assert!(rt; array.dtype().is_int() && i < array.len());
-    array.int_at(i)
-}
-
-// A row of lists of numbers: none where it is null.
-fn list(
-    rt: &impl Abort,
-    alloc: Global,
-    array: &ArrayRef,
-    i: usize,
-) -> Result<Option<Vec<i128>>, VortexError> {
-    if !array.is_valid(alloc, i)? {
-        return Ok(None);
-    }
-    let mut row = Vec::new(alloc);
-    if let Layout::ListView {
-        elements,
-        offsets,
-        sizes,
-        ..
-    } = array.layout()
-    {
-        let start = number(rt, offsets, i).unwrap_or(0);
-        let end = start.saturating_add(number(rt, sizes, i).unwrap_or(0));
-        for place in 0..elements.len() {
-            if start <= place as i128 && (place as i128) < end {
-                row.push(number(rt, elements, place).unwrap_or(0))?;
-            }
-        }
-    }
-    Ok(Some(row))
-}
-
-// Stops unless row `i` is the list `want`, or null where there is none.
-fn expect_list(
-    rt: &impl Abort,
-    alloc: Global,
-    array: &ArrayRef,
-    i: usize,
-    want: Option<&[i128]>,
-) -> Result<(), VortexError> {
-    let row = list(rt, alloc, array, i)?;
-    match (&row, want) {
-        (Some(row), Some(want)) => assert_eq!(rt; row.as_slice(), want, "at {i}"),
-        (row, want) => assert_eq!(rt; row.is_some(), want.is_some(), "at {i}"),
-    }
-    Ok(())
-}
-
-// Stops unless row `i` is the boolean `want`, or null where there is none.
-fn expect_bool(
-    rt: &impl Abort,
-    alloc: Global,
-    array: &ArrayRef,
-    i: usize,
-    want: Option<bool>,
-) -> Result<(), VortexError> {
-    assert_eq!(rt; array.is_valid(alloc, i)?, want.is_some(), "at {i}");
-    if let (Layout::Bool { bits, .. }, Some(want)) = (array.layout(), want) {
-        assert!(rt; i < bits.len());
-        assert_eq!(rt; bits.value(i), want, "at {i}");
-    }
-    Ok(())
-}
-
-// ---- arrays
-
 #[test]
 fn lengths(rt: HostRuntime) {
     assert_eq!(rt; lists(rt.alloc()).expect(&rt, "made").len(), 3);
-    assert!(rt; booleans(rt.alloc(), &[]).expect(&rt, "made").is_empty());
+    assert!(rt; bools(rt.alloc(), &[]).expect(&rt, "made").is_empty());
 }
 
 #[test]
@@ -184,7 +35,7 @@ fn data_types(rt: HostRuntime) {
     let indices = indices(rt.alloc()).expect(&rt, "made");
     assert!(rt; indices.dtype().is_int() && indices.dtype().is_nullable());
     assert!(rt;
-        booleans(rt.alloc(), &[])
+        bools(rt.alloc(), &[])
             .expect(&rt, "made")
             .dtype()
             .is_plain_bool()
@@ -203,22 +54,23 @@ fn parts_of_lists(rt: HostRuntime) {
 
 #[test]
 fn parts_of_booleans(rt: HostRuntime) {
-    let array = some_booleans(rt.alloc(), &[true, false], &[false, true]).expect(&rt, "made");
-    expect_bool(&rt, rt.alloc(), &array, 0, None).expect(&rt, "made");
-    expect_bool(&rt, rt.alloc(), &array, 1, Some(false)).expect(&rt, "made");
+    let array = some_bools(rt.alloc(), &[true, false], &[false, true]).expect(&rt, "made");
+    assert!(rt; is_truth(rt.alloc(), &array, 0, None).expect(&rt, "made"));
+    assert!(rt; is_truth(rt.alloc(), &array, 1, Some(false)).expect(&rt, "made"));
 }
 
 #[test]
 fn shared_array(rt: HostRuntime) {
     let lists = lists(rt.alloc()).expect(&rt, "made");
-    expect_list(
-        &rt,
-        rt.alloc(),
-        &lists.try_clone(rt.alloc()).expect(&rt, "made"),
-        0,
-        Some(&[3, 4]),
-    )
-    .expect(&rt, "made");
+    assert!(rt;
+        is_list(
+            rt.alloc(),
+            &lists.try_clone(rt.alloc()).expect(&rt, "made"),
+            0,
+            Some(&[3, 4])
+        )
+        .expect(&rt, "made")
+    );
 }
 
 // ---- rows
@@ -247,7 +99,7 @@ fn valid_row_past_the_end(rt: HostRuntime) {
 #[test]
 fn number_of_a_row(rt: HostRuntime) {
     let indices = indices(rt.alloc()).expect(&rt, "made");
-    assert!(rt; number(&rt, &indices, 0) == Some(2) && number(&rt, &indices, 1) == None);
+    assert!(rt; is_number(&indices, 0, Some(2)) && is_number(&indices, 1, None));
 }
 
 // ---- parts
@@ -259,18 +111,18 @@ fn slice_of_lists(rt: HostRuntime) {
         .slice(rt.alloc(), 1..3)
         .expect(&rt, "made");
     assert_eq!(rt; part.len(), 2);
-    expect_list(&rt, rt.alloc(), &part, 0, Some(&[1])).expect(&rt, "made");
-    expect_list(&rt, rt.alloc(), &part, 1, Some(&[2, 3])).expect(&rt, "made");
+    assert!(rt; is_list(rt.alloc(), &part, 0, Some(&[1])).expect(&rt, "made"));
+    assert!(rt; is_list(rt.alloc(), &part, 1, Some(&[2, 3])).expect(&rt, "made"));
 }
 
 #[test]
 fn slice_of_booleans(rt: HostRuntime) {
-    let array = some_booleans(rt.alloc(), &[true, false, true], &[true, true, false]).expect(
+    let array = some_bools(rt.alloc(), &[true, false, true], &[true, true, false]).expect(
         &rt, "made",
     );
     let part = array.slice(rt.alloc(), 1..3).expect(&rt, "made");
-    expect_bool(&rt, rt.alloc(), &part, 0, Some(false)).expect(&rt, "made");
-    expect_bool(&rt, rt.alloc(), &part, 1, None).expect(&rt, "made");
+    assert!(rt; is_truth(rt.alloc(), &part, 0, Some(false)).expect(&rt, "made"));
+    assert!(rt; is_truth(rt.alloc(), &part, 1, None).expect(&rt, "made"));
 }
 
 #[test]
@@ -279,7 +131,7 @@ fn slice_of_numbers(rt: HostRuntime) {
         .expect(&rt, "made")
         .slice(rt.alloc(), 1..3)
         .expect(&rt, "made");
-    assert!(rt; number(&rt, &part, 0) == None && number(&rt, &part, 1) == Some(0));
+    assert!(rt; is_number(&part, 0, None) && is_number(&part, 1, Some(0)));
 }
 
 #[test]
@@ -291,7 +143,7 @@ fn slice_of_a_constant(rt: HostRuntime) {
         .expect(&rt, "made");
     rows_fit_their_dtype(&part);
     assert!(rt; part.len() == 2 && part.is_valid(rt.alloc(), 1).expect(&rt, "made"));
-    assert!(rt; number(&rt, &part, 1) == Some(-7));
+    assert!(rt; is_number(&part, 1, Some(-7)));
 }
 
 #[test]
@@ -303,7 +155,7 @@ fn constant_taken_by_plain_indices(rt: HostRuntime) {
     );
     let taken = array.take(rt.alloc(), &indices).expect(&rt, "made");
     assert!(rt; taken.len() == 3 && matches!(taken.layout(), Layout::Constant { .. }));
-    assert!(rt; number(&rt, &taken, 2) == Some(-7));
+    assert!(rt; is_number(&taken, 2, Some(-7)));
 }
 
 #[test]
@@ -315,28 +167,8 @@ fn constant_taken_by_nullable_indices(rt: HostRuntime) {
         .expect(&rt, "made");
     assert!(rt; taken.len() == 3 && matches!(taken.layout(), Layout::Dict { .. }));
     assert!(rt; taken.dtype().is_nullable() && !taken.is_valid(rt.alloc(), 1).expect(&rt, "made"));
-    assert!(rt; number(&rt, &taken, 0) == Some(7) && number(&rt, &taken, 1) == None);
-    assert!(rt; number(&rt, &taken, 2) == Some(7));
-}
-
-// The codes 0, null, 2, null, 1 into the values null, 6, 9.
-fn dictionary(alloc: Global) -> Result<ArrayRef, VortexError> {
-    let validity = Validity::Array(booleans(alloc, &[true, false, true, false, true])?);
-    let codes = numbers(alloc, PType::U8, &[0, 0, 2, 0, 1], validity)?;
-    let validity = Validity::Array(booleans(alloc, &[false, true, true])?);
-    let values = numbers(alloc, PType::U8, &[0, 6, 9], validity)?;
-    ArrayRef::dictionary(alloc, codes, values, false)
-}
-
-#[test]
-fn a_dictionary_in_plain_layout(rt: HostRuntime) {
-    let array = dictionary(rt.alloc())
-        .expect(&rt, "made")
-        .to_canonical(rt.alloc())
-        .expect(&rt, "made");
-    assert!(rt; matches!(array.layout(), Layout::Primitive { .. }));
-    assert!(rt; array.len() == 5 && number(&rt, &array, 0) == None);
-    assert!(rt; number(&rt, &array, 2) == Some(9) && number(&rt, &array, 4) == Some(6));
+    assert!(rt; is_number(&taken, 0, Some(7)) && is_number(&taken, 1, None));
+    assert!(rt; is_number(&taken, 2, Some(7)));
 }
 
 #[test]
@@ -344,10 +176,10 @@ fn rows_of_a_dictionary(rt: HostRuntime) {
     let array = dictionary(rt.alloc()).expect(&rt, "made");
     rows_fit_their_dtype(&array);
     assert!(rt; array.len() == 5 && array.dtype().is_nullable());
-    assert!(rt; number(&rt, &array, 0) == None && number(&rt, &array, 1) == None);
-    assert!(rt; number(&rt, &array, 2) == Some(9) && number(&rt, &array, 3) == None);
+    assert!(rt; is_number(&array, 0, None) && is_number(&array, 1, None));
+    assert!(rt; is_number(&array, 2, Some(9)) && is_number(&array, 3, None));
     assert!(rt;
-        number(&rt, &array, 4) == Some(6) && !array.is_valid(rt.alloc(), 0).expect(&rt, "made")
+        is_number(&array, 4, Some(6)) && !array.is_valid(rt.alloc(), 0).expect(&rt, "made")
     );
     assert!(rt;
         array.is_valid(rt.alloc(), 4).expect(&rt, "made")
@@ -361,8 +193,8 @@ fn slice_of_a_dictionary(rt: HostRuntime) {
         .expect(&rt, "made")
         .slice(rt.alloc(), 2..5)
         .expect(&rt, "made");
-    assert!(rt; part.len() == 3 && number(&rt, &part, 0) == Some(9));
-    assert!(rt; number(&rt, &part, 1) == None && number(&rt, &part, 2) == Some(6));
+    assert!(rt; part.len() == 3 && is_number(&part, 0, Some(9)));
+    assert!(rt; is_number(&part, 1, None) && is_number(&part, 2, Some(6)));
 }
 
 #[test]
@@ -371,8 +203,8 @@ fn take_of_a_dictionary(rt: HostRuntime) {
         .expect(&rt, "made")
         .take(rt.alloc(), &indices(rt.alloc()).expect(&rt, "made"))
         .expect(&rt, "made");
-    assert!(rt; taken.len() == 3 && number(&rt, &taken, 0) == Some(9));
-    assert!(rt; number(&rt, &taken, 1) == None && number(&rt, &taken, 2) == None);
+    assert!(rt; taken.len() == 3 && is_number(&taken, 0, Some(9)));
+    assert!(rt; is_number(&taken, 1, None) && is_number(&taken, 2, None));
 }
 
 #[test]
@@ -384,7 +216,7 @@ fn indices_that_are_constant(rt: HostRuntime) {
         .take(rt.alloc(), &indices)
         .expect(&rt, "made");
     assert_eq!(rt; taken.len(), 2);
-    expect_list(&rt, rt.alloc(), &taken, 1, Some(&[1])).expect(&rt, "made");
+    assert!(rt; is_list(rt.alloc(), &taken, 1, Some(&[1])).expect(&rt, "made"));
 }
 
 #[test]
@@ -405,7 +237,7 @@ fn many_null_lists_taken_from_no_rows(rt: HostRuntime) {
     let nulls = ArrayRef::constant(rt.alloc(), null, 1099511627776).expect(&rt, "made");
     let taken = none.take(rt.alloc(), &nulls).expect(&rt, "made");
     assert_eq!(rt; taken.len(), 1099511627776);
-    expect_list(&rt, rt.alloc(), &taken, 1099511627775, None).expect(&rt, "made");
+    assert!(rt; is_list(rt.alloc(), &taken, 1099511627775, None).expect(&rt, "made"));
 }
 
 #[test]
@@ -417,7 +249,7 @@ fn validity_by_a_constant(rt: HostRuntime) {
         .expect(&rt, "made")
         .slice(rt.alloc(), 1..2)
         .expect(&rt, "made");
-    expect_bool(&rt, rt.alloc(), &part, 0, Some(false)).expect(&rt, "made");
+    assert!(rt; is_truth(rt.alloc(), &part, 0, Some(false)).expect(&rt, "made"));
 }
 
 #[test]
@@ -439,28 +271,28 @@ fn take_of_lists(rt: HostRuntime) {
         .take(rt.alloc(), &indices(rt.alloc()).expect(&rt, "made"))
         .expect(&rt, "made");
     assert_eq!(rt; taken.len(), 3);
-    expect_list(&rt, rt.alloc(), &taken, 0, Some(&[2, 3])).expect(&rt, "made");
-    expect_list(&rt, rt.alloc(), &taken, 1, None).expect(&rt, "made");
-    expect_list(&rt, rt.alloc(), &taken, 2, Some(&[3, 4])).expect(&rt, "made");
+    assert!(rt; is_list(rt.alloc(), &taken, 0, Some(&[2, 3])).expect(&rt, "made"));
+    assert!(rt; is_list(rt.alloc(), &taken, 1, None).expect(&rt, "made"));
+    assert!(rt; is_list(rt.alloc(), &taken, 2, Some(&[3, 4])).expect(&rt, "made"));
 }
 
 #[test]
 fn take_of_booleans(rt: HostRuntime) {
-    let array = some_booleans(rt.alloc(), &[true, false, false], &[true, true, false]).expect(
+    let array = some_bools(rt.alloc(), &[true, false, false], &[true, true, false]).expect(
         &rt, "made",
     );
     let taken = array
         .take(rt.alloc(), &indices(rt.alloc()).expect(&rt, "made"))
         .expect(&rt, "made");
-    expect_bool(&rt, rt.alloc(), &taken, 1, None).expect(&rt, "made");
-    expect_bool(&rt, rt.alloc(), &taken, 2, Some(true)).expect(&rt, "made");
+    assert!(rt; is_truth(rt.alloc(), &taken, 1, None).expect(&rt, "made"));
+    assert!(rt; is_truth(rt.alloc(), &taken, 2, Some(true)).expect(&rt, "made"));
 }
 
 #[test]
 fn take_by_booleans(rt: HostRuntime) {
     let found = match lists(rt.alloc()).expect(&rt, "made").take(
         rt.alloc(),
-        &booleans(rt.alloc(), &[true]).expect(&rt, "made"),
+        &bools(rt.alloc(), &[true]).expect(&rt, "made"),
     ) {
         Err(VortexError::MismatchedTypes) => true,
         _ => false,
@@ -470,13 +302,13 @@ fn take_by_booleans(rt: HostRuntime) {
 
 #[test]
 fn take_at_positions(rt: HostRuntime) {
-    let array = booleans(rt.alloc(), &[true, false, true]).expect(&rt, "made");
+    let array = bools(rt.alloc(), &[true, false, true]).expect(&rt, "made");
     assert_eq!(rt; array.len(), 3);
     let taken = array
         .select(rt.alloc(), &Selection::at_positions(&[1, 1, 0]))
         .expect(&rt, "made");
-    expect_bool(&rt, rt.alloc(), &taken, 1, Some(false)).expect(&rt, "made");
-    expect_bool(&rt, rt.alloc(), &taken, 2, Some(true)).expect(&rt, "made");
+    assert!(rt; is_truth(rt.alloc(), &taken, 1, Some(false)).expect(&rt, "made"));
+    assert!(rt; is_truth(rt.alloc(), &taken, 2, Some(true)).expect(&rt, "made"));
 }
 
 // ---- validities
@@ -489,13 +321,13 @@ fn nullability_of_validities(rt: HostRuntime) {
 
 #[test]
 fn lengths_of_validities(rt: HostRuntime) {
-    let validity = Validity::Array(booleans(rt.alloc(), &[true, false]).expect(&rt, "made"));
+    let validity = Validity::Array(bools(rt.alloc(), &[true, false]).expect(&rt, "made"));
     assert!(rt; validity.maybe_len() == Some(2) && Validity::AllValid.maybe_len() == None);
 }
 
 #[test]
 fn check_of_validities(rt: HostRuntime) {
-    let validity = Validity::Array(booleans(rt.alloc(), &[true, false]).expect(&rt, "made"));
+    let validity = Validity::Array(bools(rt.alloc(), &[true, false]).expect(&rt, "made"));
     assert!(rt; validity.check(2).is_ok() && Validity::AllValid.check(7).is_ok());
     let found = match validity.check(3) {
         Err(
@@ -511,7 +343,7 @@ fn check_of_validities(rt: HostRuntime) {
 
 #[test]
 fn shared_validity(rt: HostRuntime) {
-    let validity = Validity::Array(booleans(rt.alloc(), &[true, false]).expect(&rt, "made"));
+    let validity = Validity::Array(bools(rt.alloc(), &[true, false]).expect(&rt, "made"));
     assert_eq!(rt;
         validity
             .try_clone(rt.alloc())
@@ -523,7 +355,7 @@ fn shared_validity(rt: HostRuntime) {
 
 #[test]
 fn mask_of_an_array(rt: HostRuntime) {
-    let mask = Validity::Array(booleans(rt.alloc(), &[true, false]).expect(&rt, "made"))
+    let mask = Validity::Array(bools(rt.alloc(), &[true, false]).expect(&rt, "made"))
         .execute_mask(rt.alloc(), 2)
         .expect(&rt, "made");
     assert_eq!(rt; mask.len(), 2);
@@ -547,7 +379,6 @@ fn laws() {
     worked_arrays_are_formed();
     slices_of_slices_are_slices();
     selections_of_selections_are_selections();
-    concats_of_concats_are_concats();
     dictionaries_keep_their_values();
     faults_of_worked_arrays();
 }

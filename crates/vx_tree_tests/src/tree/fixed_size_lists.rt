@@ -3,26 +3,12 @@
 ghost use Rattle.std.specs.Prelude.{◌≡◌, ◌*◌, IfOk};
 ghost use Rattle.vx_tree.specs.Meaning.{tree_len};
 
-use super::{booleans, indices, number, numbers};
 use std::alloc::Global;
-use std::process::Abort;
 use vx_base::{DType, Nullability, PType, Scalar, VortexError};
-use vx_tree::{ArrayRef, Layout, Validity, fewer_rows_are_countable};
-
-// The lists [1, 2], [3, 4], [5, 6].
-pub(crate) fn pairs(alloc: Global) -> Result<ArrayRef, VortexError> {
-    let elements = numbers(alloc, PType::U8, &[1, 2, 3, 4, 5, 6], Validity::NonNullable)?;
-    let validity = Validity::NonNullable;
-    ArrayRef::from_parts(
-        alloc,
-        Layout::FixedSizeList {
-            elements,
-            size: 2,
-            validity,
-            len: 3,
-        },
-    )
-}
+use vx_test_help::rows::has_elements;
+use vx_test_help::samples::{huge_list, indices, pairs};
+use vx_test_help::{bools, numbers};
+use vx_tree::{ArrayRef, Validity, fewer_rows_are_countable};
 
 // So many lists of no elements.
 pub(crate) fn no_elements(alloc: Global, size: u32, len: usize) -> Result<ArrayRef, VortexError>
@@ -31,26 +17,6 @@ pub(crate) fn no_elements(alloc: Global, size: u32, len: usize) -> Result<ArrayR
 {
     let elements = numbers(alloc, PType::U8, &[], Validity::NonNullable)?;
     ArrayRef::fixed_size_list(alloc, elements, size, Validity::NonNullable, len)
-}
-
-// One list of 1048576 lists of 2147483648 zeroes each.
-pub(crate) fn huge_list(alloc: Global) -> Result<ArrayRef, VortexError> {
-    let scalar = Scalar::int(0, PType::U8, Nullability::NonNullable);
-    let zeroes = ArrayRef::constant(alloc, scalar, 2251799813685248)?;
-    let validity = Validity::NonNullable;
-    let lists = ArrayRef::fixed_size_list(alloc, zeroes, 2147483648, validity, 1048576)?;
-    ArrayRef::fixed_size_list(alloc, lists, 1048576, Validity::NonNullable, 1)
-}
-
-// Stops unless these numbers stand among the elements, from a place on.
-pub(crate) fn expect_elements(rt: &impl Abort, array: &ArrayRef, start: usize, want: &[i128]) {
-    let Layout::FixedSizeList { elements, .. } = array.layout() else {
-        panic!(rt; "no lists of one size");
-    };
-    for (place, wanted) in want.iter().enumerate() {
-        let found = number(rt, elements, start.saturating_add(place));
-        assert_eq!(rt; found, Some(*wanted), "at {place}");
-    }
 }
 
 #[test]
@@ -64,7 +30,7 @@ fn rows_of_pairs(rt: HostRuntime) {
             DType::FixedSizeList(_, 2, Nullability::NonNullable)
         )
     );
-    expect_elements(&rt, &array, 0, &[1, 2, 3, 4, 5, 6]);
+    assert!(rt; has_elements(&array, 0, &[1, 2, 3, 4, 5, 6]));
 }
 
 #[test]
@@ -85,7 +51,7 @@ fn slice_of_pairs(rt: HostRuntime) {
         .slice(rt.alloc(), 1..3)
         .expect(&rt, "made");
     assert_eq!(rt; part.len(), 2);
-    expect_elements(&rt, &part, 0, &[3, 4, 5, 6]);
+    assert!(rt; has_elements(&part, 0, &[3, 4, 5, 6]));
 }
 
 #[test]
@@ -99,8 +65,8 @@ fn take_of_pairs(rt: HostRuntime) {
         taken.is_valid(rt.alloc(), 0).expect(&rt, "made")
             && taken.is_valid(rt.alloc(), 2).expect(&rt, "made")
     );
-    expect_elements(&rt, &taken, 0, &[5, 6]);
-    expect_elements(&rt, &taken, 4, &[1, 2]);
+    assert!(rt; has_elements(&taken, 0, &[5, 6]));
+    assert!(rt; has_elements(&taken, 4, &[1, 2]));
 }
 
 // No position of their elements is written out.
@@ -115,18 +81,18 @@ fn take_of_one_pair_again_and_again(rt: HostRuntime) {
     let indices = ArrayRef::constant(rt.alloc(), one, 1099511627776).expect(&rt, "made");
     let taken = lists.take(rt.alloc(), &indices).expect(&rt, "made");
     assert_eq!(rt; taken.len(), 1099511627776);
-    expect_elements(&rt, &taken, 2199023255550, &[7, 7]);
+    assert!(rt; has_elements(&taken, 2199023255550, &[7, 7]));
     let indices = indices.slice(rt.alloc(), 0..3).expect(&rt, "made");
     let taken = pairs(rt.alloc())
         .expect(&rt, "made")
         .take(rt.alloc(), &indices)
         .expect(&rt, "made");
-    expect_elements(&rt, &taken, 0, &[3, 4, 3, 4, 3, 4]);
+    assert!(rt; has_elements(&taken, 0, &[3, 4, 3, 4, 3, 4]));
 }
 
 #[test]
 fn mask_of_pairs(rt: HostRuntime) {
-    let mask = booleans(rt.alloc(), &[true, false, true]).expect(&rt, "made");
+    let mask = bools(rt.alloc(), &[true, false, true]).expect(&rt, "made");
     let masked = pairs(rt.alloc())
         .expect(&rt, "made")
         .mask(rt.alloc(), &mask)
@@ -135,7 +101,7 @@ fn mask_of_pairs(rt: HostRuntime) {
         masked.is_valid(rt.alloc(), 0).expect(&rt, "made")
             && !masked.is_valid(rt.alloc(), 1).expect(&rt, "made")
     );
-    expect_elements(&rt, &masked, 0, &[1, 2, 3, 4, 5, 6]);
+    assert!(rt; has_elements(&masked, 0, &[1, 2, 3, 4, 5, 6]));
 }
 
 #[test]

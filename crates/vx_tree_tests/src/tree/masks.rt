@@ -1,7 +1,9 @@
 // Rows under masks.
 
-use super::{booleans, dictionary, expect_list, indices, lists, number};
 use vx_base::{BitBuffer, Mask, Nullability, PType, Scalar, VortexError};
+use vx_test_help::bools;
+use vx_test_help::rows::{is_list, is_number};
+use vx_test_help::samples::{dictionary, indices, lists};
 use vx_tree::{ArrayRef, Layout};
 
 #[test]
@@ -13,8 +15,8 @@ fn filter_of_lists(rt: HostRuntime) {
         .filter(rt.alloc(), &mask)
         .expect(&rt, "made");
     assert_eq!(rt; left.len(), 2);
-    expect_list(&rt, rt.alloc(), &left, 0, Some(&[3, 4])).expect(&rt, "made");
-    expect_list(&rt, rt.alloc(), &left, 1, Some(&[2, 3])).expect(&rt, "made");
+    assert!(rt; is_list(rt.alloc(), &left, 0, Some(&[3, 4])).expect(&rt, "made"));
+    assert!(rt; is_list(rt.alloc(), &left, 1, Some(&[2, 3])).expect(&rt, "made"));
 }
 
 #[test]
@@ -27,8 +29,8 @@ fn filter_of_a_dictionary(rt: HostRuntime) {
         .expect(&rt, "made")
         .filter(rt.alloc(), &mask)
         .expect(&rt, "made");
-    assert!(rt; left.len() == 3 && number(&rt, &left, 0) == None);
-    assert!(rt; number(&rt, &left, 1) == Some(9) && number(&rt, &left, 2) == Some(6));
+    assert!(rt; left.len() == 3 && is_number(&left, 0, None));
+    assert!(rt; is_number(&left, 1, Some(9)) && is_number(&left, 2, Some(6)));
 }
 
 #[test]
@@ -65,7 +67,7 @@ fn filter_of_a_constant(rt: HostRuntime) {
         )
         .expect(&rt, "made");
     assert!(rt; left.len() == 3 && matches!(left.layout(), Layout::Constant { .. }));
-    assert_eq!(rt; number(&rt, &left, 2), Some(7));
+    assert!(rt; is_number(&left, 2, Some(7)));
 }
 
 #[test]
@@ -87,15 +89,15 @@ fn filter_by_a_longer_mask(rt: HostRuntime) {
 
 #[test]
 fn mask_of_lists(rt: HostRuntime) {
-    let mask = booleans(rt.alloc(), &[true, false, true]).expect(&rt, "made");
+    let mask = bools(rt.alloc(), &[true, false, true]).expect(&rt, "made");
     let masked = lists(rt.alloc())
         .expect(&rt, "made")
         .mask(rt.alloc(), &mask)
         .expect(&rt, "made");
     assert!(rt; masked.len() == 3 && masked.dtype().is_nullable());
-    expect_list(&rt, rt.alloc(), &masked, 0, Some(&[3, 4])).expect(&rt, "made");
-    expect_list(&rt, rt.alloc(), &masked, 1, None).expect(&rt, "made");
-    expect_list(&rt, rt.alloc(), &masked, 2, Some(&[2, 3])).expect(&rt, "made");
+    assert!(rt; is_list(rt.alloc(), &masked, 0, Some(&[3, 4])).expect(&rt, "made"));
+    assert!(rt; is_list(rt.alloc(), &masked, 1, None).expect(&rt, "made"));
+    assert!(rt; is_list(rt.alloc(), &masked, 2, Some(&[2, 3])).expect(&rt, "made"));
 }
 
 #[test]
@@ -105,11 +107,11 @@ fn mask_of_a_constant(rt: HostRuntime) {
     let masked = array
         .mask(
             rt.alloc(),
-            &booleans(rt.alloc(), &[false, true]).expect(&rt, "made"),
+            &bools(rt.alloc(), &[false, true]).expect(&rt, "made"),
         )
         .expect(&rt, "made");
     assert!(rt; masked.len() == 2 && matches!(masked.layout(), Layout::Dict { .. }));
-    assert!(rt; number(&rt, &masked, 0) == None && number(&rt, &masked, 1) == Some(7));
+    assert!(rt; is_number(&masked, 0, None) && is_number(&masked, 1, Some(7)));
 }
 
 #[test]
@@ -128,7 +130,7 @@ fn mask_by_numbers(rt: HostRuntime) {
 fn mask_by_a_shorter_array(rt: HostRuntime) {
     let found = match lists(rt.alloc()).expect(&rt, "made").mask(
         rt.alloc(),
-        &booleans(rt.alloc(), &[true]).expect(&rt, "made"),
+        &bools(rt.alloc(), &[true]).expect(&rt, "made"),
     ) {
         Err(VortexError::LengthMismatch { .. }) => true,
         _ => false,

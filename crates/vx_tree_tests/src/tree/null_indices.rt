@@ -1,10 +1,12 @@
 // Indices and codes of which some are null: what stands in a null row is not looked at.
 
-use super::{booleans, dictionary, indices, number, numbers};
 use crate::tree::validities::expect_valid;
 use std::alloc::Global;
 use std::process::Abort;
 use vx_base::{BitBuffer, Mask, PType, VortexError};
+use vx_test_help::rows::is_number;
+use vx_test_help::samples::{dictionary, indices};
+use vx_test_help::{bools, numbers};
 use vx_tree::{ArrayRef, Layout, Validity};
 
 // The numbers 5, 6, 9.
@@ -14,7 +16,7 @@ fn three_numbers(alloc: Global) -> Result<ArrayRef, VortexError> {
 
 // Three indices, each in a byte, of which the first is null.
 fn null_first(alloc: Global, first: u8, second: u8, third: u8) -> Result<ArrayRef, VortexError> {
-    let validity = Validity::Array(booleans(alloc, &[false, true, true])?);
+    let validity = Validity::Array(bools(alloc, &[false, true, true])?);
     numbers(alloc, PType::I8, &[first, second, third], validity)
 }
 
@@ -25,8 +27,8 @@ fn expect_null_nine_five(
     indices: &ArrayRef,
 ) -> Result<(), VortexError> {
     let taken = three_numbers(alloc)?.take(alloc, indices)?;
-    assert!(rt; taken.len() == 3 && number(rt, &taken, 0) == None);
-    assert!(rt; number(rt, &taken, 1) == Some(9) && number(rt, &taken, 2) == Some(5));
+    assert!(rt; taken.len() == 3 && is_number(&taken, 0, None));
+    assert!(rt; is_number(&taken, 1, Some(9)) && is_number(&taken, 2, Some(5)));
     Ok(())
 }
 
@@ -79,14 +81,14 @@ fn indices_that_are_all_null(rt: HostRuntime) {
         .expect(&rt, "made")
         .take(alloc, &nulls)
         .expect(&rt, "made");
-    assert!(rt; taken.len() == 2 && number(&rt, &taken, 0) == None);
-    assert!(rt; number(&rt, &taken, 1) == None);
+    assert!(rt; taken.len() == 2 && is_number(&taken, 0, None));
+    assert!(rt; is_number(&taken, 1, None));
 }
 
 #[test]
 fn a_validity_by_a_null_index_over_any_number(rt: HostRuntime) {
     let alloc = rt.alloc();
-    let rows = Validity::Array(booleans(alloc, &[true, false, true]).expect(&rt, "made"));
+    let rows = Validity::Array(bools(alloc, &[true, false, true]).expect(&rt, "made"));
     let taken = rows
         .take(alloc, &null_first(alloc, 100, 2, 1).expect(&rt, "made"))
         .expect(&rt, "made");
@@ -117,7 +119,7 @@ fn a_dictionary_keeps_its_values(rt: HostRuntime) {
         &rt,
         &array.filter(alloc, &Mask::new_false(5)).expect(&rt, "made"),
     );
-    let mask = booleans(alloc, &[true, false, true, false, false]).expect(&rt, "made");
+    let mask = bools(alloc, &[true, false, true, false, false]).expect(&rt, "made");
     expect_three_values(&rt, &array.mask(alloc, &mask).expect(&rt, "made"));
 }
 

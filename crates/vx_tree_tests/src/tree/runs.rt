@@ -1,9 +1,11 @@
 // Rows in runs.
 
-use super::{booleans, expect_bool, expect_list, lists};
 use std::alloc::Global;
 use std::process::Abort;
 use vx_base::{Nullability, PType, Scalar, VortexError};
+use vx_test_help::bools;
+use vx_test_help::rows::{is_list, is_truth};
+use vx_test_help::samples::lists;
 use vx_tree::{ArrayRef, Layout};
 
 // 2 to the 60, and half of what can be counted.
@@ -26,12 +28,12 @@ fn two_runs(
 
 #[test]
 fn booleans_in_runs(rt: HostRuntime) {
-    let array = booleans(rt.alloc(), &[true, true, false, true]).expect(&rt, "made");
+    let array = bools(rt.alloc(), &[true, true, false, true]).expect(&rt, "made");
     let taken = two_runs(&rt, rt.alloc(), &array, (2, 4), (0, 1)).expect(&rt, "made");
     assert_eq!(rt; taken.len(), 3);
-    expect_bool(&rt, rt.alloc(), &taken, 0, Some(false)).expect(&rt, "made");
-    expect_bool(&rt, rt.alloc(), &taken, 1, Some(true)).expect(&rt, "made");
-    expect_bool(&rt, rt.alloc(), &taken, 2, Some(true)).expect(&rt, "made");
+    assert!(rt; is_truth(rt.alloc(), &taken, 0, Some(false)).expect(&rt, "made"));
+    assert!(rt; is_truth(rt.alloc(), &taken, 1, Some(true)).expect(&rt, "made"));
+    assert!(rt; is_truth(rt.alloc(), &taken, 2, Some(true)).expect(&rt, "made"));
 }
 
 #[test]
@@ -45,8 +47,8 @@ fn lists_in_runs(rt: HostRuntime) {
     )
     .expect(&rt, "made");
     assert_eq!(rt; taken.len(), 2);
-    expect_list(&rt, rt.alloc(), &taken, 0, Some(&[1])).expect(&rt, "made");
-    expect_list(&rt, rt.alloc(), &taken, 1, Some(&[2, 3])).expect(&rt, "made");
+    assert!(rt; is_list(rt.alloc(), &taken, 0, Some(&[1])).expect(&rt, "made"));
+    assert!(rt; is_list(rt.alloc(), &taken, 1, Some(&[2, 3])).expect(&rt, "made"));
 }
 
 // The number 7 so many times.

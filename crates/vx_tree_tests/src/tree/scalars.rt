@@ -1,8 +1,8 @@
 // Rows as scalars.
 
-use super::{dictionary, indices, lists};
 use std::alloc::Global;
 use vx_base::{Scalar, ScalarValue, VortexError};
+use vx_test_help::samples::{dictionary, indices, lists};
 use vx_tree::ArrayRef;
 
 // The numbers of a row that is a list: none of another row.

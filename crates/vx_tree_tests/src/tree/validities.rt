@@ -4,10 +4,10 @@ ghost use Rattle.std.specs.Prelude.{◌≡◌, ◌≤◌, IfOk};
 ghost use Rattle.vx_tree.specs.Parts.{valid_of};
 ghost use Rattle.vx_tree.specs.Tree.{bools, by_array, non_nullable};
 
-use super::{booleans, numbers};
 use std::alloc::Global;
 use std::process::Abort;
 use vx_base::{BitBuffer, ByteBuffer, Mask, Nullability, PType, Scalar, VortexError};
+use vx_test_help::{bools, numbers};
 use vx_tree::{
     ArrayRef, IntoArray, Layout, Validity, and_associates, and_commutes, and_has_a_unit,
     and_repeats, trivial_casts_are_casts,
@@ -19,7 +19,7 @@ use vx_tree::{
 fn valid(alloc: Global, values: &[bool]) -> Result<Validity, VortexError>
     ensures { IfOk result (λ v. valid_of v ≡ by_array (bools values.now non_nullable)) }
 {
-    Ok(Validity::Array(booleans(alloc, values)?))
+    Ok(Validity::Array(bools(alloc, values)?))
 }
 
 // A validity array of another data type.
@@ -137,7 +137,7 @@ fn last_of_equal_positions_wins(rt: HostRuntime) {
 
 // Two numbers that are null.
 fn two_nulls(alloc: Global) -> Result<ArrayRef, VortexError> {
-    zero_and_one(alloc)?.mask(alloc, &booleans(alloc, &[false, false])?)
+    zero_and_one(alloc)?.mask(alloc, &bools(alloc, &[false, false])?)
 }
 
 // Stops unless the rows at these places are valid where this is true, and can be null.
@@ -168,7 +168,7 @@ fn rows_of_an_array_at_indices(rt: HostRuntime) {
     let alloc = rt.alloc();
     let places = two_and_four(alloc)
         .expect(&rt, "made")
-        .mask(alloc, &booleans(alloc, &[false, true]).expect(&rt, "made"))
+        .mask(alloc, &bools(alloc, &[false, true]).expect(&rt, "made"))
         .expect(&rt, "made");
     let rows = valid(alloc, &[false, false, true, false, true]).expect(&rt, "made");
     expect_valid(

@@ -6,5 +6,5 @@ use Rattle.vx_tree_tests.proofs.tree.null_indices.null_first.Goals as goal
 pub numbers-requires : goal.numbers-requires
 unfolding numbers
 numbers-requires c =
-    let e = c.in_ok-booleans.ensures in
+    let e = c.in_ok-bools.ensures in
     (record { len = ap tree_len e; kind = ap kind_of e }, refl)

@@ -1,0 +1,6 @@
+use Rattle.std.proofs.Common.{arith}
+use Rattle.vx_canonical_tests.proofs.ByteNumbers.{byte_numbers}
+use Rattle.vx_canonical_tests.proofs.nested.layouts.counts.Goals as goal
+
+pub from_parts-requires : goal.from_parts-requires
+from_parts-requires c = rw c.in_ok-bytes.ensures (tt, omega (arith, byte_numbers c.args.numbers.now))

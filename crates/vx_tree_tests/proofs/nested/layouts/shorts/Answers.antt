@@ -1,7 +1,0 @@
-use Rattle.std.proofs.Common.{refl}
-use Rattle.vx_base.specs.Integers.{numbers}
-use Rattle.vx_tree_tests.proofs.nested.layouts.shorts.Goals as goal
-
-pub from_parts-requires : goal.from_parts-requires
-unfolding numbers
-from_parts-requires c = rw (c.in_ok-truths.ensures, c.in_ok-bytes.ensures) (record { len = refl; kind = refl }, refl)
