@@ -1,6 +1,7 @@
 """Builds the programs of bench/peer, which do in plain Rust what programs of the repository do."""
 import glob
 import os
+import re
 import shutil
 import subprocess
 import sys
@@ -9,12 +10,25 @@ SOURCES = os.path.join(os.path.dirname(os.path.dirname(os.path.abspath(__file__)
 FLAGS = '--edition 2024 -C opt-level=3 -C target-cpu=x86-64-v2 -C codegen-units=1'.split()
 CHECKED = '--edition 2024 -C opt-level=0 -C debug-assertions'.split()
 
+# the first rustc that has what the programs use
+LEAST_RUSTC = (1, 88)
+NO_RUSTC = f'there is no rustc of {".".join(map(str, LEAST_RUSTC))} or later'
+
 SIMDUTF8 = '/usr/share/cargo/registry/simdutf8-*/src/lib.rs'
 
 
 def say(text):
     """What is no part of a table."""
     print(text, file=sys.stderr)
+
+
+def has_rustc():
+    """Whether a rustc is there that builds the programs."""
+    if not shutil.which('rustc'):
+        return False
+    said = subprocess.run(['rustc', '--version'], capture_output=True, text=True).stdout
+    found = re.match(r'rustc (\d+)\.(\d+)', said)
+    return bool(found) and tuple(map(int, found.groups())) >= LEAST_RUSTC
 
 
 def command(source, path, flags):
@@ -36,8 +50,8 @@ def build_simdutf8(folder):
 
 def build(source, folder):
     """The path of a program, or None, and whether it has `simdutf8`."""
-    if not shutil.which('rustc'):
-        say('there is no rustc: the times of plain Rust are missing')
+    if not has_rustc():
+        say(f'{NO_RUSTC}: the times of plain Rust are missing')
         return None, False
     path = os.path.join(folder, 'peer')
     text = build_simdutf8(folder)
