@@ -2,8 +2,7 @@
 //!
 //! A digest goes over the data type of an array, with all names, and over its parts, both down to
 //! six levels. What `vx_jobs` lays out in another way has the digest that it has there: a validity
-//! that is bits counts as an array of truth values, each layout has a number, and a dictionary has a
-//! flag.
+//! that is bits counts as an array of truth values, each layout has a number, a dictionary a flag.
 
 use crate::array::{Array, DType, Layout, PType, Result};
 use crate::bits::BitBuffer;

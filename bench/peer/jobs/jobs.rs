@@ -362,8 +362,8 @@ pub fn writer(random: &mut Random, scale: Scale) -> Result<Digest> {
 
 // ---- nulls ----
 
-/// A digest of a validity that is bits, as the truth values that it is.
-fn with_truths(digest: Digest, validity: &Validity) -> Result<Digest> {
+/// A digest of a validity that is bits, as the truth values that these are.
+fn with_validity(digest: Digest, validity: &Validity) -> Result<Digest> {
     let bits = bits_of(validity)?.clone();
     digest.with_array(&Array::bools_unchecked(bits, Validity::NonNullable))
 }
@@ -380,18 +380,31 @@ fn records_with_nulls(random: &mut Random, rows: usize) -> Result<ArrayRef> {
 }
 
 /// A digest of validities that are joined, turned and patched.
-fn with_joined_nulls(random: &mut Random, digest: Digest, rows: usize) -> Result<Digest> {
+fn with_validities(random: &mut Random, digest: Digest, rows: usize) -> Result<Digest> {
     let one = some_null(random, rows);
     let both = one.and(&some_null(random, rows))?;
-    let digest = with_truths(digest, &both.not())?;
+    let digest = with_validity(digest, &both.not())?;
     let indices = random.numbers(rows / 8, rows);
     let patches = some_null(random, rows / 8);
     let patched = both.patch(rows, &indices, &patches)?;
     let in_ranges = patched.and(&Validity::Array(random.bits_in_runs(rows, 500)))?;
     in_ranges.check(rows)?;
-    let digest = with_truths(digest, &in_ranges)?.with_mask(bits_of(&in_ranges)?);
+    let digest = with_validity(digest, &in_ranges)?.with_mask(bits_of(&in_ranges)?);
     let last = in_ranges.and(&Validity::Array(bits_by_turns(rows)))?;
-    with_truths(digest, &last)
+    with_validity(digest, &last)
+}
+
+/// A digest of truth values as a mask, where a row that is null counts as false.
+fn with_truths(random: &mut Random, digest: Digest, rows: usize) -> Result<Digest> {
+    let bits = random.bits(rows, Share::Half);
+    let null = some_null(random, rows);
+    Ok(digest.with_mask(&bits.and(bits_of(&null)?)))
+}
+
+/// A digest of records whose nulls are pushed into their columns.
+fn with_records(random: &mut Random, digest: Digest, batch: &Array) -> Result<Digest> {
+    let masked = batch.mask(&random.bits(batch.len, Share::Most))?;
+    digest.with_array(&*push_validity(&masked)?)
 }
 
 pub fn nulls(random: &mut Random, scale: Scale) -> Result<Digest> {
@@ -399,13 +412,10 @@ pub fn nulls(random: &mut Random, scale: Scale) -> Result<Digest> {
     let mut digest = Digest::new(scale.rounds);
     for _ in 0..scale.rounds {
         let rows = scale.cut(random);
-        digest = with_joined_nulls(random, digest, scale.batch)?;
-        let bits = random.bits(scale.batch, Share::Half);
-        let null = some_null(random, scale.batch);
-        digest = digest.with_mask(&bits.and(bits_of(&null)?));
+        digest = with_validities(random, digest, scale.batch)?;
+        digest = with_truths(random, digest, scale.batch)?;
         let batch = table.slice(rows.start, rows.end)?;
-        let masked = batch.mask(&random.bits(scale.batch, Share::Most))?;
-        digest = digest.with_array(&*push_validity(&masked)?)?.next_turn();
+        digest = with_records(random, digest, &batch)?.next_turn();
     }
     Ok(digest)
 }
@@ -471,7 +481,8 @@ impl Tables {
     ) -> Result<(ArrayRef, Digest)> {
         let rows = (random.below(1024) + 400).min(scale.batch);
         let start = random.below(scale.column - rows);
-        let digest = digest.with_array(&*self.nested.slice(start, start + rows)?)?;
+        let nested = self.nested.slice(start, start + rows)?;
+        let digest = digest.with_array(&nested)?;
         let batch = self.table.slice(start, start + rows)?;
         let batch = chosen_batch(&batch, &self.chosen, "id")?;
         let digest = digest.with_array(&batch)?;

@@ -215,7 +215,7 @@ impl Array {
         self.take_at(&Picks::U32(places), indices.layout.validity())
     }
 
-    /// The rows that are picked, null also where these nulls are. The views of null rows are emptied
+    /// The rows that are picked, null also where these nulls are. Views of null rows are emptied
     /// before they are shared.
     pub fn take_at(&self, picks: &Picks, nulls: &Validity) -> Result<ArrayRef> {
         let Layout::VarBinView { views, buffers, validity } = &self.layout else {
