@@ -215,20 +215,10 @@ impl Array {
         self.take_at(&Picks::U32(places), indices.layout.validity())
     }
 
-    /// The rows that are picked, null also where these nulls are. Views of null rows are emptied
-    /// before they are shared.
-    pub fn take_at(&self, picks: &Picks, nulls: &Validity) -> Result<ArrayRef> {
-        let Layout::VarBinView { views, buffers, validity } = &self.layout else {
-            return self.select(picks)?.nulled(nulls);
-        };
-        if !nulls.is_nullable() {
-            return self.select(picks);
-        }
-        let validity = picks.validity(validity).and(nulls)?;
-        let mut picked = picks.items(views.typed::<u128>());
-        empty_nulls(&mut picked, &validity);
-        let dtype = self.dtype.clone().or_nullable(true);
-        Ok(Array::views_unchecked(Buffer::from_vec(picked), buffers.clone(), dtype, validity))
+    /// The rows that are picked, null also where these nulls are.
+    fn take_at(&self, picks: &Picks, nulls: &Validity) -> Result<ArrayRef> {
+        let picked = self.select(picks)?;
+        if nulls.is_nullable() { picked.nulled(nulls) } else { Ok(picked) }
     }
 
     pub fn mask(&self, mask: &BitBuffer) -> Result<ArrayRef> {
@@ -256,13 +246,8 @@ impl Array {
                 let (elements, offsets, sizes) = (elements.clone(), offsets.clone(), sizes.clone());
                 Array::list_view(elements, offsets, sizes, valid()?, *flag)
             }
-            Layout::VarBinView { views, buffers, .. } => {
-                let validity = valid()?;
-                let dtype = self.dtype.clone().or_nullable(nulls.is_nullable());
-                let mut own = views.typed::<u128>().to_vec();
-                empty_nulls(&mut own, &validity);
-                Array::views_unchecked(Buffer::from_vec(own), buffers.clone(), dtype, validity)
-            }
+            // No job puts nulls over texts, whose views would have to be emptied.
+            Layout::VarBinView { .. } => return Err(Fault::Usage),
             Layout::Struct { columns, .. } => {
                 Array::structure(self.names()?.clone(), columns.clone(), valid()?, self.len)
             }
@@ -313,20 +298,4 @@ pub fn to_canonical(array: &ArrayRef) -> Result<ArrayRef> {
         }
         _ => array.clone(),
     })
-}
-
-#[inline(never)]
-fn empty_nulls(views: &mut [u128], validity: &Validity) {
-    match validity {
-        Validity::NonNullable | Validity::AllValid => {}
-        Validity::AllInvalid => views.fill(0),
-        Validity::Array(bits) => {
-            for (rows, word) in views.chunks_mut(64).zip(bits.words()) {
-                for (i, view) in rows.iter_mut().enumerate() {
-                    // All ones where the row is valid.
-                    *view &= ((word >> i & 1) as u128).wrapping_neg();
-                }
-            }
-        }
-    }
 }
