@@ -48,9 +48,9 @@ pub trait DictArrayExt: TypedArray {
     ) -> Result<BitBuffer, VortexError>
         ensures { Gives result (λ b. MarksReferenced (Self.as_tree self.now) referenced b.bits) };
 
-    /// The same booleans, and how many codes were read to tell them. The codes are read in blocks
-    /// of 2,048, and reading ends after the first block but the last by which every value is
-    /// referenced: where the codes 0, 1, 0, 1 and so on are 5,000 into two values, 2,048 are read.
+    /// The same booleans, and the end of the scan that tells them. It goes by blocks of 2,048 codes,
+    /// and ends after the first block but the last by which every value is referenced, else after
+    /// all codes: where the codes 0, 1, 0, 1 and so on are 5,000 into two values, it ends at 2,048.
     fn referenced_values_scan(
         &self,
         alloc: Global,

@@ -1,11 +1,12 @@
 -- Lists of steps, one step after another.
-use Rattle.std.proofs.Common.{◌≡◌, ℕ, zero, suc, ◌+◌, ◌<◌, ◌≤◌, List, [], ◌∷◌, ◌++◌, length, take, map, get_or, refl, sym, ◌∙◌, ap, subst, arith, add-zero, append_assoc, length-append, inl, inr}
+use Rattle.std.proofs.Common.{◌≡◌, ℕ, zero, suc, ◌+◌, ◌<◌, ◌≤◌, List, [], ◌∷◌, ◌++◌, length, take, map, get_or, refl, sym, ◌∙◌, ap, subst, arith, add-zero, append_assoc, length-append, length-take, inl}
 use Rattle.std.specs.Prelude.{Option, None, IsSomeAnd}
 use Rattle.std.proofs.Math.ListN.{get_or-map}
 use Rattle.std.proofs.Math.Seq.{take-append_seam}
 use Rattle.std.proofs.lemmas.List.{map-append, take_more, take_all}
 use Rattle.std.proofs.lemmas.Option.{slice_get_read}
 use Rattle.vx_base.specs.declared.errors.VortexError.{VortexError}
+use Rattle.vx_base.specs.declared.errors.VortexError.TheVariants.{Memory}
 use Rattle.vx_base.specs.Refusals.{IsMemoryOr}
 use Rattle.vx_tree.specs.Tree.{Tree, bools, non_nullable}
 use Rattle.vx_run.specs.declared.steps.Step.{Step}
@@ -76,7 +77,21 @@ pub stops_at : (steps : List Step) (i : ℕ) (s : Step) (results lent : List Tre
     → IsMemoryOr (step_fault s lent) e → IsStop steps i results e
 stops_at steps i s results lent e inside is same refused =
     let P : Option Step → Type 0 = λ o. IsSomeAnd o (λ t. IsMemoryOr (step_fault t results) e) in
-    inr (subst P (sym (slice_get_read steps (length steps) i s refl inside is)) (subst (λ ts. IsMemoryOr (step_fault s ts) e) same refused))
+    subst P (sym (slice_get_read steps (length steps) i s refl inside is)) (subst (λ ts. IsMemoryOr (step_fault s ts) e) same refused)
+
+-- memory is refused before the first step
+pub stops_first : (steps : List Step) (results : List Tree) (capacity : ℕ) → length results ≤ capacity → capacity < length results + length steps
+    → IsStop steps 0 results Memory
+stops_first [] results capacity holds full = absurd (omega (arith, holds, full))
+stops_first (s ∷ ss) results capacity holds full = inl refl
+
+-- room for the given arrays and a result of each step is there still
+pub room_left : (steps : List Step) (i held capacity : ℕ) (arrays results : List Tree) → IsRun (take i steps) arrays results → i < length steps
+    → held ≡ length results → held + length steps ≤ capacity + i → length arrays + length steps ≤ capacity
+room_left steps i held capacity arrays results run inside is fits =
+    let made = run-len (take i steps) arrays results run in
+    let count = length-take i steps in
+    omega (arith, made, count, is, fits, inside)
 
 -- after the last step
 pub run-all : (steps : List Step) (i : ℕ) (arrays results : List Tree) → IsRun (take i steps) arrays results → length steps ≤ i → HasRun steps arrays results
@@ -88,7 +103,5 @@ run-all steps i arrays results run past =
 -- where it is refused, the arrays are as they were
 pub one-stop : (s : Step) (k : ℕ) (arrays results : List Tree) (e : VortexError) → HasRun (take k (s ∷ [])) arrays results → IsStop (s ∷ []) k results e
     → (results ≡ arrays) × IsMemoryOr (step_fault s arrays) e
-one-stop s zero arrays results e run (inl room) = (run.each, inl room.1)
-one-stop s zero arrays results e run (inr refused) = (run.each, subst (λ ts. IsMemoryOr (step_fault s ts) e) run.each refused)
-one-stop s (suc k) arrays results e run (inl room) = absurd (cc)
-one-stop s (suc k) arrays results e run (inr refused) = absurd refused
+one-stop s zero arrays results e run refused = (run.each, subst (λ ts. IsMemoryOr (step_fault s ts) e) run.each refused)
+one-stop s (suc k) arrays results e run refused = absurd refused

@@ -1,5 +1,5 @@
 -- What steps append to a list of arrays, and why a step is refused.
-use Rattle.std.specs.Prelude.{◌≡◌, ◌+◌, ◌++◌, ◌⊎◌, ℕ, Bool, true, false, List, [], ◌∷◌, length, take, map, slice_range, slice_get}
+use Rattle.std.specs.Prelude.{◌≡◌, ◌+◌, ◌++◌, ◌⊎◌, ◌≤◌, ℕ, Bool, true, false, List, [], ◌∷◌, length, take, map, slice_range, slice_get}
 use Rattle.std.specs.Prelude.{slice_index_or, Option, Some, None, IsSomeAnd, if◌then◌else◌}
 use Rattle.std.specs.List.{flat_map, remove}
 use Rattle.vx_base.specs.declared.errors.VortexError.{VortexError}
@@ -207,8 +207,10 @@ pub record HasRun (steps : List Step) (arrays results : List Tree) : Type 0 wher
   pub each : IsRun steps arrays results
   pub same_rows : map rows_of results ≡ run_rows steps (map rows_of arrays)
 
--- room for the results was refused before the first step; or a step that finds these arrays is refused, by its first fault
--- or for want of memory
+-- a step that finds these arrays is refused, by its first fault or for want of memory
 abbrev pub IsStop : List Step → ℕ → List Tree → VortexError → Type 0
-IsStop steps k arrays error =
-    ((k ≡ 0) × (error ≡ Memory)) ⊎ IsSomeAnd (slice_get steps k) (λ s. IsMemoryOr (step_fault s arrays) error)
+IsStop steps k arrays error = IsSomeAnd (slice_get steps k) (λ s. IsMemoryOr (step_fault s arrays) error)
+
+-- memory is refused at the first step; or there is room for so many arrays
+abbrev pub HasRoom : ℕ → ℕ → ℕ → VortexError → Type 0
+HasRoom count room k error = ((k ≡ 0) × (error ≡ Memory)) ⊎ (count ≤ room)

@@ -1,11 +1,12 @@
 // Runs lists of steps on arrays.
 
-ghost use Rattle.std.specs.Prelude.{◌≡◌, true, IfOk, IfErr, length, take};
+ghost use Rattle.std.specs.Prelude.{◌≡◌, ◌+◌, true, IfOk, IfErr, length, take};
+ghost use Rattle.std.specs.Vec.{vec_capacity};
 ghost use Rattle.vx_base.specs.Refusals.{Refuses, Tests, or_else};
 ghost use Rattle.vx_tree.specs.Faults.{position_fault};
 ghost use Rattle.vx_tree.specs.Meaning.{tree_len, rows};
 ghost use Rattle.vx_tree.specs.Operations.{truths};
-ghost use Rattle.vx_run.specs.Steps.{IsStep, HasRun, IsStop, array_at, arrays_at, positions_fault, mask_fault, layout_fault, step_fault};
+ghost use Rattle.vx_run.specs.Steps.{IsStep, HasRun, IsStop, HasRoom, array_at, arrays_at, positions_fault, mask_fault, layout_fault, step_fault};
 
 use crate::record_steps::{projected, pushed, with_column, without_column};
 use crate::steps::Step;
@@ -65,7 +66,8 @@ pub(crate) fn drop_last_first(mut arrays: Vec<ArrayRef>) {
 /// `Slice { array: 0, start: 1, end: 3 }` and `Concat { arrays: [1, 0] }` append 2, 3 and then 2,
 /// 3, 1, 2, 3.
 ///
-/// Room for all results is reserved first: where that is refused, the fault is at step 0. A step is
+/// Room for all results is reserved first: where that is refused, the fault is at step 0. No steps
+/// give the arrays as they are. A step is
 /// refused with `OutOfBounds` and the position where no array stands, in the order of its fields;
 /// then with `MismatchedTypes` where an array has not the layout that the step takes, or the mask
 /// of `Filter` is not one of plain booleans; then as its call refuses: `slice`, `take`, `filter`,
@@ -80,6 +82,8 @@ pub fn run(
     ensures ok { IfOk result (λ results. HasRun steps.now arrays.items results.items) }
     ensures before { IfErr result (λ fault. HasRun (take fault.step steps.now) arrays.items fault.arrays.items) }
     ensures stops { IfErr result (λ fault. IsStop steps.now fault.step fault.arrays.items fault.error) }
+    ensures room { IfErr result (λ fault. HasRoom
+        (length arrays.items + length steps.now) (vec_capacity fault.arrays) fault.step fault.error) }
 {
     if arrays.reserve(steps.len()).is_err() {
         return Err(RunFault {

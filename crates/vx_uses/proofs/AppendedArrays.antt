@@ -3,6 +3,7 @@ use Rattle.std.proofs.Common.{◌≡◌, ◌++◌, List, [], ◌∷◌, map, Non
 use Rattle.std.specs.Prelude.{Result, Ok, Err, IfOk}
 use Rattle.std.specs.List.{All, flat_map}
 use Rattle.std.proofs.lemmas.List.{map-append}
+use Rattle.std.proofs.lemmas.List.Elements.{All-nil, All-cons, All-append}
 use Rattle.vx_base.specs.declared.errors.VortexError.{VortexError}
 use Rattle.vx_base.specs.Refusals.{Refuses, or_else}
 use Rattle.vx_tree.specs.Tree.{Tree}
@@ -16,6 +17,15 @@ use Rattle.vx_uses.proofs.TwoFaults.{refuses_after}
 module _ (ts : List Tree) (r d u : Tree) (first : IsConcatenated ts r) (same : d ≡ u) where
   pub appended_rows : flat_map rows (r ∷ d ∷ []) ≡ flat_map rows ts ++ rows u
   appended_rows = ap (λ rs. rows r ++ rs) (append-nil (rows d)) ∙ ap₂ (λ rs qs. rs ++ qs) first.same_rows (ap rows same)
+
+  pub appended_kinds : (made : Result Tree VortexError) → IfOk made (λ a. All (λ t. kind_of t ≡ kind_of a) (r ∷ d ∷ []))
+      → IfOk made (λ a. All (λ t. kind_of t ≡ kind_of a) (ts ++ u ∷ []))
+  appended_kinds (Err e) kinds = tt
+  appended_kinds (Ok a) kinds =
+      let is_of : Tree → Type 0 = λ t. kind_of t ≡ kind_of a in
+      let joined : kind_of r ≡ kind_of a = kinds 0 r (omega arith) in
+      let last : kind_of u ≡ kind_of a = ap kind_of (sym same) ∙ kinds 1 d (omega arith) in
+      All-append is_of ts (u ∷ []) (λ i t inside. first.kind i t inside ∙ joined) (All-cons is_of u [] last (All-nil is_of))
 
   pub appended_extent : (made : Result Tree VortexError) → ExtentsCompose → IfOk made (λ a. All (λ t. kind_of t ≡ kind_of a) (r ∷ d ∷ []))
       → IfOk made (λ a. extent_of a ≡ joined_extent (kind_of a) (map extent_of (r ∷ d ∷ []))) → IfOk made (λ a. extent_of a ≡ joined_extent (kind_of a) (map extent_of (ts ++ u ∷ [])))

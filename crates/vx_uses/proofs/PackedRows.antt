@@ -48,7 +48,7 @@ sizes_of_rows t is = ap (map (λ (value : List ℕ). length value)) (values_of_r
 
 -- ---- buffers
 
-pieces_within : (limit : ℕ) (heap lens : List ℕ) (from : ℕ) (ends : List ℕ) (to : ℕ) → ArePieces limit lens from ends to → All (λ b. length b ≤ limit) (pieces_of heap from ends)
+pub pieces_within : (limit : ℕ) (heap lens : List ℕ) (from : ℕ) (ends : List ℕ) (to : ℕ) → ArePieces limit lens from ends to → All (λ b. length b ≤ limit) (pieces_of heap from ends)
 pieces_within limit heap lens from [] to pieces = All-nil (λ (b : List ℕ). length b ≤ limit)
 pieces_within limit heap lens from (end ∷ ends) to pieces =
     All-cons (λ (b : List ℕ). length b ≤ limit) (slice_range heap from end) (pieces_of heap end ends)

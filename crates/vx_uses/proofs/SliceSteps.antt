@@ -69,16 +69,15 @@ accepted t part a b c d parts = λ i. or_else (parts.outer i) (parts.inner i)
 
 refused-at : (t : Tree) (a b c d k : ℕ) (arrays : List Tree) (e : VortexError) → HasRun (take k (cuts a b c d)) (t ∷ []) arrays
     → IsStop (cuts a b c d) k arrays e → IsMemoryOr (or_else (slice_fault (tree_len t) a b) (slice_fault (b - a) c d)) e
-refused-at t a b c d k arrays e run (inl memory) = inl memory.1
-refused-at t a b c d zero arrays e run (inr stop) =
+refused-at t a b c d zero arrays e run stop =
     refused_before (slice_fault (tree_len t) a b) (slice_fault (b - a) c d) e (subst (λ ts. IsMemoryOr (step_fault (Slice 0 a b) ts) e) run.each stop)
-refused-at t a b c d (suc zero) arrays e run (inr stop) =
+refused-at t a b c d (suc zero) arrays e run stop =
     let first = run.each in
     let r = first.0 in
     let outer = is_part t r a b first.1 (first.2.kind) (ap (λ x. x.row_list) first.2.same_rows) in
     let inner : IsMemoryOr (slice_fault (tree_len r) c d) e = subst (λ ts. IsMemoryOr (step_fault (Slice 1 c d) ts) e) first.3 stop in
     subst (λ f. IsMemoryOr (or_else f (slice_fault (b - a) c d)) e) (sym outer.accepted) (subst (λ n. IsMemoryOr (slice_fault n c d) e) outer.len inner)
-refused-at t a b c d (suc (suc k)) arrays e run (inr stop) = absurd stop
+refused-at t a b c d (suc (suc k)) arrays e run stop = absurd stop
 
 pub cuts-refused : (t : Tree) (a b c d k : ℕ) (given arrays : List Tree) (e : VortexError) → given ≡ t ∷ [] → HasRun (take k (cuts a b c d)) given arrays
     → IsStop (cuts a b c d) k arrays e → IsMemoryOr (or_else (slice_fault (tree_len t) a b) (slice_fault (b - a) c d)) e

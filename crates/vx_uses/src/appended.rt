@@ -1,7 +1,7 @@
 //! Arrays that are joined in two steps.
 
 ghost use Rattle.std.specs.Prelude.{◌≡◌, ◌++◌, ◌∷◌, [], map, IfOk};
-ghost use Rattle.std.specs.List.{flat_map};
+ghost use Rattle.std.specs.List.{All, flat_map};
 ghost use Rattle.vx_base.specs.Refusals.{Refuses, or_else};
 ghost use Rattle.vx_canonical.specs.Concatenated.{concat_fault};
 ghost use Rattle.vx_tree.specs.Extents.{extent_of, joined_extent};
@@ -24,6 +24,8 @@ pub fn appended(
     later: &ArrayRef,
 ) -> Result<ArrayRef, VortexError>
     ensures rows { IfOk result (λ a. rows a ≡ flat_map rows first.now ++ rows later.now) }
+    ensures kind { IfOk result (λ a.
+        All (λ t. kind_of t ≡ kind_of a) (first.now ++ later.now ∷ [])) }
     ensures extent { IfOk result (λ a. extent_of a
         ≡ joined_extent (kind_of a) (map extent_of (first.now ++ later.now ∷ []))) }
     ensures refuses { Refuses result (or_else

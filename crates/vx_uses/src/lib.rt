@@ -1,5 +1,5 @@
 //! What a caller can conclude: short callers, as a reader, a kernel and a converter would write
-//! them, proved over the public contracts alone.
+//! them, proved over the contracts of what they call. Their proofs cite lemmas of the crates below.
 #![tactic(auto)]
 
 pub mod appended;

@@ -1,6 +1,7 @@
 //! Values as a writer lays them out: views, and the buffers that they refer to.
 
 ghost use Rattle.std.specs.Prelude.{◌≡◌, ◌<◌, ◌≤◌, ℕ, List, [], length, map, slice_index_or, IfOk};
+ghost use Rattle.std.specs.List.{All};
 ghost use Rattle.vx_base.specs.Refusals.{Refuses};
 ghost use Rattle.vx_views.specs.BuildFaults.{lengths_of, build_fault, IsPieceCount};
 ghost use Rattle.vx_views.specs.Cut.{IsCut};
@@ -46,6 +47,7 @@ pub fn write_values<P: NativePType>(
     ensures read_back { IfOk result (λ c. (row : ℕ) → row < length lens.now →
         view_value c.buffers.items (slice_index_or c.views row [])
         ≡ value_at heap (lengths_of (map P.value lens.now)) row) }
+    ensures within { IfOk result (λ c. All (λ buffer. length buffer ≤ limit) c.buffers.items) }
     ensures fewest { IfOk result (λ c. (others : List ℕ) →
         IsCut limit (lengths_of (map P.value lens.now)) others →
         length c.buffers.items ≤ length others) }

@@ -28,8 +28,7 @@ use vx_base::{ByteBuffer, Mask, VortexError};
 /// is judged alone: bytes that no valid view refers to never refuse, and neither does a null row.
 ///
 /// The `budget` is the number of bytes of whole buffers that may be read ahead, as
-/// `check_views_counted` reads them; it changes no answer. Asks at most one boolean of the mask for
-/// each view.
+/// `check_views_counted` reads them; it changes no answer.
 pub fn check_views(
     alloc: Global,
     views: &[BinaryView],

@@ -231,7 +231,7 @@ impl ListViewArray {
     /// end as `rebuild_by_take` does where `should_use_take` says so of the total of the valid
     /// sizes and the rows, else as `rebuild_by_runs` does: both give offsets and sizes their new
     /// types, and both refuse `Overflow`. What comes back as it is, flagged or trimmed keeps the
-    /// types of both.
+    /// types of both, and each null list its size and elements, as `mask` leaves them.
     pub fn rebuild(
         &self,
         alloc: Global,
