@@ -54,11 +54,15 @@ const char *codrask_fault_name(uint32_t number) {
         "NotImplemented", "HasNulls", "UnknownField", "EmptyInput", "DifferingDtypes", "NotUtf8", "BadBuffer", "BadStart",
         "BadEnd", "BadPrefix", "LimitTooLarge", "ValueTooLong", "LengthsNotExact", "FallingOffsets", "PatchOutOfRange",
         "DegenerateElements"};
+    static const char *const of_streams[] = {"StreamFailed", "DifferingSchemas"};
     static const char *const of_tables[] = {"UnknownKind",  "BadValidity", "MissingNodes", "NotOneArray",
                                             "TooManyNodes", "BadMode",     "TooManySteps"};
-    static const char *const of_arrow[] = {"BadArrow", "NotEndToEnd",  "TooManyBytes",   "TooManyBuffers", "TooDeep",
-                                           "Released", "BadNullCount", "UnexpectedNull", "BadFlags"};
+    static const char *const of_arrow[] = {"BadArrow",     "NotEndToEnd",    "TooManyBytes", "TooManyBuffers", "TooDeep",   "Released",
+                                           "BadNullCount", "UnexpectedNull", "BadFlags",     "ShortBuffer",    "BadLengths"};
     if (number < CODRASK_UNKNOWN_KIND)
         return NAME_FROM(number, 0, of_libraries);
-    return number < CODRASK_BAD_ARROW ? NAME_FROM(number, CODRASK_UNKNOWN_KIND, of_tables) : NAME_FROM(number, CODRASK_BAD_ARROW, of_arrow);
+    if (number < CODRASK_BAD_ARROW)
+        return NAME_FROM(number, CODRASK_UNKNOWN_KIND, of_tables);
+    return number < CODRASK_STREAM_FAILED ? NAME_FROM(number, CODRASK_BAD_ARROW, of_arrow)
+                                          : NAME_FROM(number, CODRASK_STREAM_FAILED, of_streams);
 }

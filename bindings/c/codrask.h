@@ -2,13 +2,14 @@
  *
  * A column is a table of nodes. Each node is an array, and it stands before the nodes of its parts. codrask_check tells
  * whether a table is a column, and if not, its first fault: which node, which row. What the calls of the first part answer
- * is proved; docs/FROM_C.md says what is trusted of their caller. The second part reads and writes Arrow's C Data Interface: it makes
- * tables, and leaves every test of a column to the first.
+ * is proved; docs/FROM_C.md says what is trusted of their caller. The second part reads and writes the structs of Arrow, of arrays
+ * and of streams: it makes tables, and leaves every test of a column to the first.
  *
  * For machines of 64 bits whose numbers stand in memory with the lowest byte first, and for gcc or clang. */
 #ifndef CODRASK_H
 #define CODRASK_H
 
+#include <stdbool.h>
 #include <stddef.h>
 #include <stdint.h>
 
@@ -86,6 +87,7 @@ enum codrask_number {
     CODRASK_OUT_OF_BOUNDS = 5,
     CODRASK_NEGATIVE = 6,
     CODRASK_OVERFLOW = 7,
+    CODRASK_UNKNOWN_FIELD = 10,
     CODRASK_NOT_UTF8 = 13,
     CODRASK_BAD_BUFFER = 14,
     CODRASK_BAD_START = 15,
@@ -108,7 +110,9 @@ enum codrask_number {
     CODRASK_RELEASED = 69,         /* a struct whose release is null: it was released, or never made */
     CODRASK_BAD_NULL_COUNT = 70,   /* a null count that is neither -1 nor the number of nulls */
     CODRASK_UNEXPECTED_NULL = 71,  /* a null where the schema lets no row be null */
-    CODRASK_BAD_FLAGS = 72         /* flags that are none of codrask_arrow_flags */
+    CODRASK_BAD_FLAGS = 72,        /* flags that are none of codrask_arrow_flags */
+    CODRASK_SHORT_BUFFER = 73,     /* a buffer has fewer bytes than its array needs */
+    CODRASK_BAD_LENGTHS = 74       /* lengths that are not one for each buffer, or of a null pointer one that is not 0 */
 };
 
 /* The version of the proved calls and of the table: 1. */
@@ -242,6 +246,32 @@ struct ArrowArray {
 
 #endif
 
+/* Columns whose values the layer has no type for are carried as their bytes, under the format that they came with: floats, decimals,
+ * dates, times, durations, intervals, byte lists of one size, nulls, maps. Such a column is a record of one column whose name no Arrow
+ * column can have: a byte 0, then the format, as "\0f". The records have the nulls. Their column is never nullable, and has
+ *
+ *   of 1, 2, 4 or 8 bytes: unsigned numbers of that width;
+ *   of another width: lists of that size (CODRASK_FIXED_SIZE_LIST) of CODRASK_U8, which are never nullable either;
+ *   of nulls, "n": lists of size 0, and every record is null (CODRASK_ALL_INVALID);
+ *   of maps, "+m", or where their keys are sorted "+m sorted": list views of records of keys and values.
+ *
+ * The values are opaque: rows of them are cut, taken, masked and joined, and there is no arithmetic and no comparison. Names belong to the
+ * data type of records, so columns of two formats are of two types: joined they are refused, and so they are as numbers,
+ * indices, codes, offsets or sizes.
+ *
+ * An extension (ARROW:extension:name in the metadata of a schema) stands in the same name, behind the format: a byte 0 and its name; and
+ * where it has metadata (ARROW:extension:metadata), a byte 0 and these. Where the layer has a type for the column, the name has no
+ * format ("\0\0geoarrow.wkb\0{}"): the records are never null, and their column is what it is without the extension. So it is of a
+ * dictionary whose codes are ordered, whose word is "ordered" in place of a format; made plain, it goes out as plain values. Such
+ * records may carry others that carry; an array that is written has one extension at most. */
+
+/* Whether a node is such a record. What its word says is not looked at. */
+bool codrask_is_carried(const struct codrask_node *node);
+
+/* The format of such a record and how many bytes it has: no byte 0 ends it. "+m sorted", "ordered" and "" are words of their own, as
+ * above. A null pointer of another node. */
+const char *codrask_carried_format(const struct codrask_node *node, size_t *size);
+
 /* How many bytes a call may take: reading, those of the slices of the table, each as often as a node has it; writing, those of
  * the buffers that are made, and of the slices of the table. Where `bytes` is 0 or the limits are a null pointer, they are 8 MiB, or
  * 8 times the distinct bytes that the call is given, whichever is more. More is CODRASK_TOO_MANY_BYTES, at the first node at which
@@ -258,30 +288,36 @@ struct codrask_table {
     void *memory; /* what the table itself has */
 };
 
-/* Makes a table of an Arrow array: booleans ("b"), the eight types of integers, also as dates and times, texts and byte lists by
- * offsets ("u", "U", "z", "Z") or by views ("vu", "vz"), lists ("+l", "+L", "+vl", "+vL", "+w:N"), structs ("+s") and dictionaries, at
- * any offset. Which column it is, or which fault it has, codrask_check tells. Rows may be null where the schema says so, and nowhere
- * else. What texts and lists by offsets do not refer to, before the first and after the last, is not in the table.
+/* Makes a table of an Arrow array, and believes that each buffer is as long as the array needs, and a text's last offset that of its
+ * bytes: Arrow's structs tell no length but that of the buffers of views. codrask_read_arrow_sized is told them.
  *
- * Answers 0, or the number of a refusal, which *fault has with its node: the one that the array has, or would have, in the table.
- * Nothing is to be given back then. First, from the first node to the last:
+ * Read are booleans ("b"), the eight types of integers, texts and byte lists by offsets ("u", "U", "z", "Z") or by views ("vu", "vz"),
+ * lists ("+l", "+L", "+vl", "+vL", "+w:N"), structs ("+s"), dictionaries, and what is carried (above), at any offset. Which column it
+ * is, or which fault it has, codrask_check tells. Rows may be null where the schema says so, and nowhere else, but in a column of nulls
+ * ("n"), which is what it is. What texts and lists by offsets do not refer to, before the first and after the last, is not in the table.
+ *
+ * Answers 0, or the number of a refusal, which *fault has with its node: of structs, formats and metadata the first one that the array
+ * has, or would have, in the table; of buffers, rows and the names of children that of the array itself, which stands behind the record
+ * of an extension, and of codes behind their dictionary. Nothing is to be given back then. First, from the first node to the last:
  *
  * CODRASK_RELEASED: the release of a schema or an array is null.
- * CODRASK_BAD_ARROW: a null pointer in place of a struct; a format that is another one (floats) or none; a negative count, length
+ * CODRASK_BAD_ARROW: a null pointer in place of a struct; a format that is another one (unions, runs) or none; a negative count, length
  *   or offset; more rows than 63 bits tell, or than all memory has; other numbers of buffers or children than the format has; no array
- *   of buffers or children; a dictionary in the schema or in the array alone, or with codes whose format is no integer.
+ *   of buffers or children; a map whose entries are not records of two columns; a dictionary in the schema or in the array alone, or
+ *   with codes whose format is no integer; in the metadata a negative size, or a name of an extension that has a byte 0.
  * CODRASK_TOO_DEEP: the array is nested deeper than 64 levels.
  * CODRASK_TOO_MANY_NODES: the table would have more than 4096 nodes; told of node 0, as codrask_check does.
  * CODRASK_TOO_MANY_BUFFERS: all arrays of views have more than 65536 buffers.
- * CODRASK_TOO_MANY_BYTES: of the names.
+ * CODRASK_TOO_MANY_BYTES: of the names, to which formats and extensions of what is carried belong; or metadata of more than 2^20 keys.
  *
  * Then CODRASK_TOO_MANY_BYTES by the limits. Then, from the first node to the last:
  *
  * CODRASK_BAD_NULL_COUNT: the null count is neither -1 nor the number of bits that are not set, of the rows of the array itself; of
- *   rows that are not read, since what the array stands in has fewer, any number may be null. Without a bitmap none is.
+ *   rows that are not read, since what the array stands in has fewer, any number may be null. Without a bitmap none is; of nulls ("n")
+ *   all are.
  * CODRASK_UNEXPECTED_NULL: a row that is read is null where the schema is not nullable: that of the array, or for the values of a
  *   dictionary that of their codes. It may be null where the records or the list of one size that it lies in are. The place is the row.
- * CODRASK_BAD_ARROW: a buffer of views has a negative size; the place is the buffer.
+ * CODRASK_BAD_ARROW: a buffer of views has a negative size; the place is the buffer, the first of them being 0.
  * CODRASK_OVERFLOW: a text by offsets has 2 GiB or more; the place is the row.
  *
  * CODRASK_MEMORY may come in place of any answer. */
@@ -300,6 +336,65 @@ void codrask_table_free(struct codrask_table *table);
 /* Makes the table without limits of the caller's, checks it, and gives it back. */
 uint32_t codrask_check_arrow(const struct ArrowSchema *schema, const struct ArrowArray *array, struct codrask_fault *fault);
 
+/* How codrask_read_arrow_sized reads an array. Limits of 0, and each pointer that is null, ask for nothing; a count is then 0. */
+struct codrask_reading {
+    struct codrask_limits limits;
+    /* How many bytes each buffer has: an array's buffers, then its children's, then its dictionary's. With a null pointer it is 0. */
+    const size_t *lengths;
+    size_t length_count;
+    /* Names: of the outermost records these columns alone are read, in this order. */
+    const char *const *columns;
+    size_t column_count;
+};
+
+/* Why an array is not read. */
+struct codrask_arrow_fault {
+    struct codrask_fault fault;
+    const char *format; /* that of the schema of the array which is refused, good as long as the schema is; or a null pointer */
+    const char *name;   /* the same */
+};
+
+/* Makes a table as codrask_read_arrow does, but as `how` says; a null pointer asks for nothing. Where lengths are told, each slice is
+ * tested against its buffer's before a byte of it is read, so that neither this call nor codrask_check reads past one. The bytes of texts
+ * and byte lists end where their buffer does: codrask_check tells the first row that passes it, as CODRASK_BAD_START or
+ * CODRASK_BAD_END. A buffer must have the bytes of the rows that are read, and may have more.
+ *
+ * What is refused above is refused here too, and in that order. Where columns are chosen, these come before all:
+ *
+ * CODRASK_RELEASED, CODRASK_BAD_ARROW, CODRASK_TOO_MANY_NODES, CODRASK_TOO_MANY_BYTES: of the structs and the metadata of the outermost
+ *   array, as above, with all its columns. Also CODRASK_BAD_ARROW where it is no records, or `columns` is a null pointer; and
+ *   CODRASK_TOO_MANY_NODES where 4096 columns are chosen.
+ * CODRASK_UNKNOWN_FIELD, of node 0: no column has the name, or several have it; the place is that of the name. A column whose schema was
+ *   released has no name.
+ *
+ * A column that is passed over has no node, and its structs are not looked at, but to count its buffers. Where lengths are told, all
+ * above comes first that the structs alone tell: the first list but for rows past all memory. Then:
+ *
+ * CODRASK_BAD_LENGTHS, of node 0: there is not one length for each buffer of each array, also of columns that are passed over (what was
+ *   released has none); a null pointer has a length other than 0; `lengths` is a null pointer, and there are some; or the arrays of a
+ *   column that is passed over cannot be counted: a null pointer, a negative count, more than 64 levels, or 65536 arrays in all.
+ *
+ * Then, from the first node to the last:
+ *
+ * CODRASK_SHORT_BUFFER: a bitmap, truth values, numbers, offsets, sizes of lists or views have fewer bytes than the rows that are read
+ *   need; the sizes of the buffers of views are fewer than these; then, such a buffer has fewer bytes than its size says. The place is
+ *   the number of the buffer in its array, and the node that of the array; where it has a dictionary, that of the codes.
+ * CODRASK_BAD_ARROW: rows past all memory.
+ *
+ * Then CODRASK_TOO_MANY_BYTES by the limits, and all that follows it above. The fault has the format and the name of the array's schema,
+ * but with CODRASK_MEMORY, CODRASK_TOO_MANY_NODES, CODRASK_TOO_MANY_BYTES, CODRASK_UNKNOWN_FIELD and CODRASK_BAD_LENGTHS, where that
+ * schema was released, and where the outermost schema or array is a null pointer. */
+uint32_t codrask_read_arrow_sized(const struct ArrowSchema *schema, const struct ArrowArray *array, const struct codrask_reading *how,
+                                  struct codrask_table *table, struct codrask_arrow_fault *fault);
+
+/* The same with lengths, and nothing else that is asked for; a null pointer is no length. The node is not told. */
+uint32_t codrask_table_from_arrow_sized(const struct ArrowSchema *schema, const struct ArrowArray *array, const size_t *lengths,
+                                        size_t count, struct codrask_table *table);
+
+/* Makes the table with lengths, as above, checks it, and gives it back. */
+uint32_t codrask_check_arrow_sized(const struct ArrowSchema *schema, const struct ArrowArray *array, const size_t *lengths, size_t count,
+                                   struct codrask_fault *fault);
+
 /* How codrask_write_arrow writes. */
 enum codrask_arrow_flags {
     CODRASK_BY_VIEWS = 0,  /* texts and byte lists as "vu", "vz", lists as "+vL" */
@@ -307,17 +402,20 @@ enum codrask_arrow_flags {
 };
 
 /* Writes a column as an Arrow array that has blocks of its own, to be given back by its release, as its schema is by its own. The
- * table is checked first, and copied. The column has a name, or where that is a null pointer, "". Answers 0, or the number of the
+ * table is checked first, and copied. What is carried goes out in its format, with its extension; maps by offsets, whichever the flags
+ * are. The column has a name, or where that is a null pointer, "". Answers 0, or the number of the
  * first of these, and *fault has it; nothing is to be released then:
  *
  * CODRASK_BAD_FLAGS: flags that are no sum of codrask_arrow_flags.
  * CODRASK_TOO_MANY_BYTES: the table has more bytes than the limits allow.
  * The first fault of the table: what codrask_check tells of it.
  * Then, array by array:
- * CODRASK_OVERFLOW: a length, an offset or the end of a list has more than 63 bits; the size of lists of one size, or a view, more
- *   than 31. The place is the row, or 0.
+ * CODRASK_OVERFLOW: a length, an offset or the end of a list has more than 63 bits; the size of lists of one size, a view, or the end of
+ *   a map, more than 31. The place is the row, or 0.
  * CODRASK_NOT_END_TO_END: lists are to be written by offsets, and that of the place does not begin where the one before it ends.
- * CODRASK_BAD_ARROW: codes, offsets, sizes or a validity are themselves a dictionary, or a name has a byte 0.
+ * CODRASK_BAD_ARROW: codes, offsets, sizes or a validity are themselves a dictionary, or a name has a byte 0; but where a record of one
+ *   column has a name that begins so, and has not the form that its word says: another kind or width, a column that is nullable, a word
+ *   that is none, a row of "n" that is not null, which is then the place.
  * CODRASK_TOO_MANY_BYTES: more than the limits allow would be written.
  *
  * CODRASK_MEMORY may come in place of any answer. */
@@ -328,6 +426,82 @@ uint32_t codrask_write_arrow(const struct codrask_node *nodes, size_t node_count
 /* The same without a name and without limits of the caller's. */
 uint32_t codrask_to_arrow(const struct codrask_node *nodes, size_t node_count, uint32_t flags, struct ArrowSchema *schema,
                           struct ArrowArray *array, struct codrask_fault *fault);
+
+/* ---- Arrow's C Stream Interface ---- */
+
+#ifndef ARROW_C_STREAM_INTERFACE
+#define ARROW_C_STREAM_INTERFACE
+
+struct ArrowArrayStream {
+    int (*get_schema)(struct ArrowArrayStream *, struct ArrowSchema *out);
+    int (*get_next)(struct ArrowArrayStream *, struct ArrowArray *out);
+    const char *(*get_last_error)(struct ArrowArrayStream *);
+    void (*release)(struct ArrowArrayStream *);
+    void *private_data;
+};
+
+#endif
+
+/* The numbers that the calls for streams alone have. */
+enum codrask_stream_number {
+    CODRASK_EMPTY_INPUT = 11,      /* no column */
+    CODRASK_STREAM_FAILED = 80,    /* the stream itself answers an error */
+    CODRASK_DIFFERING_SCHEMAS = 81 /* a column that has not the schema of the first one */
+};
+
+/* A stream that is read a batch at a time. The caller sets the pointer to the stream, and all else to zero:
+ * struct codrask_stream in = {.stream = &stream}. The stream, the schema and the present batch are given back by codrask_stream_free,
+ * also where something was refused. */
+struct codrask_stream {
+    struct ArrowArrayStream *stream;
+    struct ArrowSchema schema;          /* of all batches: asked for once, by the first call */
+    struct ArrowArray array;            /* the present batch, or none */
+    struct codrask_table table;         /* the same over the buffers of the array; without a node where there is none */
+    size_t batches;                     /* how many were read; also the number, counted from 0, of a batch that is refused */
+    int error;                          /* what the stream answered where it failed itself, else 0 */
+    const char *message;                /* what the stream says of that, or "" */
+    struct codrask_arrow_fault refused; /* what was refused, else a number 0 */
+    uint32_t state;                     /* of the call alone */
+};
+
+/* Gives back the batch before, and reads the next one as codrask_read_arrow_sized does: with the lengths of its buffers, where they are
+ * known, or some columns alone. Which column it is, or which fault it has, codrask_check tells. Answers 0 with a table, or at the end
+ * of the stream 0 with a table without nodes, and so ever after. Or the number of a refusal, which *fault has: there is no batch then,
+ * no callback of the stream is called any more, and each further call answers the same. By the first call alone:
+ *
+ * CODRASK_BAD_ARROW: the pointer to the stream is null.
+ * CODRASK_RELEASED: the release of the stream is null.
+ * CODRASK_BAD_ARROW: another callback of the stream is null.
+ * CODRASK_STREAM_FAILED: the stream has no schema to give; `error` and `message` have what it answered.
+ * CODRASK_RELEASED: the release of the schema is null.
+ *
+ * By each call:
+ *
+ * CODRASK_STREAM_FAILED: the stream fails, as above.
+ * What codrask_read_arrow_sized refuses, with its node, place, format and name.
+ *
+ * To keep a batch, take `array` and `table` out, and set the release of the one to null and the other to zero. */
+uint32_t codrask_next_batch(struct codrask_stream *stream, const struct codrask_reading *how, struct codrask_arrow_fault *fault);
+
+/* Gives back what a stream has, and the stream: each once, also where it is called again. All is zero then. */
+void codrask_stream_free(struct codrask_stream *stream);
+
+/* Makes a stream that hands out columns one after another, as a producer of Arrow does. All are written before, each as
+ * codrask_write_arrow writes it by these flags, this name and these limits; so the tables need not outlive the call. The stream is the
+ * consumer's, who may release it at any time: what it handed out stays.
+ *
+ * Answers 0, or a number that *fault has with the column, its node and place; nothing is to be released then:
+ *
+ * CODRASK_EMPTY_INPUT: there is no column, so no schema.
+ * Then, column by column:
+ * What codrask_write_arrow refuses of it.
+ * CODRASK_DIFFERING_SCHEMAS: another schema than the first column has. The node is the first array whose format, name, metadata, flags,
+ *   number of children or dictionary differs.
+ *
+ * CODRASK_MEMORY may come in place of any answer. Of the stream, get_schema fails with ENOMEM where memory is refused; else nothing
+ * fails. */
+uint32_t codrask_write_stream(const struct codrask_column *columns, size_t count, uint32_t flags, const char *name,
+                              const struct codrask_limits *limits, struct ArrowArrayStream *stream, struct codrask_run_fault *fault);
 
 #ifdef __cplusplus
 }

@@ -17,33 +17,22 @@ static bool is_integer(const char *text, struct format *format) {
     return true;
 }
 
-/* Instants: "ts", a unit, a colon and a time zone of any text. */
-static bool is_instant(const char *text) {
-    return !strncmp(text, "ts", 2) && text[2] && strchr("smun", text[2]) && text[3] == ':';
-}
-
-/* Dates, times, durations and instants are the integers that they are kept as. */
-static bool is_time(const char *text, struct format *format) {
-    static const char *const of_32[] = {"tdD", "tts", "ttm"}, *const of_64[] = {"tdm", "ttu", "ttn", "tDs", "tDm", "tDu", "tDn"};
-    bool small = false, large = is_instant(text);
-    for (size_t i = 0; i < sizeof of_32 / sizeof *of_32; i++)
-        small = small || !strcmp(text, of_32[i]);
-    for (size_t i = 0; i < sizeof of_64 / sizeof *of_64; i++)
-        large = large || !strcmp(text, of_64[i]);
-    *format = (struct format){.layout = FLAT, .kind = small ? CODRASK_I32 : CODRASK_I64, .width = small ? 4 : 8, .buffers = 2};
-    return small || large;
+const char *codrask_read_digits(const char *text, size_t most, size_t *number) {
+    const char *digit = text;
+    for (*number = 0; '0' <= *digit && *digit <= '9'; digit++) {
+        *number = 10 * *number + (size_t)(*digit - '0');
+        if (*number > most)
+            return NULL;
+    }
+    return digit > text ? digit : NULL;
 }
 
 /* Lists of one size: "+w:" and a number of 31 bits. */
 static bool is_fixed(const char *text, struct format *format) {
-    uint64_t size = 0;
-    if (strncmp(text, "+w:", 3) || !text[3])
+    size_t size;
+    const char *end = strncmp(text, "+w:", 3) ? NULL : codrask_read_digits(text + 3, INT32_MAX, &size);
+    if (!end || *end)
         return false;
-    for (const char *digit = text + 3; *digit; digit++) {
-        size = 10 * size + (uint64_t)(*digit - '0');
-        if (*digit < '0' || *digit > '9' || size > INT32_MAX)
-            return false;
-    }
     *format = (struct format){.layout = FIXED_LISTS, .kind = CODRASK_FIXED_SIZE_LIST, .size = (uint32_t)size, .buffers = 1, .children = 1};
     return true;
 }
@@ -71,5 +60,5 @@ bool codrask_format_of(const char *text, struct format *format) {
             *format = others[i].format;
             return true;
         }
-    return is_integer(text, format) || is_time(text, format) || is_fixed(text, format);
+    return is_integer(text, format) || is_fixed(text, format) || codrask_is_carried_format(text, format);
 }

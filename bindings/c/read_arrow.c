@@ -14,9 +14,11 @@ struct rows {
     int depth;
     bool nullable;
     struct enclosing in;
+    const size_t *lengths; /* none, or those of the array's buffers */
 };
 
 static const struct enclosing no_enclosing = {0, 0};
+static const struct ArrowSchema no_schema;
 
 static uint32_t emit(struct reader *r, struct rows rows);
 
@@ -90,6 +92,18 @@ static void bits(struct codrask_node *node, const uint8_t *bytes, size_t from, s
     node->byte_count = (from % 8 + length - 1) / 8 + 1;
 }
 
+/* Refuses a buffer whose length is told, and is less than it needs. */
+static uint32_t test_length(struct reader *r, struct rows rows, size_t node, int64_t place, size_t needed) {
+    return rows.lengths && needed > rows.lengths[place] ? codrask_refuse(r, CODRASK_SHORT_BUFFER, node, (size_t)place) : 0;
+}
+
+/* How many bytes a buffer needs for some rows: of their bits, or of items so wide, and of `more` items after the last row; 0 of no row. */
+static size_t needed_for(struct rows rows, size_t more, size_t width) {
+    if (!rows.length)
+        return 0;
+    return width ? codrask_multiply(rows.from + rows.length + more, width) : (rows.from + rows.length - 1) / 8 + 1;
+}
+
 /* ---- what each array has ---- */
 
 /* Whether no child is missing. */
@@ -108,13 +122,31 @@ static bool has_form(struct rows rows, const struct format *format) {
     if (schema->n_children != array->n_children || schema->n_children < 0
         || (format->children >= 0 && schema->n_children != format->children))
         return false;
-    if (array->n_buffers < format->buffers || (!views && array->n_buffers != format->buffers) || !array->buffers)
+    if (array->n_buffers < format->buffers || (!views && array->n_buffers != format->buffers) || (format->buffers && !array->buffers))
         return false;
     if (array->length < 0 || array->offset < 0 || array->null_count < -1 || array->length > INT64_MAX - array->offset)
         return false;
     if (!schema->dictionary != !array->dictionary || (schema->dictionary && !format->may_be_codes))
         return false;
     return !schema->n_children || (schema->children && array->children);
+}
+
+/* Whether the entries of maps are records of two columns. Where they are released, that is told of them. */
+static bool has_entries(struct rows rows, const struct format *format) {
+    const struct ArrowSchema *entries = format->layout == MAPS ? rows.schema->children[0] : NULL;
+    return !entries || !entries->release || (entries->format && !strcmp(entries->format, "+s") && entries->n_children == 2);
+}
+
+/* Tests the metadata of a schema, which may tell of an extension. */
+static uint32_t test_metadata(struct reader *r, const struct ArrowSchema *schema) {
+    struct carried carried;
+    int32_t keys = codrask_count_keys(schema->metadata);
+    if (keys < 0)
+        return refuse_next(r, CODRASK_BAD_ARROW);
+    if ((size_t)keys > MOST_KEYS - r->keys)
+        return refuse_next(r, CODRASK_TOO_MANY_BYTES);
+    r->keys += (size_t)keys;
+    return codrask_read_extension(schema->metadata, &carried) ? 0 : refuse_next(r, CODRASK_BAD_ARROW);
 }
 
 /* Tests the structs of an array, and reads its format. */
@@ -127,9 +159,9 @@ static uint32_t test_structs(struct reader *r, struct rows rows, struct format *
         return refuse_next(r, CODRASK_TOO_DEEP);
     if (rows.schema->n_children >= MOST_NODES)
         return codrask_refuse(r, CODRASK_TOO_MANY_NODES, 0, 0);
-    if (!has_children(rows))
+    if (!has_children(rows) || !has_entries(rows, format))
         return refuse_next(r, CODRASK_BAD_ARROW);
-    return 0;
+    return test_metadata(r, rows.schema);
 }
 
 /* The rows that the array has of these, counted from its buffers' first row. */
@@ -145,7 +177,7 @@ static struct rows rows_there(struct rows rows) {
 
 /* A new node of an array, and one of its validity where rows may be null. What the bitmap tells is tested with the rows. */
 static uint32_t open_node(struct reader *r, struct rows rows, uint32_t kind, size_t *place) {
-    const uint8_t *bitmap = buffer(rows.array, 0);
+    const uint8_t *bitmap = rows.array->n_buffers ? buffer(rows.array, 0) : NULL;
     bool told = rows.nullable && bitmap && rows.array->null_count;
     uint32_t error = new_node(r, kind, told ? CODRASK_BY_ARRAY : rows.nullable ? CODRASK_ALL_VALID : CODRASK_NON_NULLABLE, rows.length);
     if (error)
@@ -155,6 +187,8 @@ static uint32_t open_node(struct reader *r, struct rows rows, uint32_t kind, siz
     if (bitmap) {
         r->tasks[*place].bitmap = bitmap + rows.from / 8;
         r->tasks[*place].bit = rows.from % 8;
+        if ((error = test_length(r, rows, *place, 0, needed_for(rows, 0, 0))))
+            return error;
     }
     if (!told)
         return 0;
@@ -190,6 +224,57 @@ static uint32_t ask_names(struct reader *r, struct rows rows, size_t place) {
     return 0;
 }
 
+/* ---- what is carried ---- */
+
+/* The records of a node have one column, under the name for what it is. */
+static uint32_t ask_word(struct reader *r, struct rows rows, size_t place) {
+    size_t size = codrask_write_name(rows.schema, NULL);
+    if (size > MOST_NAME_BYTES - r->name_bytes)
+        return codrask_refuse(r, CODRASK_TOO_MANY_BYTES, place, 0);
+    r->name_bytes += size;
+    r->nodes[place].buffer_count = 1;
+    r->tasks[place].schema = rows.schema;
+    r->tasks[place].work = MAKE_WORD;
+    return 0;
+}
+
+/* A new node of records, with the nulls of an array, and then one of the column that they carry. */
+static uint32_t open_carried(struct reader *r, struct rows rows, const struct format *format, size_t *place) {
+    uint32_t error = open_node(r, rows, CODRASK_STRUCT, place);
+    if (error || (error = ask_word(r, rows, *place)))
+        return error;
+    if (format->layout == NULLS)
+        r->nodes[*place].validity = CODRASK_ALL_INVALID;
+    if ((error = new_node(r, format->kind, CODRASK_NON_NULLABLE, rows.length)))
+        return error;
+    *place = r->count - 1;
+    r->nodes[*place].size = format->size;
+    r->tasks[*place].schema = rows.schema;
+    return 0;
+}
+
+/* Values that the layer has no type for: numbers of their width, or lists of so many bytes. */
+static uint32_t emit_carried(struct reader *r, struct rows rows, const struct format *format) {
+    size_t place, record = r->count, needed = format->width ? needed_for(rows, 0, format->width) : 0;
+    uint32_t error = open_carried(r, rows, format, &place);
+    if (!error && format->layout != NULLS)
+        error = test_length(r, rows, record, 1, needed);
+    if (!error && format->kind == CODRASK_FIXED_SIZE_LIST)
+        error = new_node(r, CODRASK_U8, CODRASK_NON_NULLABLE, codrask_multiply(rows.length, format->width));
+    if (error || format->layout == NULLS)
+        return error;
+    struct codrask_node *node = &r->nodes[r->count - 1];
+    const uint8_t *bytes = buffer(rows.array, 1);
+    bool is_slice = slice(bytes, rows.from, rows.length, format->width, &node->bytes, &node->byte_count);
+    return is_slice ? 0 : codrask_refuse(r, CODRASK_BAD_ARROW, record, 0);
+}
+
+/* Records without nulls over an array that has a type of the layer: they have its extension, or say that its codes are ordered. */
+static uint32_t emit_over(struct reader *r, struct rows rows) {
+    uint32_t error = new_node(r, CODRASK_STRUCT, CODRASK_NON_NULLABLE, rows.length);
+    return error ? error : ask_word(r, rows, r->count - 1);
+}
+
 /* ---- layouts ---- */
 
 /* What children lie in whose parent has the node at `place`: the parent where it has a bitmap, else what the parent lies in. */
@@ -203,13 +288,15 @@ static struct enclosing enclosing(const struct reader *r, struct rows rows, size
 static uint32_t emit_child(struct reader *r, struct rows rows, size_t i, struct enclosing in, size_t from, size_t length) {
     const struct ArrowSchema *schema = rows.schema->children[i];
     bool nullable = schema->flags & ARROW_FLAG_NULLABLE;
-    return emit(r, (struct rows){schema, rows.array->children[i], from, length, rows.depth + 1, nullable, in});
+    if (r->lengths && r->choice && !rows.depth)
+        r->next_length = r->choice->lengths[r->choice->columns[i]];
+    return emit(r, (struct rows){schema, rows.array->children[i], from, length, rows.depth + 1, nullable, in, NULL});
 }
 
 static uint32_t emit_flat(struct reader *r, struct rows rows, const struct format *format) {
     size_t place;
     uint32_t error = open_node(r, rows, format->kind, &place);
-    if (error)
+    if (error || (error = test_length(r, rows, place, 1, needed_for(rows, 0, format->width))))
         return error;
     struct codrask_node *node = &r->nodes[place];
     const uint8_t *bytes = buffer(rows.array, 1);
@@ -220,11 +307,25 @@ static uint32_t emit_flat(struct reader *r, struct rows rows, const struct forma
     return 0;
 }
 
+/* The lengths of views, of the sizes of their buffers, and of these buffers. */
+static uint32_t test_views(struct reader *r, struct rows rows, size_t node) {
+    int64_t sizes = rows.array->n_buffers - 1;
+    uint32_t error = test_length(r, rows, node, 1, needed_for(rows, 0, 16));
+    if (error || (error = test_length(r, rows, node, sizes, codrask_multiply((size_t)sizes - 2, 8))))
+        return error;
+    for (int64_t i = 2; rows.lengths && i < sizes; i++) {
+        int64_t size = codrask_offset_at(buffer(rows.array, sizes), 8, (size_t)i - 2);
+        if (size > 0 && (error = test_length(r, rows, node, i, (size_t)size)))
+            return error;
+    }
+    return 0;
+}
+
 static uint32_t emit_views(struct reader *r, struct rows rows, const struct format *format) {
     size_t place, size;
     const uint8_t *start;
     uint32_t error = open_node(r, rows, format->kind, &place);
-    if (error)
+    if (error || (error = test_views(r, rows, place)))
         return error;
     if (!slice(buffer(rows.array, 1), rows.from, rows.length, 16, &start, &size))
         return codrask_refuse(r, CODRASK_BAD_ARROW, place, 0);
@@ -252,24 +353,37 @@ static bool offsets_of(struct rows rows, size_t width, struct task *task) {
     return true;
 }
 
-/* Texts or byte lists by offsets. Their bytes begin where the first one does; where that tells no place, with the heap. The last
- * offset of the array itself, of which not all rows may be read, tells how long the heap is. */
+/* Where the heap of values ends: where its length tells it. Else the last offset of the array itself, of which not all rows may be read,
+ * is believed. False past all memory. */
+static bool heap_end_of(struct rows rows, size_t width, int64_t *end) {
+    size_t all = (size_t)(rows.array->offset + rows.array->length), size;
+    const uint8_t *offsets;
+    if (rows.lengths) {
+        *end = rows.lengths[2] < INT64_MAX ? (int64_t)rows.lengths[2] : INT64_MAX;
+        return true;
+    }
+    if (!slice(buffer(rows.array, 1), 0, all + 1, width, &offsets, &size))
+        return false;
+    *end = codrask_offset_at(offsets, width, all);
+    return true;
+}
+
+/* Texts or byte lists by offsets. Their bytes begin where the first one does; where that tells no place, with the heap. */
 static uint32_t emit_values(struct reader *r, struct rows rows, const struct format *format) {
     size_t place;
+    int64_t heap_end;
     uint32_t error = open_node(r, rows, format->kind, &place);
-    if (error)
+    if (error || (error = test_length(r, rows, place, 1, needed_for(rows, 1, format->width))))
         return error;
     struct task *task = &r->tasks[place];
     if (!offsets_of(rows, format->width, task))
         return codrask_refuse(r, CODRASK_BAD_ARROW, place, 0);
     if (!task->offsets)
         return 0;
-    size_t all = (size_t)(rows.array->offset + rows.array->length), size;
-    const uint8_t *offsets;
-    if (!slice(buffer(rows.array, 1), 0, all + 1, format->width, &offsets, &size))
+    if (!heap_end_of(rows, format->width, &heap_end))
         return codrask_refuse(r, CODRASK_BAD_ARROW, place, 0);
-    int64_t heap_end = codrask_offset_at(offsets, format->width, all);
     task->work = MAKE_VIEWS;
+    task->heap_end = rows.lengths ? heap_end : INT64_MAX;
     task->heap = buffer(rows.array, 2);
     if (task->end > heap_end)
         task->end = heap_end;
@@ -300,13 +414,15 @@ static uint32_t emit_task(struct reader *r, size_t length, struct task task, enu
 
 /* Lists by offsets. Their elements begin where the first list does; where that tells no place, with the child. */
 static uint32_t emit_lists(struct reader *r, struct rows rows, const struct format *format) {
-    size_t place;
+    size_t place, first = r->count;
     struct task ends = {.work = NO_WORK};
-    uint32_t error = open_node(r, rows, format->kind, &place);
-    if (error || (error = ask_names(r, rows, place)))
+    uint32_t error = format->layout == MAPS ? open_carried(r, rows, format, &place) : open_node(r, rows, format->kind, &place);
+    if (!error && (error = ask_names(r, rows, place)))
+        return codrask_refuse(r, error, first, 0);
+    if (error || (error = test_length(r, rows, first, 1, needed_for(rows, 1, format->width))))
         return error;
     if (!offsets_of(rows, format->width, &ends))
-        return codrask_refuse(r, CODRASK_BAD_ARROW, place, 0);
+        return codrask_refuse(r, CODRASK_BAD_ARROW, first, 0);
     bool within = 0 <= ends.base && ends.base <= ends.end && ends.end <= rows.array->children[0]->length;
     ends.base = within ? ends.base : 0;
     if ((error = emit_child(r, rows, 0, no_enclosing, (size_t)ends.base, within ? (size_t)(ends.end - ends.base) : SIZE_MAX)))
@@ -319,9 +435,10 @@ static uint32_t emit_lists(struct reader *r, struct rows rows, const struct form
 }
 
 static uint32_t emit_list_views(struct reader *r, struct rows rows, const struct format *format) {
-    size_t place;
+    size_t place, needed = needed_for(rows, 0, format->width);
     uint32_t error = open_node(r, rows, format->kind, &place);
-    if (error || (error = ask_names(r, rows, place)) || (error = emit_child(r, rows, 0, no_enclosing, 0, SIZE_MAX)))
+    if (error || (error = ask_names(r, rows, place)) || (error = test_length(r, rows, place, 1, needed))
+        || (error = test_length(r, rows, place, 2, needed)) || (error = emit_child(r, rows, 0, no_enclosing, 0, SIZE_MAX)))
         return error;
     error = emit_numbers(r, buffer(rows.array, 1), rows.from, rows.length, format->width);
     return error ? error : emit_numbers(r, buffer(rows.array, 2), rows.from, rows.length, format->width);
@@ -355,26 +472,54 @@ static uint32_t emit_dictionary(struct reader *r, struct rows rows, const struct
     if (error || (error = emit_flat(r, rows, format)))
         return error;
     const struct ArrowSchema *values = rows.schema->dictionary;
-    return emit(r, (struct rows){values, rows.array->dictionary, 0, SIZE_MAX, rows.depth + 1, rows.nullable, no_enclosing});
+    return emit(r, (struct rows){values, rows.array->dictionary, 0, SIZE_MAX, rows.depth + 1, rows.nullable, no_enclosing, NULL});
 }
 
-static uint32_t emit(struct reader *r, struct rows rows) {
+/* Of these rows those that the array has, with the lengths of its buffers; none where structs alone are tested. */
+static struct rows rows_read(struct reader *r, struct rows rows) {
+    rows = rows_there(rows);
+    if (r->structs_alone)
+        rows.from = rows.length = 0;
+    rows.lengths = r->lengths ? r->lengths + r->next_length : NULL;
+    r->next_length += (size_t)rows.array->n_buffers;
+    return rows;
+}
+
+static uint32_t emit_array(struct reader *r, struct rows rows) {
     struct format format;
     uint32_t error = test_structs(r, rows, &format);
     if (error)
         return error;
-    rows = rows_there(rows);
+    rows = rows_read(r, rows);
+    if (format.layout < CARRIED && codrask_has_name(rows.schema) && (error = emit_over(r, rows)))
+        return error;
     if (rows.schema->dictionary)
         return emit_dictionary(r, rows, &format);
     switch (format.layout) {
     case FLAT: return emit_flat(r, rows, &format);
     case VALUES: return emit_values(r, rows, &format);
     case VIEWS: return emit_views(r, rows, &format);
-    case LISTS: return emit_lists(r, rows, &format);
+    case LISTS:
+    case MAPS: return emit_lists(r, rows, &format);
     case LIST_VIEWS: return emit_list_views(r, rows, &format);
     case FIXED_LISTS: return emit_fixed(r, rows, &format);
+    case CARRIED:
+    case NULLS: return emit_carried(r, rows, &format);
     default: return emit_records(r, rows, &format);
     }
+}
+
+/* Remembers the schema of the array that a refusal is of: it is none where the table is too large, and where the schema is gone. */
+static uint32_t refused_of(struct reader *r, uint32_t error, const struct ArrowSchema *schema) {
+    bool of_array = error && error != CODRASK_MEMORY && error != CODRASK_TOO_MANY_NODES && error != CODRASK_TOO_MANY_BYTES;
+    if (of_array && !r->refused)
+        r->refused = schema->release ? schema : &no_schema;
+    return error;
+}
+
+/* The nodes of an array and of all below it: of a refusal the innermost array is remembered. */
+static uint32_t emit(struct reader *r, struct rows rows) {
+    return refused_of(r, emit_array(r, rows), rows.schema);
 }
 
 /* ---- how many bytes ---- */
@@ -401,32 +546,87 @@ static uint32_t test_bytes(struct reader *r, const struct codrask_limits *limits
 
 /* ---- the call ---- */
 
-static uint32_t read_all(struct reader *r, const struct ArrowSchema *schema, const struct ArrowArray *array,
-                         const struct codrask_limits *limits) {
-    if (!schema || !array)
-        return refuse_next(r, CODRASK_BAD_ARROW);
+/* The nodes of all arrays; of the outermost records those of the columns that are chosen. */
+static uint32_t emit_all(struct reader *r, const struct ArrowSchema *schema, const struct ArrowArray *array) {
+    if (r->choice)
+        schema = &r->choice->schema, array = &r->choice->array;
     bool nullable = schema->flags & ARROW_FLAG_NULLABLE;
-    uint32_t error = emit(r, (struct rows){schema, array, 0, SIZE_MAX, 0, nullable, no_enclosing});
+    uint32_t error = emit(r, (struct rows){schema, array, 0, SIZE_MAX, 0, nullable, no_enclosing, NULL});
+    return error || fits(r, schema->name) ? error : codrask_refuse(r, CODRASK_TOO_MANY_BYTES, 0, 0);
+}
+
+/* Chooses columns of the outermost array. */
+static uint32_t choose(struct reader *r, const struct codrask_reading *how, const struct ArrowSchema *schema,
+                       const struct ArrowArray *array) {
+    struct format format;
+    uint32_t error = test_structs(r, (struct rows){.schema = schema, .array = array}, &format);
+    if (!error && (format.layout != RECORDS || !how->columns))
+        error = refuse_next(r, CODRASK_BAD_ARROW);
+    r->keys = 0;
+    return error ? refused_of(r, error, schema) : codrask_choose_columns(r, how, schema, array);
+}
+
+/* Tests all structs, then the lengths by them. From then on the lengths are those of the buffers. */
+static uint32_t test_lengths(struct reader *r, const struct codrask_reading *how, const struct ArrowSchema *schema,
+                             const struct ArrowArray *array) {
+    r->structs_alone = true;
+    uint32_t error = emit_all(r, schema, array);
     if (error)
         return error;
-    if (!fits(r, schema->name))
-        return codrask_refuse(r, CODRASK_TOO_MANY_BYTES, 0, 0);
+    if (!codrask_match_lengths(r, how, array))
+        return codrask_refuse(r, CODRASK_BAD_LENGTHS, 0, 0);
+    r->structs_alone = false;
+    r->count = r->view_buffers = r->name_bytes = r->keys = r->next_length = 0;
+    r->lengths = how->lengths;
+    return 0;
+}
+
+/* Makes the rows of all nodes. */
+static uint32_t make_all(struct reader *r, const struct ArrowSchema *schema, const struct codrask_limits *limits) {
     r->memory = calloc(1, sizeof *r->memory);
     if (!r->memory)
         return codrask_refuse(r, CODRASK_MEMORY, 0, 0);
-    error = test_bytes(r, limits);
-    return error || (error = codrask_keep_name(r, schema->name)) ? error : codrask_make_rows(r);
+    uint32_t error = test_bytes(r, limits);
+    if (error || (error = codrask_keep_name(r, schema->name)))
+        return error;
+    error = codrask_make_rows(r);
+    return error ? refused_of(r, error, r->tasks[r->fault.node].schema) : 0;
+}
+
+static uint32_t read_all(struct reader *r, const struct ArrowSchema *schema, const struct ArrowArray *array,
+                         const struct codrask_reading *how) {
+    if (!schema || !array)
+        return refuse_next(r, CODRASK_BAD_ARROW);
+    uint32_t error = how->columns || how->column_count ? choose(r, how, schema, array) : 0;
+    if (!error && (how->lengths || how->length_count))
+        error = test_lengths(r, how, schema, array);
+    return error || (error = emit_all(r, schema, array)) ? error : make_all(r, schema, &how->limits);
+}
+
+uint32_t codrask_read_arrow_sized(const struct ArrowSchema *schema, const struct ArrowArray *array, const struct codrask_reading *how,
+                                  struct codrask_table *table, struct codrask_arrow_fault *fault) {
+    static const struct codrask_reading plain;
+    struct reader r = {.refused = NULL};
+    uint32_t error = read_all(&r, schema, array, how ? how : &plain);
+    *fault = (struct codrask_arrow_fault){.fault = r.fault};
+    if (r.refused) {
+        fault->format = r.refused->format;
+        fault->name = r.refused->name;
+    }
+    free(r.tasks);
+    free(r.choice);
+    *table = (struct codrask_table){r.nodes, r.count, r.memory};
+    if (error)
+        codrask_table_free(table);
+    return error;
 }
 
 uint32_t codrask_read_arrow(const struct ArrowSchema *schema, const struct ArrowArray *array, const struct codrask_limits *limits,
                             struct codrask_table *table, struct codrask_fault *fault) {
-    struct reader r = {.nodes = NULL};
-    uint32_t error = read_all(&r, schema, array, limits);
-    free(r.tasks);
-    *table = (struct codrask_table){r.nodes, r.count, r.memory};
-    *fault = r.fault;
-    if (error)
-        codrask_table_free(table);
+    struct codrask_reading how = {.limits = {limits ? limits->bytes : 0}};
+    struct codrask_arrow_fault told;
+    uint32_t error = codrask_read_arrow_sized(schema, array, &how, table, &told);
+    *fault = told.fault;
     return error;
 }
 

@@ -44,10 +44,11 @@ uint32_t codrask_keep_name(struct reader *reader, const char *name) {
 
 /* ---- how many bytes ---- */
 
-/* How many bytes a buffer of views has; 0 where that is not told. */
+/* How many bytes a buffer of views has; 0 where that is not told, and where there is no buffer, but for a negative size. */
 static int64_t heap_size(const struct ArrowArray *array, size_t i) {
     const uint8_t *sizes = array->buffers[array->n_buffers - 1];
-    return sizes && array->buffers[i + 2] ? codrask_offset_at(sizes, 8, i) : 0;
+    int64_t size = sizes ? codrask_offset_at(sizes, 8, i) : 0;
+    return array->buffers[i + 2] || size < 0 ? size : 0;
 }
 
 static void spend_heaps(struct budget *budget, const struct codrask_node *node, const struct task *task) {
@@ -69,6 +70,14 @@ static void spend_names(struct budget *budget, const struct codrask_node *node, 
     }
 }
 
+static void spend_word(struct budget *budget, const struct ArrowSchema *schema) {
+    struct carried carried;
+    codrask_read_extension(schema->metadata, &carried);
+    codrask_spend(budget, carried.extension.bytes, carried.extension.count, 0);
+    codrask_spend(budget, carried.metadata.bytes, carried.metadata.count, 0);
+    codrask_spend(budget, schema->format, strlen(schema->format), codrask_write_name(schema, NULL) + sizeof(struct codrask_bytes));
+}
+
 void codrask_spend_task(struct budget *budget, const struct codrask_node *node, const struct task *task) {
     size_t looked_at = node->length ? (task->bit + node->length - 1) / 8 + 1 : 0;
     if (task->bitmap && node->validity != CODRASK_BY_ARRAY)
@@ -85,6 +94,7 @@ void codrask_spend_task(struct budget *budget, const struct codrask_node *node, 
     case MAKE_SIZES: codrask_spend(budget, NULL, 0, codrask_multiply(node->length, 8)); return;
     case MAKE_HEAPS: spend_heaps(budget, node, task); return;
     case MAKE_NAMES: spend_names(budget, node, task); return;
+    case MAKE_WORD: spend_word(budget, task->schema); return;
     case NO_WORK: codrask_spend_node(budget, node);
     }
 }
@@ -178,6 +188,10 @@ static uint32_t test_nulls(struct reader *r, size_t i) {
     size_t length = r->nodes[i].length;
     if (!task->array)
         return 0;
+    if (r->nodes[i].validity == CODRASK_ALL_INVALID)
+        return task->array->null_count == -1 || task->array->null_count == task->array->length
+                   ? 0
+                   : codrask_refuse(r, CODRASK_BAD_NULL_COUNT, i, 0);
     size_t nulls = task->bitmap ? count_unset(task->bitmap, task->bit, task->bit + length) : 0;
     if (is_false_count(task->array, task->bitmap, length, nulls))
         return codrask_refuse(r, CODRASK_BAD_NULL_COUNT, i, 0);
@@ -200,28 +214,49 @@ struct cut {
 /* The view of a value that has no bytes which could be looked at: it names no buffer, and is refused. */
 static const struct codrask_view astray = {{13, 0, 0, 0, 0, 0, 0, 0, 0xff, 0xff, 0xff, 0xff}};
 
+/* Those of a value that passes the end of its heap: one begins past each buffer, one ends there. They are refused too. */
+static const struct codrask_view begins_past = {{13, 0, 0, 0, 0, 0, 0, 0, 0, 0, 0, 0, 0xff, 0xff, 0xff, 0xff}},
+                                 ends_past = {{0xff, 0xff, 0xff, 0xff}};
+
 /* Starts a heap. */
 static void open_heap(struct cut *cut, int64_t start) {
     cut->start = start;
     cut->heaps[cut->count++] = (struct codrask_bytes){cut->heap + start, 0};
 }
 
-/* The view of a value that stands in a heap; none where offsets fell before the heap, or too often. */
-static struct codrask_view view_of_long(struct cut *cut, int64_t start, int64_t after) {
-    struct codrask_view view;
+/* Lets the last heap have the bytes from `start` to `after`, and says in a view where they begin. False where offsets fell before the
+ * heap, or too often. */
+static bool refer(struct cut *cut, int64_t start, int64_t after, struct codrask_view *view) {
     if (after - cut->start > INT32_MAX && cut->count < cut->room)
         open_heap(cut, start);
     if (start < cut->start || after - cut->start > INT32_MAX)
-        return astray;
+        return false;
     struct codrask_bytes *heap = &cut->heaps[cut->count - 1];
-    const uint32_t size = (uint32_t)(after - start), block = (uint32_t)(cut->count - 1), place = (uint32_t)(start - cut->start);
+    const uint32_t block = (uint32_t)(cut->count - 1), place = (uint32_t)(start - cut->start);
     if (heap->count < (size_t)(after - cut->start))
         heap->count = (size_t)(after - cut->start);
+    memcpy(view->bytes + 8, &block, 4);
+    memcpy(view->bytes + 12, &place, 4);
+    return true;
+}
+
+/* The view of a value that stands in a heap. */
+static struct codrask_view view_of_long(struct cut *cut, int64_t start, int64_t after) {
+    struct codrask_view view;
+    const uint32_t size = (uint32_t)(after - start);
+    if (!refer(cut, start, after, &view))
+        return astray;
     memcpy(view.bytes, &size, 4);
     memcpy(view.bytes + 4, cut->heap + start, 4);
-    memcpy(view.bytes + 8, &block, 4);
-    memcpy(view.bytes + 12, &place, 4);
     return view;
+}
+
+/* The view of a value that passes the end of its heap. Where it begins before that, its first byte is lent. */
+static struct codrask_view view_past(struct cut *cut, int64_t start, int64_t end) {
+    struct codrask_view view = ends_past;
+    if (start >= end)
+        return begins_past;
+    return refer(cut, start, start + 1, &view) ? view : astray;
 }
 
 /* The view of a value: a short one stands in its view. */
@@ -245,10 +280,11 @@ static uint32_t make_views(struct reader *r, size_t i, const struct task *task) 
     open_heap(&cut, task->base);
     for (size_t row = 0; row < length; row++) {
         int64_t start = codrask_offset_at(task->offsets, task->width, row), after = codrask_offset_at(task->offsets, task->width, row + 1);
-        bool inside = task->base <= start && start <= after && after <= task->end;
+        bool ordered = task->base <= start && start <= after, inside = ordered && after <= task->end;
         if (inside && after - start > INT32_MAX)
             return codrask_refuse(r, CODRASK_OVERFLOW, i, row);
-        views[row] = inside ? view_of(&cut, start, after) : astray;
+        bool passes = ordered && after > task->heap_end;
+        views[row] = inside ? view_of(&cut, start, after) : passes ? view_past(&cut, start, task->end) : astray;
     }
     r->nodes[i].views = views;
     r->nodes[i].view_count = length;
@@ -321,6 +357,18 @@ static uint32_t make_names(struct reader *r, size_t i, const struct task *task) 
     return 0;
 }
 
+/* The name that a column is carried under. */
+static uint32_t make_word(struct reader *r, size_t i, const struct task *task) {
+    size_t size = codrask_write_name(task->schema, NULL);
+    struct codrask_bytes *name = block_of(r, 1, sizeof *name + size);
+    if (!name)
+        return no_memory(r);
+    codrask_write_name(task->schema, (uint8_t *)(name + 1));
+    *name = (struct codrask_bytes){(const uint8_t *)(name + 1), size};
+    r->nodes[i].buffers = name;
+    return 0;
+}
+
 static uint32_t do_task(struct reader *r, size_t i) {
     const struct task *task = &r->tasks[i];
     switch (task->work) {
@@ -329,6 +377,7 @@ static uint32_t do_task(struct reader *r, size_t i) {
     case MAKE_OFFSETS:
     case MAKE_SIZES: return make_numbers(r, i, task);
     case MAKE_NAMES: return make_names(r, i, task);
+    case MAKE_WORD: return make_word(r, i, task);
     default: return 0;
     }
 }

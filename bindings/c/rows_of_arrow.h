@@ -63,6 +63,75 @@ static bool flag(const void *bits, int64_t i) {
     return ((const uint8_t *)bits)[i / 8] >> i % 8 & 1;
 }
 
+/* How many bytes a value of one width has that is no integer; -1 of other formats. */
+static int64_t width_of_format(const char *format) {
+    static const char *const of_4[] = {"f", "tdD", "tts", "ttm", "tiM"};
+    const char *comma = strrchr(format, ',');
+    for (size_t i = 0; i < sizeof of_4 / sizeof *of_4; i++)
+        if (!strcmp(format, of_4[i]))
+            return 4;
+    switch (format[0]) {
+    case 'e': return 2;
+    case 'g': return 8;
+    case 't': return strcmp(format, "tin") ? 8 : 16;
+    case 'w': return strtol(format + 2, NULL, 10);
+    case 'd': return comma && comma != strchr(format, ',') ? strtol(comma + 1, NULL, 10) / 8 : 16;
+    default: return -1;
+    }
+}
+
+static bool is_of_nulls(const char *format) {
+    return !strcmp(format, "n");
+}
+
+static bool is_map(const char *format) {
+    return !strcmp(format, "+m");
+}
+
+/* Whether an array is carried under its format. */
+static bool is_opaque(const struct ArrowSchema *schema) {
+    return !schema->dictionary && (width_of_format(schema->format) >= 0 || is_of_nulls(schema->format) || is_map(schema->format));
+}
+
+/* The value of a key of a schema, and how many bytes it has; no place where there is none. */
+static const char *value_of_key(const struct ArrowSchema *schema, const char *key, int32_t *size) {
+    const char *at = schema->metadata;
+    int32_t left = 0, key_size;
+    if (at)
+        memcpy(&left, at, 4), at += 4;
+    for (; left > 0; left--, at += 4 + *size) {
+        memcpy(&key_size, at, 4);
+        bool same = (size_t)key_size == strlen(key) && !memcmp(at + 4, key, strlen(key));
+        at += 4 + key_size;
+        memcpy(size, at, 4);
+        if (same)
+            return at + 4;
+    }
+    *size = 0;
+    return NULL;
+}
+
+static const char *extension_of(const struct ArrowSchema *schema, int32_t *size) {
+    return value_of_key(schema, "ARROW:extension:name", size);
+}
+
+/* Whether an array that is not carried under its format has a record all the same: of an extension, or of codes that are ordered. */
+static inline bool is_under_record(const struct ArrowSchema *schema) {
+    int32_t size;
+    bool ordered = schema->dictionary && schema->flags & ARROW_FLAG_DICTIONARY_ORDERED;
+    return !is_opaque(schema) && (ordered || extension_of(schema, &size));
+}
+
+/* The nodes of an array before its parts. */
+static inline size_t own_nodes(const struct ArrowSchema *schema, const struct ArrowArray *array, bool nullable) {
+    int64_t width = schema->dictionary ? -1 : width_of_format(schema->format);
+    if (!schema->dictionary && is_of_nulls(schema->format))
+        return 3;
+    bool number = width == 1 || width == 2 || width == 4 || width == 8;
+    size_t bitmap = nullable && array->buffers[0] && array->null_count;
+    return 1 + bitmap + !!schema->dictionary + is_under_record(schema) + is_opaque(schema) + (width >= 0 && !number);
+}
+
 static void sum_row(struct sum *sum, const struct ArrowSchema *schema, const struct ArrowArray *array, int64_t row);
 
 static void sum_value(struct sum *sum, const struct ArrowSchema *schema, const uint8_t *bytes, size_t size) {
@@ -99,13 +168,10 @@ static void sum_between(struct sum *sum, const struct ArrowSchema *schema, const
         sum_value(sum, schema, heap ? heap + start : (const uint8_t *)"", (size_t)(end - start));
 }
 
-/* A number, which dates and times are too. */
 static int64_t number_of(const struct ArrowSchema *schema, const struct ArrowArray *array, int64_t i) {
-    static const char narrow[] = "cCsSiIlL";
-    const char *format = schema->format, *found = strchr(narrow, format[0]);
-    bool small = !strcmp(format, "tdD") || !strcmp(format, "tts") || !strcmp(format, "ttm");
-    size_t width = found ? (size_t)1 << (found - narrow) / 2 : small ? 4 : 8;
-    return whole(array->buffers[1], width, !found || (found - narrow) % 2 == 0, i);
+    static const char formats[] = "cCsSiIlL";
+    size_t place = (size_t)(strchr(formats, schema->format[0]) - formats);
+    return whole(array->buffers[1], (size_t)1 << place / 2, place % 2 == 0, i);
 }
 
 static void sum_nested(struct sum *sum, const struct ArrowSchema *schema, const struct ArrowArray *array, int64_t i) {
@@ -113,7 +179,8 @@ static void sum_nested(struct sum *sum, const struct ArrowSchema *schema, const 
     int64_t size;
     switch (schema->format[1]) {
     case 'l':
-    case 'L': sum_between(sum, schema, array, i); return;
+    case 'L':
+    case 'm': sum_between(sum, schema, array, i); return;
     case 'v':
         size = whole(array->buffers[2], width, true, i);
         sum_elements(sum, schema, array, size ? whole(array->buffers[1], width, true, i) : 0, size);
@@ -129,13 +196,17 @@ static void sum_nested(struct sum *sum, const struct ArrowSchema *schema, const 
 }
 
 static void sum_row(struct sum *sum, const struct ArrowSchema *schema, const struct ArrowArray *array, int64_t row) {
-    int64_t i = array->offset + row;
-    if (array->buffers[0] && !flag(array->buffers[0], i)) {
+    int64_t i = array->offset + row, width = width_of_format(schema->format);
+    if (is_of_nulls(schema->format) || (array->buffers[0] && !flag(array->buffers[0], i))) {
         sum_up(sum, 0x6e756c6c);
         return;
     }
     if (schema->dictionary) {
         sum_row(sum, schema->dictionary, array->dictionary, number_of(schema, array, i));
+        return;
+    }
+    if (width >= 0) {
+        sum_bytes(sum, width ? (const uint8_t *)array->buffers[1] + i * width : (const uint8_t *)"", (size_t)width);
         return;
     }
     switch (schema->format[0]) {
@@ -150,10 +221,33 @@ static void sum_row(struct sum *sum, const struct ArrowSchema *schema, const str
     }
 }
 
+/* The formats of what is carried, extensions, and what flags say of codes and keys. */
+static void sum_word(struct sum *sum, const struct ArrowSchema *schema) {
+    int32_t name_size, size;
+    const char *name = extension_of(schema, &name_size), *metadata = value_of_key(schema, "ARROW:extension:metadata", &size);
+    if (is_opaque(schema))
+        sum_bytes(sum, (const uint8_t *)schema->format, strlen(schema->format));
+    if (is_map(schema->format))
+        sum_up(sum, schema->flags & ARROW_FLAG_MAP_KEYS_SORTED ? 2 : 1);
+    if (schema->dictionary)
+        sum_up(sum, schema->flags & ARROW_FLAG_DICTIONARY_ORDERED ? 2 : 1);
+    if (name)
+        sum_bytes(sum, (const uint8_t *)name, (size_t)name_size);
+    if (name && metadata)
+        sum_bytes(sum, (const uint8_t *)metadata, (size_t)size);
+}
+
+/* Whether all rows are null, whichever the schema says. */
+static bool has_nulls_alone(const struct ArrowSchema *schema) {
+    return schema->dictionary ? has_nulls_alone(schema->dictionary) : is_of_nulls(schema->format);
+}
+
 /* The names, and which of the arrays may have nulls. The values of a dictionary have no name, and may where their codes may. */
 static void sum_schema(struct sum *sum, const struct ArrowSchema *schema, bool nullable, bool named) {
     const char *name = schema->name && named ? schema->name : "";
     nullable = named ? schema->flags & ARROW_FLAG_NULLABLE : nullable;
+    nullable = nullable || has_nulls_alone(schema);
+    sum_word(sum, schema);
     sum_bytes(sum, (const uint8_t *)name, strlen(name));
     sum_up(sum, nullable);
     for (int64_t c = 0; c < schema->n_children; c++)

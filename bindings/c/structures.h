@@ -9,21 +9,23 @@
 #include <stdlib.h>
 #include <string.h>
 
-enum { MOST_SLOTS = 512, MOST_PIECES = 8192, MOST_DEPTH = 5 };
+enum { MOST_SLOTS = 512, MOST_PIECES = 8192, MOST_DEPTH = 5, BITS = 1000 };
 
 /* An array, and what Arrow's rules say of it. */
 struct slot {
     struct ArrowSchema *schema;
     struct ArrowArray *array;
-    bool whole;  /* every row of it is looked at */
-    bool nulls;  /* rows may be null */
-    bool values; /* it is a dictionary, whose codes say whether rows may be null */
+    bool whole;   /* every row of it is looked at */
+    bool nulls;   /* rows may be null */
+    bool values;  /* it is a dictionary, whose codes say whether rows may be null */
+    bool entries; /* it has the keys and values of a map */
 };
 
 struct structure {
     struct slot slots[MOST_SLOTS];
     size_t count;
     void *blocks[MOST_PIECES];
+    size_t sizes[MOST_PIECES];
     size_t block_count;
 };
 
@@ -41,8 +43,27 @@ static void *exact(struct structure *s, size_t size) {
         abort();
     if (size)
         memset(bytes, 0, size);
+    s->sizes[s->block_count] = size;
     s->blocks[s->block_count++] = bytes;
     return bytes;
+}
+
+/* How many bytes the block has that begins there; 0 where none does. */
+static inline size_t size_of_block(const struct structure *s, const void *bytes) {
+    for (size_t i = 0; bytes && i < s->block_count; i++)
+        if (s->blocks[i] == bytes)
+            return s->sizes[i];
+    return 0;
+}
+
+/* The lengths of the buffers of an array and of all below it; their number. */
+static inline size_t put_lengths(const struct structure *s, const struct ArrowArray *array, size_t *lengths) {
+    size_t count = (size_t)array->n_buffers;
+    for (size_t i = 0; i < count; i++)
+        lengths[i] = size_of_block(s, array->buffers[i]);
+    for (int64_t i = 0; i < array->n_children; i++)
+        count += put_lengths(s, array->children[i], lengths + count);
+    return array->dictionary ? count + put_lengths(s, array->dictionary, lengths + count) : count;
 }
 
 static void tear_down(struct structure *s) {
@@ -82,7 +103,7 @@ static size_t new_slot(struct structure *s, const char *format, size_t length, s
     array->offset = (int64_t)offset;
     array->n_buffers = (int64_t)buffers;
     array->buffers = exact(s, buffers * sizeof *array->buffers);
-    s->slots[s->count] = (struct slot){schema, array, true, false, false};
+    s->slots[s->count] = (struct slot){schema, array, true, false, false, false};
     return s->count++;
 }
 
@@ -126,7 +147,7 @@ static bool row_is_null(const struct ArrowArray *array, size_t i) {
 static void put_nulls_below(struct structure *s, size_t at, size_t child, size_t each) {
     const struct ArrowArray *parent = s->slots[at].array;
     struct ArrowArray *array = s->slots[child].array;
-    uint8_t *bits = (uint8_t *)(uintptr_t)array->buffers[0];
+    uint8_t *bits = array->n_buffers ? (uint8_t *)(uintptr_t)array->buffers[0] : NULL;
     size_t first = (size_t)parent->offset * each, end = first + (size_t)parent->length * each;
     for (size_t row = first; bits && row < end; row++)
         if (row_is_null(parent, row / each) && roll(2)) {
@@ -177,7 +198,7 @@ static void join(struct structure *s, size_t at, size_t place, size_t child, con
 
 static void build_numbers(struct structure *s, size_t at, size_t width) {
     struct ArrowArray *array = s->slots[at].array;
-    size_t rows = (size_t)(array->length + array->offset), size = width ? rows * width : (rows + 7) / 8;
+    size_t rows = (size_t)(array->length + array->offset), size = width == BITS ? (rows + 7) / 8 : rows * width;
     uint8_t *bytes = exact(s, size);
     for (size_t i = 0; i < size; i++)
         bytes[i] = (uint8_t)roll(256);
@@ -245,14 +266,26 @@ static size_t build_flat(struct structure *s, size_t length, size_t offset, bool
     static const struct {
         const char *format;
         size_t width;
-    } formats[] = {{"b", 0},    {"c", 1},   {"C", 1},   {"s", 2},    {"S", 2},       {"i", 4},
-                   {"I", 4},    {"l", 8},   {"L", 8},   {"tdD", 4},  {"tdm", 8},     {"tts", 4},
-                   {"ttm", 4},  {"ttu", 8}, {"ttn", 8}, {"tss:", 8}, {"tsm:UTC", 8}, {"tsu:Europe/Rome", 8},
-                   {"tsn:", 8}, {"tDs", 8}, {"tDm", 8}, {"tDu", 8},  {"tDn", 8}};
+    } formats[] = {
+        {"b", BITS}, {"c", 1},        {"C", 1},         {"s", 2},         {"S", 2},          {"i", 4},           {"I", 4},
+        {"l", 8},    {"L", 8},        {"e", 2},         {"f", 4},         {"g", 8},          {"tdD", 4},         {"tdm", 8},
+        {"tts", 4},  {"ttm", 4},      {"ttu", 8},       {"ttn", 8},       {"tss:", 8},       {"tsm:UTC", 8},     {"tsu:Europe/Rome", 8},
+        {"tsn:", 8}, {"tDs", 8},      {"tDm", 8},       {"tDu", 8},       {"tDn", 8},        {"tiM", 4},         {"tiD", 8},
+        {"tin", 16}, {"d:38,10", 16}, {"d:9,-2,32", 4}, {"d:18,3,64", 8}, {"d:1,0,128", 16}, {"d:76,5,256", 32}, {"w:0", 0},
+        {"w:1", 1},  {"w:2", 2},      {"w:3", 3},       {"w:4", 4},       {"w:8", 8},        {"w:20", 20}};
     size_t which = roll(sizeof formats / sizeof *formats);
     size_t at = new_slot(s, formats[which].format, length, offset, 2, 0);
     put_nulls(s, at, nulls);
     build_numbers(s, at, formats[which].width);
+    return at;
+}
+
+/* Nulls, whatever the flags say. */
+static size_t build_nulls(struct structure *s, size_t length, size_t offset) {
+    size_t at = new_slot(s, "n", length, offset, 0, 0);
+    s->slots[at].schema->flags = roll(2) ? ARROW_FLAG_NULLABLE : 0;
+    s->slots[at].array->null_count = roll(2) ? -1 : (int64_t)length;
+    s->slots[at].nulls = true;
     return at;
 }
 
@@ -279,6 +312,27 @@ static size_t build_lists(struct structure *s, size_t length, size_t offset, int
     size_t end = put_offsets(s, s->slots[at].array, large ? 8 : 4, 4);
     size_t child = build(s, end + roll(3), depth + 1, true);
     join(s, at, 0, child, element_name(), false);
+    return at;
+}
+
+/* Keys, none of which is null, and values. */
+static size_t build_entries(struct structure *s, size_t length, int depth) {
+    size_t at = new_slot(s, "+s", length, roll(2), 1, 2);
+    s->slots[at].entries = true;
+    for (size_t i = 0; i < 2; i++) {
+        size_t child = build(s, (size_t)s->slots[at].array->offset + length + roll(2), depth + 1, i);
+        join(s, at, i, child, i ? "value" : "key", false);
+    }
+    return at;
+}
+
+static size_t build_maps(struct structure *s, size_t length, size_t offset, int depth, bool nulls) {
+    size_t at = new_slot(s, "+m", length, offset, 2, 1);
+    put_nulls(s, at, nulls);
+    s->slots[at].schema->flags |= roll(2) ? ARROW_FLAG_MAP_KEYS_SORTED : 0;
+    size_t end = put_offsets(s, s->slots[at].array, 4, 4);
+    size_t child = build_entries(s, end + roll(3), depth + 1);
+    join(s, at, 0, child, "entries", false);
     return at;
 }
 
@@ -318,6 +372,7 @@ static size_t build_dictionary(struct structure *s, size_t length, size_t offset
     static const char *const formats[] = {"c", "C", "s", "S", "i", "I", "l", "L"};
     size_t which = roll(8), values = 1 + roll(6), at = new_slot(s, formats[which], length, offset, 2, 0);
     put_nulls(s, at, nulls);
+    s->slots[at].schema->flags |= roll(3) ? 0 : ARROW_FLAG_DICTIONARY_ORDERED;
     build_codes(s, at, (size_t)1 << which / 2, values);
     size_t dictionary = build(s, values, depth + 1, s->slots[at].nulls);
     s->slots[dictionary].schema->flags = roll(2) ? ARROW_FLAG_NULLABLE : 0;
@@ -327,19 +382,64 @@ static size_t build_dictionary(struct structure *s, size_t length, size_t offset
     return at;
 }
 
-/* An array of so many rows; where `nulls` is false, of no null. */
-static size_t build(struct structure *s, size_t length, int depth, bool nulls) {
+static size_t build_layout(struct structure *s, size_t length, int depth, bool nulls) {
     size_t offset = roll(2) ? 0 : roll(12);
-    switch (roll(depth < MOST_DEPTH ? 9 : 3)) {
+    switch (roll(depth < MOST_DEPTH ? 11 : 4)) {
     case 0: return build_flat(s, length, offset, nulls);
     case 1: return build_values(s, length, offset, nulls);
     case 2: return build_text_views(s, length, offset, nulls);
-    case 3: return build_lists(s, length, offset, depth, nulls);
-    case 4: return build_lists_by_views(s, length, offset, depth, nulls);
-    case 5: return build_fixed(s, length, offset, depth, nulls);
-    case 6: return build_dictionary(s, length, offset, depth, nulls);
+    case 3: return nulls && !roll(2) ? build_nulls(s, length, offset) : build_flat(s, length, offset, nulls);
+    case 4: return build_lists(s, length, offset, depth, nulls);
+    case 5: return build_lists_by_views(s, length, offset, depth, nulls);
+    case 6: return build_fixed(s, length, offset, depth, nulls);
+    case 7: return build_dictionary(s, length, offset, depth, nulls);
+    case 8: return build_maps(s, length, offset, depth, nulls);
     default: return build_records(s, length, offset, depth, nulls);
     }
+}
+
+/* Writes bytes after their number; the place behind them. */
+static char *put_sized(char *at, const char *characters) {
+    const int32_t size = (int32_t)strlen(characters);
+    memcpy(at, &size, 4);
+    memcpy(at + 4, characters, (size_t)size);
+    return at + 4 + size;
+}
+
+/* Metadata of so many keys and values, in a block of their length. */
+static const char *metadata_of(struct structure *s, const char *const *texts, int32_t keys) {
+    size_t size = 4;
+    for (int32_t i = 0; i < 2 * keys; i++)
+        size += 4 + strlen(texts[i]);
+    char *made = exact(s, size), *at = made + 4;
+    memcpy(made, &keys, 4);
+    for (int32_t i = 0; i < 2 * keys; i++)
+        at = put_sized(at, texts[i]);
+    return made;
+}
+
+/* Metadata, which may tell of an extension. */
+static void put_metadata(struct structure *s, size_t at) {
+    static const char *const texts[] = {"a key",
+                                        "a value",
+                                        "ARROW:extension:name",
+                                        "an.extension",
+                                        "ARROW:extension:metadata",
+                                        "{\"of\": \"it\"}",
+                                        "ARROW:extension:name",
+                                        "a second one",
+                                        "",
+                                        ""};
+    size_t from = roll(3), keys = roll(6 - from);
+    s->slots[at].schema->metadata = metadata_of(s, texts + 2 * from, (int32_t)keys);
+}
+
+/* An array of so many rows; where `nulls` is false, of no null. */
+static size_t build(struct structure *s, size_t length, int depth, bool nulls) {
+    size_t at = build_layout(s, length, depth, nulls);
+    if (!roll(4))
+        put_metadata(s, at);
+    return at;
 }
 
 /* The structure of a seed: slot 0 is its root. */

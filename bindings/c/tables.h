@@ -130,9 +130,33 @@ static void put_records(struct made *m, size_t length, int depth) {
     m->nodes[at].buffers = names, m->nodes[at].buffer_count = count;
 }
 
+/* Records that carry a column: floats of 4 or 8 bytes, lists of 3 bytes, or one with an extension. */
+static void put_carried(struct made *m, size_t length, int depth) {
+    static const char *const words[] = {"f", "g", "w:3", "\0an.ext"};
+    static const size_t name_sizes[] = {2, 2, 4, 8}, sizes[] = {4, 8, 3};
+    size_t at = put(m, CODRASK_STRUCT, length), which = random_below(4);
+    give_validity(m, at);
+    struct codrask_bytes *name = block(m, sizeof *name);
+    uint8_t *bytes = block(m, name_sizes[which]);
+    memcpy(bytes + 1, words[which], name_sizes[which] - 1);
+    *name = (struct codrask_bytes){bytes, name_sizes[which]};
+    m->nodes[at].buffers = name, m->nodes[at].buffer_count = 1;
+    if (which == 3) {
+        put_column(m, length, depth + 1);
+        return;
+    }
+    if (which == 2)
+        m->nodes[put(m, CODRASK_FIXED_SIZE_LIST, length)].size = 3;
+    at = put(m, which == 0 ? CODRASK_U32 : which == 1 ? CODRASK_U64 : CODRASK_U8, length * (which == 2 ? 3 : 1));
+    uint8_t *values = block(m, length * sizes[which]);
+    for (size_t i = 0; i < length * sizes[which]; i++)
+        values[i] = (uint8_t)random_below(256);
+    m->nodes[at].bytes = values, m->nodes[at].byte_count = length * sizes[which];
+}
+
 static void put_column(struct made *m, size_t length, int depth) {
     size_t at, inner = 1 + random_below(8);
-    switch (random_below(depth < 3 ? 7 : 3)) {
+    switch (random_below(depth < 3 ? 8 : 3)) {
     case 0: {
         at = put(m, CODRASK_BOOL, length);
         give_validity(m, at);
@@ -162,6 +186,7 @@ static void put_column(struct made *m, size_t length, int depth) {
         put_numbers(m, length, inner, true, NULL);
         put_numbers(m, length, inner, true, NULL);
         return;
+    case 6: put_carried(m, length, depth); return;
     default: put_records(m, length, depth);
     }
 }

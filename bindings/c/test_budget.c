@@ -141,6 +141,25 @@ static void repeated(void) {
     one_column("4000 columns of one name", &number, &few, 4000, CODRASK_TOO_MANY_BYTES, 0);
 }
 
+/* What is carried: one time zone, metadata of many keys, and rows that take no memory. */
+static void carried(void) {
+    static char zone[1 << 20] = "tss:";
+    static int32_t keys[1 + (1 << 20)];
+    static const uint8_t bytes[8];
+    const void *flat[] = {NULL, bytes};
+    struct ArrowSchema instant = schema(zone, 0, NULL, 0), number = schema("C", 0, NULL, 0), nulls = schema("n", 0, NULL, 0);
+    struct ArrowArray few = array(1, 0, flat, 2, NULL, 0), many = array((int64_t)1 << 40, 0, NULL, 0, NULL, 0);
+    struct ArrowSchema empty = schema("w:0", 0, NULL, 0);
+    struct ArrowArray of_none = array((int64_t)1 << 40, 0, flat, 2, NULL, 0);
+    memset(zone + 4, 'x', sizeof zone - 5);
+    one_column("4000 columns of one time zone", &instant, &few, 4000, CODRASK_TOO_MANY_BYTES, 7);
+    keys[0] = 1 << 19;
+    number.metadata = (const char *)keys;
+    one_column("4000 columns of 2^19 keys", &number, &few, 4000, CODRASK_TOO_MANY_BYTES, 3);
+    one_column("2^40 rows of 1000 columns of nulls", &nulls, &many, 1000, 0, 0);
+    one_column("2^40 rows of 1000 columns of no bytes", &empty, &of_none, 1000, 0, 0);
+}
+
 /* Arrays over parts of one block of offsets, each at a place of its own. */
 static void overlapping(void) {
     static int32_t offsets[32001];
@@ -267,6 +286,63 @@ static void names(void) {
     tell("of the root", codrask_read_arrow(&s, &a, &all, &table, &fault) == CODRASK_TOO_MANY_BYTES && fault.node == 0);
 }
 
+/* ---- columns that are chosen ---- */
+
+static void read_chosen(const char *what, const struct ArrowSchema *schema, const struct ArrowArray *array, struct codrask_reading how,
+                        uint32_t number) {
+    struct codrask_arrow_fault told;
+    struct codrask_table table;
+    begin();
+    uint32_t answer = codrask_read_arrow_sized(schema, array, &how, &table, &told);
+    codrask_table_free(&table);
+    if (answer != number)
+        printf("%u %s\n", answer, codrask_fault_name(answer));
+    tell(what, answer == number && is_little());
+}
+
+/* Beside a column, unions that name one child twice, level under level: they are passed over. */
+static void doubled_beside(void) {
+    static struct ArrowArray unions[40], *parts[40][2];
+    static const uint8_t bytes[1];
+    static const char *const names[] = {"x"};
+    const size_t lengths[] = {0, 0, 1};
+    const void *flat[] = {NULL, bytes}, *none_there[] = {NULL};
+    for (size_t i = 0; i < COUNT(unions); i++) {
+        unions[i] = array(1, 0, NULL, 0, parts[i], i + 1 < COUNT(unions) ? 2 : 0);
+        parts[i][0] = parts[i][1] = &unions[i + 1 < COUNT(unions) ? i + 1 : i];
+    }
+    struct ArrowSchema number = schema("C", 0, NULL, 0), other = schema("+us:0,1", 0, NULL, 0), *schemas[] = {&number, &other};
+    struct ArrowArray column = array(1, 0, flat, 2, NULL, 0), *columns[] = {&column, &unions[0]},
+                      a = array(1, 0, none_there, 1, columns, 2);
+    struct ArrowSchema s = schema("+s", 0, schemas, 2);
+    other.name = "y";
+    struct codrask_reading how = {.columns = names, .column_count = 1};
+    read_chosen("beside unions that are doubled", &s, &a, how, 0);
+    how.lengths = lengths, how.length_count = 3;
+    read_chosen("the same with lengths", &s, &a, how, CODRASK_BAD_LENGTHS);
+}
+
+/* 4095 columns, all chosen, from the last one to the first. */
+static void all_chosen(void) {
+    enum { COLUMNS = 4095 };
+    static struct ArrowSchema each[COLUMNS], *schemas[COLUMNS];
+    static struct ArrowArray *arrays[COLUMNS];
+    static char texts[COLUMNS][8];
+    static const char *names[COLUMNS];
+    static size_t lengths[1 + 2 * COLUMNS];
+    static const uint8_t bytes[1];
+    const void *flat[] = {NULL, bytes}, *none_there[] = {NULL};
+    struct ArrowArray column = array(1, 0, flat, 2, NULL, 0), a = array(1, 0, none_there, 1, arrays, COLUMNS);
+    struct ArrowSchema s = schema("+s", 0, schemas, COLUMNS);
+    for (size_t i = 0; i < COLUMNS; i++) {
+        snprintf(texts[i], sizeof texts[i], "c%zu", i);
+        each[i] = schema("C", 0, NULL, 0), each[i].name = texts[i], names[COLUMNS - 1 - i] = texts[i];
+        schemas[i] = &each[i], arrays[i] = &column, lengths[2 + 2 * i] = 1;
+    }
+    struct codrask_reading how = {.columns = names, .column_count = COLUMNS, .lengths = lengths, .length_count = COUNT(lengths)};
+    read_chosen("4095 columns that are chosen", &s, &a, how, 0);
+}
+
 /* ---- limits of the caller's ---- */
 
 /* Twenty columns of few rows over one dictionary of 4.8 MB. */
@@ -377,6 +453,7 @@ static void structures(void) {
 int main(void) {
     doubled();
     repeated();
+    carried();
     overlapping();
     one_buffer();
     slices();
@@ -384,6 +461,8 @@ int main(void) {
     nulls_in_nulls("nulls of 70 columns in records of 60 levels", "+s", 60, 70);
     nulls_in_nulls("nulls of 60 columns in lists of two of 14 levels", "+w:2", 15, 60);
     names();
+    doubled_beside();
+    all_chosen();
     shared_dictionary();
     limits();
     written();

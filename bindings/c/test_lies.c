@@ -85,8 +85,8 @@ static void counts(void) {
     refuse("elements that are too few", CODRASK_LENGTH_MISMATCH, 2);
     r.elements_schema.format = NULL;
     refuse("no format", CODRASK_BAD_ARROW, 3);
-    r.elements_schema.format = "g";
-    refuse("floats", CODRASK_BAD_ARROW, 3);
+    r.elements_schema.format = "+us:0";
+    refuse("a union", CODRASK_BAD_ARROW, 3);
 }
 
 static void texts(void) {
@@ -113,6 +113,8 @@ static void texts(void) {
     struct ArrowArray inner = array(2, 0, two_heaps, 5, NULL, 0), *columns[] = {&inner}, root = array(2, 0, none, 1, columns, 1);
     struct ArrowSchema *schemas[] = {&s}, records = schema("+s", 0, schemas, 1);
     expect("the second buffer of a column", &records, &root, CODRASK_BAD_ARROW, 1, 1);
+    two_heaps[3] = NULL;
+    expect("a null pointer of a negative size", &records, &root, CODRASK_BAD_ARROW, 1, 1);
     const int64_t large = 100000;
     const struct codrask_view long_views[2] = {{{90000 & 0xff, 90000 >> 8 & 0xff, 90000 >> 16}}, {{0}}};
     views_and_heap[1] = long_views, views_and_heap[2] = NULL, views_and_heap[3] = &large;
@@ -158,13 +160,13 @@ static void dictionaries(void) {
     expect("a dictionary of the schema alone", &s, &a, CODRASK_BAD_ARROW, 0, 0);
     a.dictionary = &values;
     expect("a dictionary", &s, &a, 0, 0, 0);
-    const char *const formats[] = {"tsm:UTC", "tdD", "b", "u", "+s"};
+    const char *const formats[] = {"tsm:UTC", "tdD", "b", "u", "+s", "f", "w:1", "n"};
     for (size_t i = 0; i < COUNT(formats); i++) {
         s.format = formats[i];
         expect("codes that are no integers", &s, &a, CODRASK_BAD_ARROW, 0, 0);
     }
-    s.format = "C", value.format = "f";
-    expect("a dictionary of floats", &s, &a, CODRASK_BAD_ARROW, 2, 0);
+    s.format = "C", value.format = "+r";
+    expect("a dictionary of runs", &s, &a, CODRASK_BAD_ARROW, 2, 0);
     value.format = "l", value_buffers[0] = some_valid;
     expect("a value that is null in a dictionary that is not nullable", &s, &a, CODRASK_UNEXPECTED_NULL, 2, 1);
     s.flags = ARROW_FLAG_NULLABLE;

@@ -113,6 +113,33 @@ static void long_heaps(void) {
     munmap(heap, 4 * GIB);
 }
 
+/* Whether the view of a row that passes the end of four GiB begins where it should, and is refused at its end. */
+static bool is_past(uint8_t *heap, const int64_t *offsets, size_t row) {
+    const void *buffers[] = {NULL, offsets, heap};
+    const size_t lengths[] = {0, 4 * sizeof *offsets, 4 * GIB};
+    struct ArrowSchema s = schema("Z", 0, NULL, 0);
+    struct ArrowArray a = array(3, 0, buffers, 3, NULL, 0);
+    uint32_t field[4];
+    if (codrask_table_from_arrow_sized(&s, &a, lengths, 3, &table))
+        return false;
+    memcpy(field, table.nodes[0].views[row].bytes, 16);
+    const struct codrask_bytes *bytes = &table.nodes[0].buffers[field[2]];
+    bool good = field[2] < table.nodes[0].buffer_count && bytes->count <= INT32_MAX && field[3] < bytes->count
+                && bytes->bytes + field[3] == heap + offsets[row] && (size_t)field[3] + field[0] > bytes->count;
+    codrask_table_free(&table);
+    return good;
+}
+
+static void past_long_heaps(void) {
+    const int64_t half = 3 * (int64_t)GIB / 2, second[] = {5, 5 + half, 5 + 2 * half, INT64_MAX}, first[] = {5, 5, 5, INT64_MAX},
+                  falling[] = {0, INT64_MAX, 0, INT32_MAX};
+    uint8_t *heap = zeroes(4 * GIB);
+    tell("a text past the second of two heaps", is_past(heap, second, 2));
+    tell("a text past the first one", is_past(heap, first, 2));
+    tell("a text before one that has the whole heap", is_past(heap, falling, 0));
+    munmap(heap, 4 * GIB);
+}
+
 /* No offset is read where there is no row, and what is empty is aligned. */
 static void empty(void) {
     void *nothing = malloc(0);
@@ -176,6 +203,36 @@ static void numbers_past_arrow(void) {
 
 static struct codrask_node nest[4096];
 
+/* Writes 4096 levels as a stream of two batches, which gives its schema. */
+static void *stream_nest(void *answer) {
+    struct codrask_column column = {nest, 4096}, twice[] = {column, column};
+    struct codrask_run_fault told;
+    struct ArrowArrayStream stream;
+    struct ArrowSchema schema;
+    *(uint32_t *)answer = codrask_write_stream(twice, 2, CODRASK_BY_OFFSETS, NULL, NULL, &stream, &told);
+    if (*(uint32_t *)answer)
+        return NULL;
+    if (stream.get_schema(&stream, &schema))
+        *(uint32_t *)answer = CODRASK_STREAM_FAILED;
+    else
+        schema.release(&schema);
+    stream.release(&stream);
+    return NULL;
+}
+
+static void stream_on_a_small_stack(void) {
+    pthread_t thread;
+    pthread_attr_t attributes;
+    uint8_t number[] = {5};
+    uint32_t answer = CODRASK_STREAM_FAILED;
+    for (size_t i = 0; i < 4095; i++)
+        nest[i] = node(CODRASK_FIXED_SIZE_LIST, 0, 1), nest[i].size = 1;
+    nest[4095] = numbers(CODRASK_U8, 1, SLICE(number));
+    bool good = !pthread_attr_init(&attributes) && !pthread_attr_setstacksize(&attributes, 256 << 10)
+                && !pthread_create(&thread, &attributes, stream_nest, &answer) && !pthread_join(thread, NULL);
+    tell("a stream of nests of 4096 arrays on a stack of 256 KiB", good && !answer);
+}
+
 /* Writes and releases 4096 levels. */
 static void *write_nest(void *flags) {
     struct ArrowSchema schema;
@@ -189,14 +246,17 @@ static void *write_nest(void *flags) {
     return NULL;
 }
 
-static void small_stack(void) {
+static void small_stack(bool records) {
+    static const struct codrask_bytes name = {(const uint8_t *)"\0ordered", 8};
     uint8_t number[] = {5};
     for (uint32_t flags = CODRASK_BY_VIEWS; flags <= CODRASK_BY_OFFSETS; flags++) {
         pthread_t thread;
         pthread_attr_t attributes;
         uint32_t answer = flags;
-        for (size_t i = 0; i < 4095; i++)
-            nest[i] = node(CODRASK_FIXED_SIZE_LIST, 0, 1), nest[i].size = 1;
+        for (size_t i = 0; i < 4095; i++) {
+            nest[i] = node(records ? CODRASK_STRUCT : CODRASK_FIXED_SIZE_LIST, 0, 1);
+            nest[i].size = 1, nest[i].buffers = &name, nest[i].buffer_count = records;
+        }
         nest[4095] = numbers(CODRASK_U8, 1, SLICE(number));
         bool good = !pthread_attr_init(&attributes) && !pthread_attr_setstacksize(&attributes, 256 << 10)
                     && !pthread_create(&thread, &attributes, write_nest, &answer) && !pthread_join(thread, NULL);
@@ -207,10 +267,13 @@ static void small_stack(void) {
 int main(void) {
     parts();
     long_heaps();
+    past_long_heaps();
     empty();
     most_nodes();
+    stream_on_a_small_stack();
     numbers_past_arrow();
-    small_stack();
+    small_stack(false);
+    small_stack(true);
     printf("%d passed, %d failed\n", passed, failed);
     return failed != 0;
 }

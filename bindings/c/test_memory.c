@@ -4,6 +4,7 @@
 #include "tables.h"
 #include "turned_structures.h"
 
+#include <errno.h>
 #include <stdio.h>
 
 void *__real_malloc(size_t size);
@@ -71,6 +72,54 @@ static uint32_t by_views(struct codrask_fault *fault) {
     return write_table(made.nodes, made.count, CODRASK_BY_VIEWS, fault);
 }
 
+/* Takes all that a stream hands out, and its schema twice. */
+static uint32_t take_all(struct ArrowArrayStream *stream) {
+    struct ArrowSchema schemas[2];
+    struct ArrowArray array = {.length = 1};
+    bool first = !stream->get_schema(stream, &schemas[0]), second = !stream->get_schema(stream, &schemas[1]);
+    if (first)
+        schemas[0].release(&schemas[0]);
+    if (second)
+        schemas[1].release(&schemas[1]);
+    while (!stream->get_next(stream, &array) && array.release)
+        array.release(&array);
+    return first && second && !schemas[0].release && !schemas[1].release ? 0 : CODRASK_MEMORY;
+}
+
+/* Writes a column twice as a stream, and takes all of it. */
+static uint32_t stream_out(struct codrask_fault *fault) {
+    struct codrask_column column = {made.nodes, made.count}, twice[] = {column, column};
+    struct codrask_run_fault told;
+    struct ArrowArrayStream stream;
+    uint32_t number = codrask_write_stream(twice, 2, CODRASK_BY_VIEWS, "a column", NULL, &stream, &told);
+    *fault = (struct codrask_fault){told.number, told.node, told.place};
+    if (number)
+        return number;
+    number = take_all(&stream);
+    stream.release(&stream);
+    return number;
+}
+
+/* The same, read a batch at a time. */
+static uint32_t stream_back_in(struct codrask_fault *fault) {
+    struct codrask_column column = {made.nodes, made.count}, twice[] = {column, column};
+    struct codrask_run_fault told;
+    struct ArrowArrayStream stream;
+    struct codrask_stream in = {.stream = &stream};
+    struct codrask_arrow_fault found;
+    uint32_t number = codrask_write_stream(twice, 2, CODRASK_BY_OFFSETS, NULL, NULL, &stream, &told);
+    *fault = (struct codrask_fault){told.number, told.node, told.place};
+    if (number)
+        return number;
+    do
+        number = codrask_next_batch(&in, NULL, &found);
+    while (!number && in.table.count);
+    *fault = found.fault;
+    bool no_memory = in.error == ENOMEM && in.message[0];
+    codrask_stream_free(&in);
+    return number == CODRASK_STREAM_FAILED && no_memory ? CODRASK_MEMORY : number;
+}
+
 static struct structure structure;
 
 /* Reads an Arrow structure, and writes it again. */
@@ -86,6 +135,32 @@ static uint32_t there_and_back(struct codrask_fault *fault) {
 
 static uint32_t check_structure(struct codrask_fault *fault) {
     return codrask_check_arrow(structure.slots[0].schema, structure.slots[0].array, fault);
+}
+
+static size_t lengths[MOST_PIECES], length_count;
+
+static uint32_t check_sized(struct codrask_fault *fault) {
+    return codrask_check_arrow_sized(structure.slots[0].schema, structure.slots[0].array, lengths, length_count, fault);
+}
+
+static uint32_t table_sized(struct codrask_fault *fault) {
+    struct codrask_table table;
+    uint32_t number = codrask_table_from_arrow_sized(structure.slots[0].schema, structure.slots[0].array, lengths, length_count, &table);
+    *fault = (struct codrask_fault){number, 0, 0};
+    codrask_table_free(&table);
+    return number;
+}
+
+/* Two columns of records, where there are two of these names. */
+static uint32_t read_columns(struct codrask_fault *fault) {
+    static const char *const names[] = {"a", "b"};
+    struct codrask_reading how = {.lengths = lengths, .length_count = length_count, .columns = names, .column_count = 2};
+    struct codrask_arrow_fault told;
+    struct codrask_table table;
+    uint32_t number = codrask_read_arrow_sized(structure.slots[0].schema, structure.slots[0].array, &how, &table, &told);
+    *fault = told.fault;
+    codrask_table_free(&table);
+    return number;
 }
 
 static uint32_t run(struct codrask_fault *fault) {
@@ -181,15 +256,21 @@ int main(void) {
         gives_back(check, seed) ? passed++ : failed++;
         gives_back(by_offsets, seed) ? passed++ : failed++;
         gives_back(by_views, seed) ? passed++ : failed++;
+        gives_back(stream_out, seed) ? passed++ : failed++;
+        gives_back(stream_back_in, seed) ? passed++ : failed++;
         gives_back(run, seed) ? passed++ : failed++;
         let_go(&made);
     }
     for (uint64_t seed = 1; seed <= 200; seed++) {
         build_seed(&structure, seed);
+        length_count = put_lengths(&structure, structure.slots[0].array, lengths);
         if (seed % 4 == 0)
             turn_structure(&structure);
         gives_back(there_and_back, seed) ? passed++ : failed++;
         gives_back(check_structure, seed) ? passed++ : failed++;
+        gives_back(check_sized, seed) ? passed++ : failed++;
+        gives_back(table_sized, seed) ? passed++ : failed++;
+        gives_back(read_columns, seed) ? passed++ : failed++;
         tear_down(&structure);
     }
     printf("%zu passed, %zu failed\n", passed, failed);

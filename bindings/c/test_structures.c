@@ -55,31 +55,38 @@ static bool find_node(const struct ArrowSchema *schema, const struct ArrowArray 
                       size_t *node) {
     if (array == wanted)
         return true;
-    *node += 1 + !!schema->dictionary + (nullable && array->buffers[0] && array->null_count);
+    *node += own_nodes(schema, array, nullable);
     for (int64_t i = 0; i < array->n_children; i++)
         if (find_node(schema->children[i], array->children[i], wanted, schema->children[i]->flags & ARROW_FLAG_NULLABLE, node))
             return true;
     if (schema->dictionary)
         return find_node(schema->dictionary, array->dictionary, wanted, nullable, node);
-    *node += strchr("lLv", schema->format[1]) && schema->format[0] == '+' ? 2 : 0;
+    *node += strchr("lLvm", schema->format[1]) && schema->format[0] == '+' ? 2 : 0;
     return false;
 }
 
-/* Whether a refusal tells the node that was turned: of nulls in a dictionary that of its codes. */
-static bool is_told_of(size_t node, bool dictionary) {
+/* Whether a refusal tells the node that was turned: of nulls in a dictionary that of its codes; of what is not told by the structs, and
+ * a record stands before the array, that of the array. */
+static bool is_told_of(size_t node, bool dictionary, bool under_record) {
     bool of_nulls = fault.number == CODRASK_BAD_NULL_COUNT || fault.number == CODRASK_UNEXPECTED_NULL;
-    return fault.number == CODRASK_TOO_MANY_NODES ? fault.node == 0 : fault.node == node + (of_nulls && dictionary);
+    bool inside = of_nulls || fault.number == CODRASK_NOT_UTF8 || fault.number == CODRASK_TOO_MANY_BUFFERS;
+    size_t place = node + (of_nulls && dictionary) + (inside && under_record);
+    return fault.number == CODRASK_TOO_MANY_NODES ? fault.node == 0 : fault.node == place;
 }
 
-/* Turns one thing of an array. What must be refused is told of its node. */
+/* Turns one thing of an array. What must be refused is told of its node; that the entries of a map are none, of the map, whose slot
+ * comes before theirs. */
 static void expect_turned(uint64_t seed) {
-    const struct slot *t = &made.slots[roll(made.count)], *root = &made.slots[0];
-    size_t node = 0;
-    bool dictionary = t->schema->dictionary, nullable = root->schema->flags & ARROW_FLAG_NULLABLE;
-    bool found = find_node(root->schema, root->array, t->array, nullable, &node);
+    const struct slot *t = &made.slots[roll(made.count)], *root = &made.slots[0], *map = t->entries ? t - 1 : t;
+    size_t node = 0, map_node = 0;
+    bool dictionary = t->schema->dictionary, under_record = is_under_record(t->schema);
+    bool nullable = root->schema->flags & ARROW_FLAG_NULLABLE;
+    bool found = find_node(root->schema, root->array, t->array, nullable, &node)
+                 && find_node(root->schema, root->array, map->array, nullable, &map_node);
     enum verdict verdict = turn_slot(&made, t);
     expect("turned", seed, verdict);
-    if (verdict != REFUSED || (found && is_told_of(node, dictionary)))
+    bool of_map = t->entries && fault.number == CODRASK_BAD_ARROW && fault.node == map_node;
+    if (verdict != REFUSED || (found && (of_map || is_told_of(node, dictionary, under_record))))
         return;
     failed++;
     printf("seed %llu: told %s at node %zu, and not at %zu\n", (unsigned long long)seed, codrask_fault_name(fault.number), fault.node, node);

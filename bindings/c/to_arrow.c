@@ -10,6 +10,7 @@ struct schema_owner {
     struct ArrowSchema was;
     struct schema_owner *next;
     struct block *blocks;
+    size_t place; /* of the first node that its array has, counted from 1 */
 };
 
 struct array_owner {
@@ -23,11 +24,12 @@ struct pair {
     struct ArrowArray *array;
 };
 
-/* What is still to be made: the array of the next node, or the offsets and sizes of lists whose elements are made. */
+/* What is still to be made: the array of the next node; the offsets and sizes of lists or maps whose elements are made; or what records
+ * say of the array that they carry, which is made. */
 struct part {
     struct pair pair;
-    size_t lists;
-    bool ends;
+    enum { ARRAY, ENDS, ENDS_OF_MAPS, RECORDS_OVER } what;
+    size_t node; /* of the lists or the records */
 };
 
 /* What is being made, and the nodes that it is made of, which have passed. The parts that are still to be made wait, the next one
@@ -55,9 +57,13 @@ static void *block_of(struct block **blocks, size_t count, size_t width) {
     return block + 1;
 }
 
-static void *schema_block(struct pair p, size_t count, size_t width) {
-    struct schema_owner *owner = p.schema->private_data;
+void *codrask_schema_block(struct ArrowSchema *schema, size_t count, size_t width) {
+    struct schema_owner *owner = schema->private_data;
     return block_of(&owner->blocks, count, width);
+}
+
+static void *schema_block(struct pair p, size_t count, size_t width) {
+    return codrask_schema_block(p.schema, count, width);
 }
 
 static void *array_block(struct pair p, size_t count, size_t width) {
@@ -134,16 +140,26 @@ static void release_array(struct ArrowArray *array) {
     }
 }
 
+uint32_t codrask_open_schema(struct ArrowSchema *schema) {
+    struct schema_owner *owner = calloc(1, sizeof *owner);
+    if (!owner)
+        return CODRASK_MEMORY;
+    *schema = (struct ArrowSchema){.format = "", .name = "", .release = release_schema, .private_data = owner};
+    return 0;
+}
+
+size_t codrask_node_of(const struct ArrowSchema *schema) {
+    const struct schema_owner *owner = schema->private_data;
+    return owner->place - 1;
+}
+
 /* A schema and an array that have nothing yet, and can be released. */
 static uint32_t open_pair(struct pair p) {
-    struct schema_owner *schema = calloc(1, sizeof *schema);
     struct array_owner *array = calloc(1, sizeof *array);
-    if (!schema || !array) {
-        free(schema);
+    if (!array || codrask_open_schema(p.schema)) {
         free(array);
         return CODRASK_MEMORY;
     }
-    *p.schema = (struct ArrowSchema){.format = "", .name = "", .release = release_schema, .private_data = schema};
     *p.array = (struct ArrowArray){.release = release_array, .private_data = array};
     return 0;
 }
@@ -194,15 +210,16 @@ static const struct codrask_node *counts(struct maker *m) {
     return width_of(node->kind) ? node : NULL;
 }
 
-/* Whether the array at a node may have nulls: of a dictionary, its codes or its values. */
+/* Whether the array at a node may have nulls: of a dictionary, its codes or its values; of what is carried, the record or its column. */
 static bool may_be_null(const struct maker *m, size_t at) {
-    while (m->nodes[at].kind == CODRASK_DICTIONARY) {
-        uint32_t codes = m->nodes[++at].validity;
-        if (codes != CODRASK_NON_NULLABLE)
+    for (;; at++) {
+        bool dictionary = m->nodes[at].kind == CODRASK_DICTIONARY, carried = codrask_is_carried(&m->nodes[at]);
+        at += dictionary;
+        if (m->nodes[at].validity != CODRASK_NON_NULLABLE)
             return true;
-        at++;
+        if (!dictionary && !carried)
+            return false;
     }
-    return m->nodes[at].validity != CODRASK_NON_NULLABLE;
 }
 
 /* ---- parts ---- */
@@ -313,7 +330,7 @@ static uint32_t set_children(struct pair p, size_t count) {
 
 /* The array of the next node waits to be made before all that waits already. */
 static void wait_for(struct maker *m, struct pair p) {
-    m->waiting[m->waiting_count++] = (struct part){.pair = p};
+    m->waiting[m->waiting_count++] = (struct part){p, ARRAY, 0};
 }
 
 static struct pair child_of(struct pair p, size_t i) {
@@ -417,19 +434,20 @@ static bool end_of_list(const struct codrask_node *offsets, const struct codrask
     return offset <= INT64_MAX && size <= INT64_MAX - offset;
 }
 
-/* Offsets alone, of lists of which each begins where the one before it ends. */
-static uint32_t offsets_of_lists(struct maker *m, struct pair p, const struct codrask_node *offsets, const struct codrask_node *sizes) {
+/* Offsets alone, of lists of which each begins where the one before it ends. Those of maps are small. */
+static uint32_t offsets_of_lists(struct maker *m, struct pair p, const struct codrask_node *offsets, const struct codrask_node *sizes,
+                                 bool map) {
     size_t n = offsets->length;
     uint64_t end = 0;
     void *made;
     size_t width = n && (!end_of_list(offsets, sizes, n - 1, &end) || end > INT32_MAX) ? 8 : 4;
-    uint32_t error = set_format(p, width == 4 ? "+l" : "+L");
+    uint32_t error = set_format(p, map ? "+m" : width == 4 ? "+l" : "+L");
     if (error || (error = add_buffer(m, p, 1, n + 1, width, &made)))
         return error;
     for (size_t i = 0; i < n; i++) {
         if (i && count_at(offsets, i) != end)
             return refuse_row(m, CODRASK_NOT_END_TO_END, i);
-        if (!end_of_list(offsets, sizes, i, &end))
+        if (!end_of_list(offsets, sizes, i, &end) || (map && end > INT32_MAX))
             return refuse_row(m, CODRASK_OVERFLOW, i);
         put_offset(made, width, i, count_at(offsets, i));
     }
@@ -452,11 +470,11 @@ static uint32_t views_of_lists(struct maker *m, struct pair p, const struct codr
 }
 
 /* The offsets and sizes of lists: their nodes follow those of the elements. */
-static uint32_t make_ends(struct maker *m, struct pair p) {
+static uint32_t make_ends(struct maker *m, struct pair p, bool map) {
     const struct codrask_node *offsets = counts(m), *sizes = offsets ? counts(m) : NULL;
     if (!sizes)
         return CODRASK_BAD_ARROW;
-    return m->flags & CODRASK_BY_OFFSETS ? offsets_of_lists(m, p, offsets, sizes) : views_of_lists(m, p, offsets, sizes);
+    return map || m->flags & CODRASK_BY_OFFSETS ? offsets_of_lists(m, p, offsets, sizes, map) : views_of_lists(m, p, offsets, sizes);
 }
 
 /* The elements of lists, under the name that the node has for them. */
@@ -468,12 +486,12 @@ static uint32_t make_elements(struct maker *m, struct pair p, const struct codra
     return 0;
 }
 
-static uint32_t make_lists(struct maker *m, struct pair p, const struct codrask_node *node) {
+static uint32_t make_lists(struct maker *m, struct pair p, const struct codrask_node *node, bool map) {
     const struct codrask_node *mask;
-    uint32_t error = set_buffers(p, m->flags & CODRASK_BY_OFFSETS ? 2 : 3);
+    uint32_t error = set_buffers(p, map || m->flags & CODRASK_BY_OFFSETS ? 2 : 3);
     if (error || (error = set_validity(m, p, node, &mask)))
         return error;
-    m->waiting[m->waiting_count++] = (struct part){.pair = p, .lists = m->node, .ends = true};
+    m->waiting[m->waiting_count++] = (struct part){p, map ? ENDS_OF_MAPS : ENDS, m->node};
     return make_elements(m, p, node);
 }
 
@@ -521,8 +539,104 @@ static uint32_t make_dictionary(struct maker *m, struct pair p) {
     return 0;
 }
 
+/* ---- what is carried ---- */
+
+/* The nulls of records, beside those of the array that they carry. */
+static uint32_t add_nulls(struct maker *m, struct pair p, const struct codrask_node *record, const struct codrask_node *mask) {
+    const uint8_t *valid = p.array->n_buffers ? p.array->buffers[0] : NULL;
+    uint8_t *bits;
+    p.schema->flags |= record->validity == CODRASK_NON_NULLABLE ? 0 : ARROW_FLAG_NULLABLE;
+    if (record->validity == CODRASK_NON_NULLABLE || record->validity == CODRASK_ALL_VALID || !p.array->n_buffers)
+        return 0;
+    uint32_t error = add_buffer(m, p, 0, record->length / 8 + 1, 1, &bits);
+    if (error)
+        return error;
+    p.array->null_count = 0;
+    for (size_t i = 0; i < record->length; i++) {
+        bool bit = !is_null(record, mask, i) && (!valid || valid[i / 8] >> i % 8 & 1);
+        bits[i / 8] = (uint8_t)(bits[i / 8] | bit << i % 8);
+        p.array->null_count += !bit;
+    }
+    return 0;
+}
+
+/* The extension of what is carried; an array has one at most. */
+static uint32_t set_extension(struct pair p, const struct carried *carried) {
+    if (!carried->extension.bytes)
+        return 0;
+    if (p.schema->metadata)
+        return CODRASK_BAD_ARROW;
+    char *metadata = schema_block(p, codrask_write_extension(carried, NULL), 1);
+    if (!metadata)
+        return CODRASK_MEMORY;
+    codrask_write_extension(carried, metadata);
+    p.schema->metadata = metadata;
+    return 0;
+}
+
+/* What records say of the array that they carry: their nulls, their extension, and that its codes are ordered, where it has codes. */
+static uint32_t make_over(struct maker *m, struct pair p, const struct codrask_node *record) {
+    struct carried carried = codrask_carried_of(record);
+    uint32_t error = add_nulls(m, p, record, record->validity == CODRASK_BY_ARRAY ? record + 1 : NULL);
+    if (p.schema->dictionary && carried.word.count)
+        p.schema->flags |= ARROW_FLAG_DICTIONARY_ORDERED;
+    return error ? error : set_extension(p, &carried);
+}
+
+/* Nulls alone, which have no buffers: each record is null. */
+static uint32_t make_nulls(struct maker *m, struct pair p, const struct codrask_node *record, const struct codrask_node *mask) {
+    m->at += 2;
+    for (size_t i = 0; i < record->length && record->validity != CODRASK_ALL_INVALID; i++)
+        if (!is_null(record, mask, i))
+            return refuse_row(m, CODRASK_BAD_ARROW, i);
+    p.schema->flags = ARROW_FLAG_NULLABLE;
+    p.array->null_count = p.array->length;
+    return set_buffers(p, 0);
+}
+
+/* The bytes of values of one width. */
+static uint32_t make_bytes(struct maker *m, struct pair p, const struct format *format) {
+    const struct codrask_node *values = &m->nodes[m->at++];
+    if (format->kind == CODRASK_FIXED_SIZE_LIST)
+        values = &m->nodes[m->at++];
+    uint32_t error = set_buffers(p, 2);
+    return error ? error : copy_buffer(m, p, 1, values->bytes, values->byte_count);
+}
+
+static uint32_t make_maps(struct maker *m, struct pair p, const struct carried *carried) {
+    const struct codrask_node *lists = &m->nodes[m->at];
+    m->node = m->at++;
+    uint32_t error = make_lists(m, p, lists, true);
+    p.schema->flags |= carried->sorted ? ARROW_FLAG_MAP_KEYS_SORTED : 0;
+    return error;
+}
+
+/* What records carry, in their place. */
+static uint32_t make_carried(struct maker *m, struct pair p, const struct codrask_node *record) {
+    struct carried carried = codrask_carried_of(record);
+    const struct codrask_node *mask = record->validity == CODRASK_BY_ARRAY ? &m->nodes[m->at++] : NULL;
+    char *word = schema_block(p, carried.word.count + 1, 1);
+    if (!word)
+        return CODRASK_MEMORY;
+    memcpy(word, carried.word.bytes, carried.word.count);
+    if ((mask && mask->kind != CODRASK_BOOL) || !codrask_has_form(&m->nodes[m->at], &carried, word))
+        return CODRASK_BAD_ARROW;
+    if (carried.format.layout == RECORDS) {
+        m->waiting[m->waiting_count++] = (struct part){p, RECORDS_OVER, m->node};
+        wait_for(m, p);
+        return 0;
+    }
+    p.schema->format = word;
+    uint32_t error = carried.format.layout == NULLS  ? make_nulls(m, p, record, mask)
+                     : carried.format.layout == MAPS ? make_maps(m, p, &carried)
+                                                     : make_bytes(m, p, &carried.format);
+    return error || (error = add_nulls(m, p, record, mask)) ? error : set_extension(p, &carried);
+}
+
 /* The array of the next node. */
 static uint32_t make_next(struct maker *m, struct pair p) {
+    struct schema_owner *owner = p.schema->private_data;
+    owner->place = owner->place ? owner->place : m->at + 1;
     m->node = m->at;
     const struct codrask_node *node = &m->nodes[m->at++];
     if (node->length > INT64_MAX)
@@ -534,21 +648,27 @@ static uint32_t make_next(struct maker *m, struct pair p) {
         return m->flags & CODRASK_BY_OFFSETS ? make_values(m, p, node) : make_views(m, p, node);
     case CODRASK_DICTIONARY: return make_dictionary(m, p);
     case CODRASK_FIXED_SIZE_LIST: return make_fixed(m, p, node);
-    case CODRASK_LIST_VIEW: return make_lists(m, p, node);
-    case CODRASK_STRUCT: return make_records(m, p, node);
+    case CODRASK_LIST_VIEW: return make_lists(m, p, node, false);
+    case CODRASK_STRUCT: return codrask_is_carried(node) ? make_carried(m, p, node) : make_records(m, p, node);
     default: return make_flat(m, p, node);
     }
 }
 
 /* ---- the call ---- */
 
+/* What is made of a node after its parts. */
+static uint32_t make_rest(struct maker *m, struct part part) {
+    m->node = part.node;
+    if (part.what == RECORDS_OVER)
+        return make_over(m, part.pair, &m->nodes[part.node]);
+    return make_ends(m, part.pair, part.what == ENDS_OF_MAPS);
+}
+
 /* Makes all that waits. */
 static uint32_t make_all(struct maker *m) {
     while (m->waiting_count) {
         struct part part = m->waiting[--m->waiting_count];
-        if (part.ends)
-            m->node = part.lists;
-        uint32_t error = part.ends ? make_ends(m, part.pair) : make_next(m, part.pair);
+        uint32_t error = part.what == ARRAY ? make_next(m, part.pair) : make_rest(m, part);
         if (error)
             return error;
     }

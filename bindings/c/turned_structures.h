@@ -27,28 +27,30 @@ static bool has_views(const struct slot *t) {
 }
 
 static int64_t null_rows(const struct slot *t) {
-    const uint8_t *bits = t->array->buffers[0];
+    const uint8_t *bits = is_format(t, "n") ? NULL : t->array->buffers[0];
     return bits ? (int64_t)unset_bits(bits, (size_t)t->array->offset, (size_t)t->array->length) : 0;
 }
 
 static enum verdict turn_null_count(const struct slot *t, int64_t by) {
-    int64_t nulls = null_rows(t), told = nulls + by;
+    bool all = is_format(t, "n");
+    int64_t nulls = all ? t->array->length : null_rows(t), told = nulls + by;
     if (told < 0)
         told = INT64_MAX;
     t->array->null_count = told;
-    return t->whole || told > t->array->length || !t->array->buffers[0] ? REFUSED : EITHER;
+    return all || t->whole || told > t->array->length || !t->array->buffers[0] ? REFUSED : EITHER;
 }
 
 static enum verdict turn_children(const struct slot *t, int64_t to) {
-    bool records = is_format(t, "+s"), fewer = to >= 0 && to < t->schema->n_children;
+    bool records = is_format(t, "+s") && !t->entries, fewer = to >= 0 && to < t->schema->n_children;
     t->schema->n_children = t->array->n_children = to;
     return records && fewer ? READ : REFUSED;
 }
 
 static enum verdict turn_format(struct structure *s, const struct slot *t) {
     static const char *const others[] = {
-        "f",  "g", "e",  "n",     "ts",    "tsgarbage", "tDqqq", "tsm", "tiM", "+w:", "+w:-1", "+w:2147483648",
-        "uu", "",  "+m", "+us:0", "d:1,2", "w:4",       "+r",    "+x"};
+        "ts",    "tsgarbage", "tDqqq",    "tsm", "tiMM",          "tdX",  "gg",          "ee",     "+w:", "+w:-1", "uu",   "",
+        "+mm",   "+us:0",     "+r",       "+x",  "+ud:0,1",       "d:",   "d:5",         "d:40,2", "nn",  "w:",    "w:-1", "w:1x",
+        "d:0,1", "d:1,x",     "d:1,2,16", "w",   "+w:2147483648", "tin:", "w:2147483648"};
     t->schema->format = roll(9) ? text(s, others[roll(COUNT(others))]) : NULL;
     return REFUSED;
 }
@@ -71,7 +73,7 @@ static enum verdict turn_dictionary(struct structure *s, const struct slot *t) {
 /* Of an array that is not whole, a null may not be read, or may lie in a record or a list that is null. */
 static enum verdict turn_flags(const struct slot *t) {
     t->schema->flags = 0;
-    if (t->values)
+    if (t->values || is_format(t, "n"))
         return READ;
     if (t->schema->dictionary)
         return EITHER;
@@ -82,6 +84,8 @@ static enum verdict turn_flags(const struct slot *t) {
 
 static enum verdict turn_bitmap(const struct slot *t) {
     bool nulls = null_rows(t);
+    if (is_format(t, "n"))
+        return READ;
     t->array->buffers[0] = NULL;
     return t->array->null_count > 0 ? REFUSED : nulls ? EITHER : READ;
 }
@@ -98,10 +102,12 @@ static size_t free_bytes(const struct slot *t, int64_t place) {
     }
     if (has_views(t))
         return place == 1 ? 16 * rows : place < t->array->n_buffers - 1 ? 40 : 0;
-    if (!strcmp(format, "+l") || !strcmp(format, "+L"))
+    if (!strcmp(format, "+l") || !strcmp(format, "+L") || is_map(format))
         return rows ? (rows + 1) * (format[1] == 'L' ? 8 : 4) : 0;
     if (!strncmp(format, "+v", 2))
         return rows * (format[2] == 'L' ? 8 : 4);
+    if (width_of_format(format) >= 0)
+        return rows * (size_t)width_of_format(format);
     return format[0] == 'b' ? (rows + 7) / 8 : rows;
 }
 
@@ -110,7 +116,7 @@ static enum verdict turn_byte_of(const struct slot *t) {
     size_t size = t->array->n_buffers > 1 && t->array->buffers[place] ? free_bytes(t, place) : 0;
     if (size)
         ((uint8_t *)(uintptr_t)t->array->buffers[place])[roll(size)] ^= (uint8_t)(1 + roll(255));
-    return size ? EITHER : READ;
+    return size && width_of_format(t->schema->format) < 0 ? EITHER : READ;
 }
 
 static enum verdict turn_buffer(const struct slot *t) {
@@ -135,11 +141,25 @@ static enum verdict turn_size(struct structure *s, const struct slot *t) {
     return EITHER;
 }
 
+static enum verdict turn_metadata(struct structure *s, const struct slot *t) {
+    static const char *const texts[] = {"ARROW:extension:name", "an extension"};
+    static const int32_t less_than_none = -1;
+    char *metadata = (char *)(uintptr_t)metadata_of(s, texts, 1);
+    t->schema->metadata = metadata;
+    switch (roll(5)) {
+    case 0: memcpy(metadata, &less_than_none, 4); return REFUSED;
+    case 1: memcpy(metadata + 4, &less_than_none, 4); return REFUSED;
+    case 2: memcpy(metadata + 8 + strlen(texts[0]), &less_than_none, 4); return REFUSED;
+    case 3: metadata[12 + strlen(texts[0])] = 0; return REFUSED;
+    default: return READ;
+    }
+}
+
 static enum verdict turn_children_pointers(const struct slot *t, size_t which) {
-    bool some = t->schema->n_children;
+    bool some = t->schema->n_children, none = is_format(t, "n");
     switch (which) {
     case 0: some ? (void)(t->schema->children[0] = NULL) : (void)(t->schema->format = NULL); return REFUSED;
-    case 1: some ? (void)(t->array->children[0] = NULL) : (void)(t->array->buffers = NULL); return REFUSED;
+    case 1: some ? (void)(t->array->children[0] = NULL) : (void)(t->array->buffers = NULL); return none ? READ : REFUSED;
     case 2: some ? (void)(t->schema->children = NULL) : (void)(t->schema->release = NULL); return REFUSED;
     default: some ? (void)(t->array->children = NULL) : (void)(t->array->release = NULL); return REFUSED;
     }
@@ -179,6 +199,7 @@ static enum verdict turn_slot(struct structure *s, const struct slot *t) {
     case 26: array->offset = INT64_MAX; return turn_count(&array->length, 1);
     case 27: return turn_name(s, t);
     case 28: return turn_size(s, t);
+    case 29: return turn_metadata(s, t);
     default: return turn_byte_of(t);
     }
 }

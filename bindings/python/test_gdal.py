@@ -4,6 +4,7 @@ GDAL reads what is written of them. It runs where GDAL 3.6 or later is installed
 
 import array
 import ctypes
+import datetime
 import traceback
 
 import numpy
@@ -41,18 +42,36 @@ Array._fields_ = [
 ]
 
 LONG = "a text of more than twelve bytes"
-# each field: its type, its subtype, the values that GDAL is given, and the rows as they are kept (days and milliseconds since 1970)
+
+
+# each field: its type, its subtype, the values that GDAL is given; where they are others, the rows as they are kept (days and
+# milliseconds since 1970), and the values that GDAL reads of them again
 FIELDS = {
-    "whole": (ogr.OFTInteger, None, [7, None, -3], None),
-    "large": (ogr.OFTInteger64, None, [1 << 40, -(1 << 40), None], None),
-    "small": (ogr.OFTInteger, ogr.OFSTInt16, [None, -32768, 32767], None),
-    "truth": (ogr.OFTInteger, ogr.OFSTBoolean, [True, False, None], None),
-    "text": (ogr.OFTString, None, ["abc", None, LONG], None),
-    "date": (ogr.OFTDate, None, ["1970/01/02", None, "2000/01/01"], [1, None, 10957]),
-    "instant": (ogr.OFTDateTime, None, ["1970/01/01 00:00:01", "1970/01/02 00:00:00", None], [1000, 86400000, None]),
-    "wholes": (ogr.OFTIntegerList, None, [[3, 4], None, [1, 2, 3]], None),
-    "larges": (ogr.OFTInteger64List, None, [[1 << 40], [5, 6], [-1]], None),
-    "texts": (ogr.OFTStringList, None, [["a", LONG], ["b"], ["", "c"]], None),
+    "whole": (ogr.OFTInteger, None, [7, None, -3], None, None),
+    "large": (ogr.OFTInteger64, None, [1 << 40, -(1 << 40), None], None, None),
+    "small": (ogr.OFTInteger, ogr.OFSTInt16, [None, -32768, 32767], None, None),
+    "truth": (ogr.OFTInteger, ogr.OFSTBoolean, [True, False, None], None, None),
+    "text": (ogr.OFTString, None, ["abc", None, LONG], None, None),
+    "real": (ogr.OFTReal, None, [0.5, None, -3.25], None, None),
+    "single": (ogr.OFTReal, ogr.OFSTFloat32, [None, 0.5, -3.25], None, None),
+    "date": (
+        ogr.OFTDate,
+        None,
+        ["1970/01/02", None, "2000/01/01"],
+        [1, None, 10957],
+        [datetime.date(1970, 1, 2), None, datetime.date(2000, 1, 1)],
+    ),
+    "instant": (
+        ogr.OFTDateTime,
+        None,
+        ["1970/01/01 00:00:01", "1970/01/02 00:00:00", None],
+        [1000, 86400000, None],
+        [datetime.datetime(1970, 1, 1, 0, 0, 1), datetime.datetime(1970, 1, 2), None],
+    ),
+    "wholes": (ogr.OFTIntegerList, None, [[3, 4], None, [1, 2, 3]], None, None),
+    "larges": (ogr.OFTInteger64List, None, [[1 << 40], [5, 6], [-1]], None, None),
+    "reals": (ogr.OFTRealList, None, [[0.5], [1.5, -2.5], None], None, None),
+    "texts": (ogr.OFTStringList, None, [["a", LONG], ["b"], ["", "c"]], None, None),
 }
 
 
@@ -61,7 +80,7 @@ def layer_of(names):
     source = ogr.GetDriverByName("Memory").CreateDataSource("x")
     layer = source.CreateLayer("l", geom_type=ogr.wkbNone)
     for name in names:
-        kind, subtype, _, _ = FIELDS[name]
+        kind, subtype = FIELDS[name][:2]
         field = ogr.FieldDefn(name, kind)
         if subtype is not None:
             field.SetSubType(subtype)
@@ -106,6 +125,10 @@ class Batch:
 
 def rows_of(name):
     return FIELDS[name][3] or FIELDS[name][2]
+
+
+def read_of(name):
+    return FIELDS[name][4] or FIELDS[name][2]
 
 
 def refused(column):
@@ -157,7 +180,7 @@ def test_written_fields():
     batch = Batch(list(FIELDS))
     read = read_by_gdal(batch.whole())
     for name in FIELDS:
-        assert read[name] == rows_of(name), (name, read[name])
+        assert read[name] == read_of(name), (name, read[name])
 
 
 def test_cut_and_rebuilt():
@@ -172,6 +195,46 @@ def test_cut_and_rebuilt():
     ]
     [picked] = run([batch.whole(), batch.column("wholes"), picks], steps)
     assert read_by_gdal(picked) == {"whole": [-3, 7], "text": [LONG, "abc"], "wholes": [[1, 2, 3], [3, 4]]}
+
+
+def test_steps_on_what_is_carried():
+    names = ["real", "single", "date", "instant"]
+    batch = Batch(names)
+    picks = Column.numbers("i32", array.array("i", [2, 0]))
+    [picked] = run([batch.whole(), picks], [Step.project(0, names), Step.take(2, 1)])
+    assert picked.to_pylist() == [{name: rows_of(name)[i] for name in names} for i in (2, 0)], picked.to_pylist()
+    read = read_by_gdal(picked)
+    for name in names:
+        assert read[name] == [read_of(name)[i] for i in (2, 0)], (name, read[name])
+
+
+def test_geometries():
+    source = ogr.GetDriverByName("Memory").CreateDataSource("x")
+    layer = source.CreateLayer("l", geom_type=ogr.wkbPoint)
+    points = [ogr.CreateGeometryFromWkt("POINT (1 2)"), None, ogr.CreateGeometryFromWkt("POINT (-3 4)")]
+    for point in points:
+        feature = ogr.Feature(layer.GetLayerDefn())
+        feature.SetGeometry(point)
+        layer.CreateFeature(feature)
+    stream = layer.GetArrowStream()
+    schema, batch = stream.GetSchema(), stream.GetNextRecordBatch()
+    column = Column.from_arrow(schema._getPtr(), batch._getPtr(), (schema, batch))
+    wanted = [point and bytes(point.ExportToWkb(ogr.wkbNDR)) for point in points]
+    made = column.to_arrow()
+    for read in (column, Column.from_arrow(made.schema_pointer, made.array_pointer, made)):
+        geometries = [row["wkb_geometry"] for row in read.to_pylist()]
+        assert geometries == wanted, geometries
+        assert 'wkb_geometry: extension<"ogc.wkb", bytes?>' in read.type, read.type
+
+
+def test_two_formats():
+    batch = Batch(["real", "large"])
+    try:
+        run([batch.column("real"), batch.column("large")], [Step.concat([0, 1])])
+    except Refused as fault:
+        assert fault.name == "DifferingDtypes", fault
+    else:
+        raise AssertionError("reals and integers are joined")
 
 
 def test_offset_that_falls():

@@ -61,21 +61,24 @@ def choice(argument, given, known):
     return given
 
 
-def encoded(argument, given):
-    """The bytes of a name."""
+def encoded(argument, given, taken="a name"):
+    """The bytes of a name, or of another text."""
     if isinstance(given, bytes):
         return bytes(given)
     if not isinstance(given, str):
-        raise wrong(TypeError, argument, "a name, as a text or as bytes", shown(given))
+        raise wrong(TypeError, argument, f"{taken}, as a text or as bytes", shown(given))
     try:
         return str.encode(given)
     except UnicodeEncodeError:
-        raise wrong(ValueError, argument, "a name that UTF-8 can tell", shown(given)) from None
+        raise wrong(ValueError, argument, f"{taken} that UTF-8 can tell", shown(given)) from None
+
+
+NO_LISTS = [str, bytes, bytearray, memoryview, dict, set, frozenset]
 
 
 def listed(argument, given, taken):
-    """What is given one after another, as a list. A text is none, nor is what has no order or has keys."""
-    if isinstance(given, (str, bytes, bytearray, memoryview, dict, set, frozenset)):
+    """What is given one after another, as a list. A text is none, nor is a Column, or what has no order or has keys."""
+    if isinstance(given, tuple(NO_LISTS)):
         raise wrong(TypeError, argument, f"a list of {taken}", shown(given))
     try:
         return list(given)

@@ -1,16 +1,26 @@
 """Columns: made of buffers or of Arrow arrays, checked, and read."""
 
 import ctypes
+import reprlib
 
 from . import nodes as of
-from .arguments import U32, address, choice, each, encoded, instance, integer, listed, shown, truth, wrong
+from .arguments import NO_LISTS, U32, address, choice, each, encoded, instance, integer, listed, shown, truth, wrong
 from .arrow import Arrow, held
-from .faults import MEMORY, TOO_MANY_NODES, Refused, refusal
-from .library import Fault, Limits, Table, load
-from .memory import raw, raw_or_numbers
+from .capsules import capsule_of, requested_by_offsets
+from .equal import same_rows
+from .faults import MEMORY, NOT_END_TO_END, TOO_MANY_NODES, Refused, refusal
+from .library import Fault, Limits, load
+from .made import nodes_of
+from .memory import bytes_in, raw, raw_or_numbers
+from .nulls import null_count
+from .reading import Asked, gives_arrays, nodes_at, read_given
 from .rows import rows_of
+from .window import rows_between
+from .words import path_of, type_from, types_of
 
 MOST_VALUES = 2**27
+AT_ONCE, MOST_AT_ONCE = 2**14, 2**22
+SHOWN_ROWS, SHOWN_VALUES, SHOWN_TYPE = 5, 1000, 80
 
 
 class Column:
@@ -21,9 +31,6 @@ class Column:
 
     def __init__(self, *_arguments, **_fields):
         raise TypeError("a Column is made by one of its calls, as Column.numbers or Column.from_arrow")
-
-    def __repr__(self):
-        return f"<Column of {self.length} rows>"
 
     def __copy__(self):
         return self
@@ -40,19 +47,47 @@ class Column:
     # ---- made of Arrow arrays
 
     @classmethod
-    def from_arrow(cls, schema_pointer, array_pointer, owner=None, most_bytes=None):
-        """The column at the addresses of an ArrowSchema and an ArrowArray, which stay the caller's: what they hold is copied,
-        and nothing of them is read after this call. `owner` is what keeps them alive until then. Raises `Refused` where they
-        are read as no table, or as one of more than `most_bytes`, by default 8 MiB or 8 times the distinct bytes that they have."""
-        schema, array = address("schema_pointer", schema_pointer), address("array_pointer", array_pointer)
-        limits, table, fault = _limits(most_bytes), Table(), Fault()
+    def from_arrow(cls, given=None, array_pointer=None, owner=None, most_bytes=None, columns=None, *, schema_pointer=None):
+        """The column of Arrow arrays. What is given is one thing:
+
+        - an object that tells its buffers, as the arrays, chunked arrays, batches and tables of pyarrow do: no byte past the
+          end of a buffer is read, and what needs one is refused;
+        - an object that gives capsules of an array or of a stream, of a producer in one's own process whom one trusts: Arrow's
+          structures tell the length of no buffer but those of views, so no test can see that a buffer is shorter than its rows
+          need;
+        - or the addresses of an ArrowSchema and an ArrowArray, of which the same is to be said. They stay the caller's, and
+          `owner` is what keeps them alive until this call is over.
+
+        What the arrays hold is copied; what capsules have is taken over, and released once. The arrays of a stream, and chunks,
+        are joined into one column. With `columns`, names of columns of records, these alone are read. Raises `Refused` where an
+        array is read as no table, or as one of more than `most_bytes`, by default 8 MiB or 8 times the distinct bytes that it
+        has."""
+        asked = _asked(most_bytes, columns)
+        if schema_pointer is None and array_pointer is None and not isinstance(given, Arrow):
+            found = [cls._made(*part) for part in read_given(given, asked, True)]
+            return found[0] if len(found) == 1 else _joined(found)
+        if isinstance(given, Arrow) and array_pointer is None:
+            given, array_pointer, owner = given.schema_pointer, given.array_pointer, given
+        schema = address("schema_pointer", given if schema_pointer is None else schema_pointer)
+        array = address("array_pointer", array_pointer)
         with held(schema, array, owner):
-            if load().codrask_read_arrow(schema, array, limits, ctypes.byref(table), ctypes.byref(fault)):
-                raise refusal(fault)
-            try:
-                return cls._made(of.copied(table), load().codrask_table_name(ctypes.byref(table)))
-            finally:
-                load().codrask_table_free(ctypes.byref(table))
+            return cls._made(*nodes_at(schema, array, asked))
+
+    @classmethod
+    def batches(cls, given, most_bytes=None, columns=None):
+        """The columns of what `from_arrow` takes as one object, one after another: of a stream each batch, of a table each of its
+        batches, and of a chunked array each chunk."""
+        if not gives_arrays(given):
+            raise wrong(TypeError, "given", "an object that gives Arrow arrays", shown(given))
+        return (cls._made(*part) for part in read_given(given, _asked(most_bytes, columns), False))
+
+    # ---- made of Python values
+
+    @classmethod
+    def from_pylist(cls, rows, type):
+        """The column of these rows, null as None, under a type in the words in which `type` of a column tells it: `i64`, `text?`,
+        `list<f64>`, `records<a: i32, b: tdD?>`. TypeError or ValueError where a row does not fit, by its place."""
+        return cls._made(nodes_of(listed("rows", rows, "rows"), type_from(type)))
 
     # ---- made of buffers
 
@@ -118,12 +153,46 @@ class Column:
         names = tuple(memoryview(name) for name, _ in pairs)
         return cls._of(of.STRUCT, integer("length", length), validity, [column for _, column in pairs], buffers=names)
 
-    # ---- checked and read
+    # ---- what it is
 
     @property
     def length(self):
         """How many rows the column says that it has."""
         return self._nodes[0].length
+
+    def __len__(self):
+        return self.length
+
+    @property
+    def type(self):
+        """The type in words, as `list<i64>`; a `?` follows where rows may be null."""
+        return types_of(self._nodes)[0]
+
+    @property
+    def nbytes(self):
+        """How many bytes the column lies in, those that lie in several of its parts counted once; without names."""
+        return bytes_in([view for node in self._nodes for view in node.rows_memory])
+
+    @property
+    def null_count(self):
+        """How many rows are null. The column is checked first."""
+        return null_count(self._checked())
+
+    def __repr__(self):
+        told = f"Column {_shortened(self.type)} of {self.length} rows"
+        if not self._passed:
+            return f"<{told}, not checked>"
+        return f"<{told}: {self._first_rows()}>" if self.length else f"<{told}>"
+
+    def _first_rows(self):
+        """The first rows, shortened."""
+        try:
+            rows = rows_between(self._nodes, 0, min(self.length, SHOWN_ROWS), SHOWN_VALUES)
+        except ValueError:
+            return ".."
+        return ", ".join([*map(_SHORT.repr, rows), *[".."] * (self.length > SHOWN_ROWS)])
+
+    # ---- checked and read
 
     def _private(self):
         """The nodes over memory that nobody can change."""
@@ -135,11 +204,22 @@ class Column:
             self._nodes = nodes
             self._passed = True
 
+    def _checked(self):
+        """The nodes, which have passed."""
+        if not self._passed:
+            self.check()
+        return self._nodes
+
+    def _words(self, place):
+        """The path of names to a node, the type of its array, and what part of that it is."""
+        path, part, top = path_of(self._nodes, place, self._name.decode("utf-8", "backslashreplace"))
+        return path, _shortened(types_of(self._nodes)[top]), part
+
     def fault(self):
         """The first fault as `Refused`, or None where there is none. MemoryError where memory was refused."""
         nodes, fault = self._private(), Fault()
         if load().codrask_check(of.given(nodes), len(nodes), ctypes.byref(fault)):
-            refused = refusal(fault)
+            refused = refusal(fault, *(self._words(fault.node) if fault.node < len(nodes) else ()))
             if fault.number == MEMORY:
                 raise refused
             return refused
@@ -167,35 +247,92 @@ class Column:
         self._pass(nodes)
         return made
 
-    def run(self, steps):
-        """What the last of these steps makes of this column, which is array 0; the array of step `i` is `i + 1`. Raises
-        `Stopped` where this is no column or a step is refused."""
-        from .steps import run
+    def __arrow_c_array__(self, requested_schema=None):
+        """The column in two capsules, of a schema and of an array, in blocks of their own. Texts and lists are laid out by
+        views, or by offsets where the requested schema asks for these and they can be; another request is passed over."""
+        by_offsets = requested_schema is not None and requested_by_offsets(requested_schema)
+        try:
+            made = self.to_arrow(by_offsets)
+        except Refused as refused:
+            if not by_offsets or refused.number != NOT_END_TO_END:
+                raise
+            made = self.to_arrow()
+        return capsule_of(made._schema), capsule_of(made._array)
 
-        return run([self], steps)[0]
+    def __arrow_c_schema__(self):
+        """The schema of `__arrow_c_array__` in a capsule."""
+        made = self.to_arrow()
+        return capsule_of(made._schema)
 
     def to_pylist(self, most=MOST_VALUES):
         """The rows, null as None; records as dictionaries, or as lists of pairs where two columns have one name. The column
         is checked first: only what has passed is read. ValueError where the rows hold more values than `most`."""
-        most = integer("most", most)
-        if not self._passed:
-            self.check()
-        return rows_of(self._nodes, most)
+        return rows_of(self._checked(), integer("most", most))
+
+    def __iter__(self):
+        """The rows, as `to_pylist` gives them. They are read in blocks, each of four times as many rows as the one before, up
+        to four million: so what rows share is read few times."""
+        nodes, start, count = self._checked(), 0, AT_ONCE
+        while start < self.length:
+            yield from rows_between(nodes, start, min(start + count, self.length), MOST_VALUES)
+            start, count = start + count, min(4 * count, MOST_AT_ONCE)
+
+    def __getitem__(self, place):
+        """A row; or with a slice, the column of its rows, by the steps `slice` and `take`."""
+        if isinstance(place, slice):
+            start, end, step = place.indices(self.length)
+            places = range(start, end, step)
+            return self.slice(start, max(start, end)) if step == 1 else self.take(places)
+        try:
+            row = integer("row", place, self.length - 1, -self.length)
+        except ValueError as error:
+            raise IndexError(str(error)) from None
+        return rows_between(self._checked(), row % self.length, row % self.length + 1, MOST_VALUES)[0]
+
+    def __eq__(self, other):
+        """Whether another column has the same rows: integers of whichever width, and texts and lists however they lie; what is
+        carried, by its bytes. Both are checked first."""
+        if not isinstance(other, Column):
+            return NotImplemented
+        return self is other or same_rows(self._checked(), other._checked(), MOST_VALUES)
+
+    __hash__ = None
+
+    # ---- steps
+
+    def run(self, steps):
+        """What the last of these steps makes of this column, which is array 0; the array of step `i` is `i + 1`. Raises
+        `Stopped` where this is no column or a step is refused."""
+        return _ran([self], steps, self._name)
+
+    def slice(self, start, stop=None):
+        """The rows from `start` up to `stop`, by default to the end."""
+        return _ran([self], [_step().slice(0, start, self.length if stop is None else stop)], self._name)
+
+    def take(self, indices):
+        """The rows at some indices, a column of integers or a list of them; a null index takes null."""
+        return _ran([self, _column_of("indices", indices, "i64")], [_step().take(0, 1)], self._name)
+
+    def filter(self, mask):
+        """The rows at which a mask is true, a column of truth values or a list of them."""
+        return _ran([self, _column_of("mask", mask, "bool")], [_step().filter(0, 1)], self._name)
+
+    # ---- numpy
 
     def to_numpy(self):
         """The integers of the column as a numpy array over its own bytes, with no copy; it cannot be written to, and keeps them
-        alive. What lies at null rows is no part of the column. The column is checked first. TypeError where it has no integers."""
+        alive. What lies at null rows is no part of the column. The column is checked first. TypeError where it has no
+        integers."""
         import numpy
 
-        if not self._passed:
-            self.check()
-        node = self._nodes[0]
+        node = self._checked()[0]
         if node.kind not in of.WIDTHS:
             raise TypeError("only a column of integers has a numpy array")
         kind = f"<{'u' if node.kind < of.NUMBERS['i8'] else 'i'}{of.WIDTHS[node.kind]}"
         return numpy.frombuffer(node.bytes, kind) if node.bytes.nbytes else numpy.empty(0, kind)
 
 
+NO_LISTS.append(Column)
 _STATES = ((None, of.NON_NULLABLE), (True, of.ALL_VALID), (False, of.ALL_INVALID))
 
 
@@ -212,6 +349,53 @@ def _validity(validity, parts):
 def _limits(most_bytes):
     """How many bytes a call may take, None where the library tells."""
     return None if most_bytes is None else ctypes.byref(Limits(integer("most_bytes", most_bytes, least=1)))
+
+
+def _asked(most_bytes, columns):
+    """What is asked of the reading of Arrow arrays."""
+    most = 0 if most_bytes is None else integer("most_bytes", most_bytes, least=1)
+    names = () if columns is None else tuple(each("columns", columns, "names", encoded))
+    for place, name in enumerate(names):
+        if b"\0" in name:
+            raise wrong(ValueError, f"columns[{place}]", "a name without a byte 0", shown(name))
+    return Asked(most, names, columns is not None)
+
+
+def _step():
+    from .steps import Step
+
+    return Step
+
+
+def _ran(columns, steps, name):
+    """What the last of some steps makes of columns, under a name."""
+    from .steps import run
+
+    [made] = run(columns, steps)
+    made._name = name
+    return made
+
+
+def _joined(columns):
+    """The rows of several columns, one after another."""
+    return _ran(columns, [_step().concat(range(len(columns)))], columns[0]._name)
+
+
+def _column_of(argument, given, type):
+    """A column, or one of the values of a list, which may be null where one of them is None."""
+    if isinstance(given, Column):
+        return given
+    rows = listed(argument, given, f"{type}, or a Column")
+    return Column._made(nodes_of(rows, type_from(type + "?" * any(row is None for row in rows)), argument))
+
+
+_SHORT = reprlib.Repr()
+_SHORT.maxstring = _SHORT.maxother = 40
+
+
+def _shortened(text):
+    """The text of a type, shortened."""
+    return text if len(text) <= SHOWN_TYPE else f"{text[:SHOWN_TYPE - 2]}.."
 
 
 def _pair(argument, given):

@@ -36,6 +36,20 @@ class Limits(ctypes.Structure):
     _fields_ = [("bytes", ctypes.c_size_t)]
 
 
+class Reading(ctypes.Structure):
+    _fields_ = [
+        ("limits", Limits),
+        ("lengths", ctypes.POINTER(ctypes.c_size_t)),
+        ("length_count", ctypes.c_size_t),
+        ("columns", ctypes.POINTER(ctypes.c_char_p)),
+        ("column_count", ctypes.c_size_t),
+    ]
+
+
+class ArrowFault(ctypes.Structure):
+    _fields_ = [("fault", Fault), ("format", ctypes.c_void_p), ("name", ctypes.c_void_p)]
+
+
 class Nodes(ctypes.Structure):
     _fields_ = [("nodes", ctypes.POINTER(Node)), ("count", ctypes.c_size_t)]
 
@@ -104,6 +118,19 @@ ArrowArray._fields_ = [
 ]
 
 
+class ArrowArrayStream(ctypes.Structure):
+    pass
+
+
+ArrowArrayStream._fields_ = [
+    ("get_schema", ctypes.CFUNCTYPE(ctypes.c_int, ctypes.POINTER(ArrowArrayStream), ctypes.POINTER(ArrowSchema))),
+    ("get_next", ctypes.CFUNCTYPE(ctypes.c_int, ctypes.POINTER(ArrowArrayStream), ctypes.POINTER(ArrowArray))),
+    ("get_last_error", ctypes.CFUNCTYPE(ctypes.c_void_p, ctypes.POINTER(ArrowArrayStream))),
+    ("release", ctypes.CFUNCTYPE(None, ctypes.POINTER(ArrowArrayStream))),
+    ("private_data", ctypes.c_void_p),
+]
+
+
 def find():
     """The shared object: where CODRASK_LIBRARY says, or beside this file."""
     return os.environ.get("CODRASK_LIBRARY") or os.path.join(os.path.dirname(__file__), "libcodrask.so")
@@ -130,16 +157,64 @@ CALLS = {
     ),
 }
 
+# calls that a library of before has not
+LATER = {
+    "codrask_read_arrow_sized": (
+        _number,
+        [ctypes.c_void_p, ctypes.c_void_p, _to(Reading), _to(Table), _to(ArrowFault)],
+    ),
+    "codrask_capsules": (None, [ctypes.c_void_p]),
+    "codrask_new_capsule": (ctypes.c_void_p, [_count]),
+    "codrask_take": (None, [ctypes.c_void_p, ctypes.c_void_p, _count, _count]),
+    "codrask_end_schema": (None, [ctypes.c_void_p]),
+    "codrask_end_array": (None, [ctypes.c_void_p]),
+}
+
+HOW = """'tools/foreign --build', at the top of a clone of Codrask, builds libcodrask.so and prints where it lies; the variable \
+CODRASK_LIBRARY of the environment says which one is loaded, else it is the one beside this package"""
+
 _loaded = None
 
 
+def lacking(place, why):
+    """The error that the library is not there, or is another one."""
+    said = os.environ.get("CODRASK_LIBRARY")
+    now = f"CODRASK_LIBRARY is {said!r}" if said else "CODRASK_LIBRARY is not set"
+    return ImportError(f"codrask has no library: {why}. {HOW}. Now {now}.", name="codrask", path=place)
+
+
+def _named(library, place, calls, lack):
+    """Tells the calls of a library what they give and take."""
+    for name, (result, arguments) in calls.items():
+        call = getattr(library, name, None)
+        if call is None and lack:
+            raise lacking(place, f"{place} has no {name}: it is older than this package, or another library")
+        if call is not None:
+            call.restype, call.argtypes = result, arguments
+
+
 def load():
-    """The shared object, loaded once."""
+    """The shared object, loaded once. ImportError where it is not there."""
     global _loaded
     if _loaded is None:
-        library = ctypes.CDLL(find())
-        for name, (result, arguments) in CALLS.items():
-            call = getattr(library, name)
-            call.restype, call.argtypes = result, arguments
+        place = find()
+        try:
+            library = ctypes.CDLL(place)
+        except (OSError, ValueError) as error:
+            raise lacking(place, error) from None
+        _named(library, place, CALLS, True)
+        _named(library, place, LATER, False)
         _loaded = library
     return _loaded
+
+
+def has(name):
+    """Whether the library has a call that one of before has not."""
+    return hasattr(load(), name)
+
+
+def later(name):
+    """A call that a library of before has not. ImportError where it lacks it."""
+    if not has(name):
+        raise lacking(find(), f"{find()} has no {name}: it is older than this package")
+    return getattr(load(), name)

@@ -132,6 +132,11 @@ def _united(stretches):
     return whole
 
 
+def bytes_in(views):
+    """How many bytes some memory has, overlaps counted once."""
+    return sum(end - start for start, end in _united(map(stretch_of, views)))
+
+
 def _block(start, end):
     """A copy of the bytes between two addresses."""
     count = end - start

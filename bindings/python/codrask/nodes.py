@@ -11,6 +11,7 @@ BOOL, UTF8_VIEW, BINARY_VIEW, DICTIONARY, FIXED_SIZE_LIST, LIST_VIEW, STRUCT = 0
 NUMBERS = {"u8": 1, "u16": 2, "u32": 3, "u64": 4, "i8": 5, "i16": 6, "i32": 7, "i64": 8}
 WIDTHS = {1: 1, 2: 2, 3: 4, 4: 8, 5: 1, 6: 2, 7: 4, 8: 8}
 NON_NULLABLE, ALL_VALID, ALL_INVALID, BY_ARRAY = range(4)
+PARTS = {DICTIONARY: 2, FIXED_SIZE_LIST: 1, LIST_VIEW: 3}
 MAX_NODES = 4096
 
 _nothing = (ctypes.c_uint64 * 2)()
@@ -35,10 +36,40 @@ class Node(NamedTuple):
         """All that the node lies in."""
         return (self.bytes, self.views, *self.buffers)
 
+    @property
+    def rows_memory(self):
+        """What its rows lie in: all but names."""
+        return (self.bytes, self.views, *(self.buffers if self.kind in (UTF8_VIEW, BINARY_VIEW) else ()))
+
     def over(self, memory_of):
         """The same node over other memory."""
         buffers = tuple(memory_of(buffer) for buffer in self.buffers)
         return self._replace(bytes=memory_of(self.bytes), views=memory_of(self.views), buffers=buffers)
+
+
+def part_count(node):
+    """How many parts a node has, that of its validity among them."""
+    own = len(node.buffers) if node.kind == STRUCT else PARTS.get(node.kind, 0)
+    return own + (node.validity == BY_ARRAY)
+
+
+def ends(nodes):
+    """For each node, where the nodes of its parts end."""
+    after = [0] * len(nodes)
+    for place in reversed(range(len(nodes))):
+        end = place + 1
+        for _ in range(part_count(nodes[place])):
+            end = after[end]
+        after[place] = end
+    return after
+
+
+def parts_of(nodes, place, after):
+    """The places of the parts of a node but its validity's."""
+    node, places = nodes[place], [place + 1]
+    for _ in range(part_count(node) - 1):
+        places.append(after[places[-1]])
+    return places[node.validity == BY_ARRAY : part_count(node)]
 
 
 def private(nodes):

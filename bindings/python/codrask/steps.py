@@ -11,6 +11,7 @@ from .library import Step as Given
 
 __all__ = ["MODES", "Step", "Stopped", "run"]
 
+IN_COLUMN = 1
 MODES = ("MakeZeroCopyToList", "TrimElements", "MakeExact", "OverlapCompression")
 _nothing = (ctypes.c_uint64 * 2)()
 
@@ -136,7 +137,8 @@ def run(columns, steps, wanted=None):
     if load().codrask_run(
         tables, len(columns), given, len(steps), places, len(wanted), ctypes.byref(made), ctypes.byref(fault)
     ):
-        raise run_refusal(fault)
+        told = columns[fault.which]._words(fault.node)[:2] if fault.part == IN_COLUMN else ()
+        raise run_refusal(fault, *told)
     try:
         results = [Column._made(of.copied(made.columns[i])) for i in range(made.count)]
     finally:
