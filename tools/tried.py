@@ -7,9 +7,8 @@ import subprocess
 import tempfile
 from typing import List, NamedTuple
 
-from case_files import ROOT
+from gathered import CRATES, gather
 
-CRATES = ROOT / "crates"
 LONGEST = 1200  # seconds that one command may take, far more than any does
 EACH = "600"  # seconds that `rt try` gives to what it has built
 TESTS = re.compile(r"test result: \w+\. (\d+) passed; (\d+) failed")
@@ -82,9 +81,9 @@ def run(words, folder, stdin=subprocess.DEVNULL) -> Ran:
     return Ran(process.returncode, output, errors.decode(errors="replace"))
 
 
-def try_tests(crate: str) -> Answer:
-    """The #[test] functions of a crate."""
-    ran = run(["rt", "try", "--test", "--seconds", EACH], CRATES / crate)
+def try_tests(folder: pathlib.Path) -> Answer:
+    """The #[test] functions of the crate in a folder."""
+    ran = run(["rt", "try", "--test", "--seconds", EACH], folder)
     text = ran.output.decode(errors="replace") + ran.errors
     found = TESTS.search(text)
     if not found:
@@ -93,6 +92,17 @@ def try_tests(crate: str) -> Answer:
     if ran.status and not failed:
         return Answer(passed, 1, [f"status {ran.status}: {ran.end()}"], False)
     return Answer(passed, failed, [line for line in text.split("\n") if TOLD.match(line)] if failed else [])
+
+
+def try_gathered(crates) -> Answer:
+    """The #[test] functions of several crates, by one build; crate by crate where that gives no result."""
+    with tempfile.TemporaryDirectory() as room:
+        answer = try_tests(gather(crates, pathlib.Path(room)))
+    if answer.is_answered:
+        return answer
+    each = [try_tests(CRATES / it) for it in crates]
+    said = [line for it in each for line in it.said]
+    return Answer(sum(it.passed for it in each), sum(it.failed for it in each), said, all(it.is_answered for it in each))
 
 
 def try_program(crate: str) -> Answer:
