@@ -1,0 +1,9 @@
+pub mod RowForms
+pub mod Alike
+pub mod Ranges
+pub mod FieldPlaces
+pub mod ValueLists
+pub mod PartRows
+pub mod RecordRows
+pub mod SameParts
+pub mod Tests

@@ -1,0 +1,5 @@
+pub mod RowForms
+pub mod Places
+pub mod Parts
+pub mod Lists
+pub mod Records

@@ -1,0 +1,175 @@
+// Texts and byte lists.
+
+ghost use Rattle.std.specs.Prelude.{◌≡◌, length, IfOk};
+ghost use Rattle.vx_tree.specs.Meaning.{tree_len};
+
+use super::{expect_equal, expect_others};
+use std::alloc::Global;
+use vx_base::{
+    Buffer, ByteBuffer, DType, Mask, Nullability, PType, Scalar, ScalarValue, VortexError,
+};
+use vx_test_help::{bools, numbers};
+use vx_tree::{ArrayRef, Validity};
+use vx_views::{BinaryView, check_views};
+
+const LONG: &[u8] = b"this value is definitely long";
+
+const LOST: &[u8] = b"this value is definitely lost";
+
+// Texts by their views over these buffers.
+fn texts(
+    alloc: Global,
+    views: &[BinaryView],
+    buffers: Vec<ByteBuffer>,
+) -> Result<ArrayRef, VortexError>
+    ensures { IfOk result (λ a. tree_len a ≡ length views.now) }
+{
+    let mask = Mask::new_true(views.len());
+    check_views(alloc, views, &mask, &buffers, true, 0)?;
+    let views = Buffer::copy_from(alloc, views)?;
+    let dtype = DType::Utf8(Nullability::NonNullable);
+    ArrayRef::var_bin_view(alloc, views, buffers, dtype, Validity::NonNullable)
+}
+
+// Byte lists by their views over these buffers.
+fn byte_lists(
+    alloc: Global,
+    views: &[BinaryView],
+    buffers: Vec<ByteBuffer>,
+) -> Result<ArrayRef, VortexError>
+    ensures { IfOk result (λ a. tree_len a ≡ length views.now) }
+{
+    let mask = Mask::new_true(views.len());
+    check_views(alloc, views, &mask, &buffers, false, 0)?;
+    let views = Buffer::copy_from(alloc, views)?;
+    let dtype = DType::Binary(Nullability::NonNullable);
+    ArrayRef::var_bin_view(alloc, views, buffers, dtype, Validity::NonNullable)
+}
+
+// One buffer.
+fn one(alloc: Global, bytes: &[u8]) -> Result<Vec<ByteBuffer>, VortexError> {
+    let mut buffers = Vec::new(alloc);
+    buffers.push(ByteBuffer::copy_from(alloc, bytes)?)?;
+    Ok(buffers)
+}
+
+// Two buffers, of which the second one holds the long text from its second byte on.
+fn two(alloc: Global) -> Result<Vec<ByteBuffer>, VortexError> {
+    let mut buffers = one(alloc, LOST)?;
+    buffers.push(ByteBuffer::copy_from(alloc, b"-this value is definitely long-")?)?;
+    Ok(buffers)
+}
+
+// One text.
+fn text(alloc: Global, bytes: &[u8], nullability: Nullability) -> Result<Scalar, VortexError> {
+    let value = ScalarValue::Text(ByteBuffer::copy_from(alloc, bytes)?);
+    Scalar::try_new(DType::Utf8(nullability), Some(value))
+}
+
+// The texts `hi`, null, and a long one.
+fn some_texts(alloc: Global) -> Result<Vec<ArrayRef>, VortexError> {
+    let mut made = Vec::new(alloc);
+    let mask = bools(alloc, &[true, false, true])?;
+    let hi = BinaryView::make_view(b"hi", 0, 0);
+    let long = BinaryView::make_view(LONG, 0, 0);
+    let moved = BinaryView::make_view(LONG, 1, 1);
+    let no = BinaryView::make_view(b"no", 0, 0);
+    made.push(texts(alloc, &[hi, hi, long], one(alloc, LONG)?)?.mask(alloc, &mask)?)?;
+    // Another value lay there, and the long text lies elsewhere.
+    made.push(texts(alloc, &[hi, moved, moved], two(alloc)?)?.mask(alloc, &mask)?)?;
+    let longer = texts(alloc, &[no, hi, no, moved, no], two(alloc)?)?;
+    made.push(longer.slice(alloc, 1..4)?.mask(alloc, &mask)?)?;
+    // A null code.
+    let codes = numbers(
+        alloc,
+        PType::U8,
+        &[1, 0, 2],
+        Validity::Array(bools(alloc, &[true, false, true])?),
+    )?;
+    let values = texts(alloc, &[no, hi, long], one(alloc, LONG)?)?;
+    made.push(ArrayRef::dictionary(alloc, codes, values, false)?)?;
+    // A null value.
+    let codes = numbers(alloc, PType::U8, &[0, 1, 2], Validity::NonNullable)?;
+    let values = texts(alloc, &[hi, hi, long], one(alloc, LONG)?)?.mask(alloc, &mask)?;
+    made.push(ArrayRef::dictionary(alloc, codes, values, true)?)?;
+    Ok(made)
+}
+
+// Texts that differ from them in one thing.
+fn other_texts(alloc: Global) -> Result<Vec<ArrayRef>, VortexError> {
+    let mut made = Vec::new(alloc);
+    let mask = bools(alloc, &[true, false, true])?;
+    let all = bools(alloc, &[true, true, true])?;
+    let hi = BinaryView::make_view(b"hi", 0, 0);
+    let ho = BinaryView::make_view(b"ho", 0, 0);
+    let none = BinaryView::make_view(b"", 0, 0);
+    let long = BinaryView::make_view(LONG, 0, 0);
+    // The last byte of a long text.
+    let lost = BinaryView::make_view(LOST, 0, 0);
+    made.push(texts(alloc, &[hi, hi, lost], one(alloc, LOST)?)?.mask(alloc, &mask)?)?;
+    // A shorter text, which begins as the long one.
+    let part = BinaryView::make_view(b"this value is definitely", 0, 0);
+    made.push(texts(alloc, &[hi, hi, part], one(alloc, LONG)?)?.mask(alloc, &mask)?)?;
+    made.push(texts(alloc, &[ho, hi, long], one(alloc, LONG)?)?.mask(alloc, &mask)?)?;
+    // An empty text in place of null, and null in place of a text.
+    made.push(texts(alloc, &[hi, none, long], one(alloc, LONG)?)?.mask(alloc, &all)?)?;
+    let fewer = bools(alloc, &[true, false, false])?;
+    made.push(texts(alloc, &[hi, hi, long], one(alloc, LONG)?)?.mask(alloc, &fewer)?)?;
+    // Null may not stand.
+    made.push(texts(alloc, &[hi, none, long], one(alloc, LONG)?)?)?;
+    // Byte lists.
+    made.push(byte_lists(alloc, &[hi, hi, long], one(alloc, LONG)?)?.mask(alloc, &mask)?)?;
+    Ok(made)
+}
+
+#[test]
+fn some_texts_in_all_layouts(rt: HostRuntime) {
+    let made = some_texts(rt.alloc()).expect(&rt, "made");
+    let others = other_texts(rt.alloc()).expect(&rt, "made");
+    expect_equal(&rt, made.as_slice());
+    expect_others(&rt, made.as_slice(), others.as_slice());
+}
+
+// A long text, twice.
+fn same_texts(alloc: Global) -> Result<Vec<ArrayRef>, VortexError> {
+    let mut made = Vec::new(alloc);
+    let plain = Nullability::NonNullable;
+    let long = BinaryView::make_view(LONG, 0, 0);
+    let moved = BinaryView::make_view(LONG, 1, 1);
+    made.push(ArrayRef::constant(alloc, text(alloc, LONG, plain)?, 2)?)?;
+    made.push(texts(alloc, &[long, long], one(alloc, LONG)?)?)?;
+    made.push(texts(alloc, &[moved, moved], two(alloc)?)?)?;
+    // The values are a constant.
+    let codes = numbers(alloc, PType::U8, &[6, 2], Validity::NonNullable)?;
+    let values = ArrayRef::constant(alloc, text(alloc, LONG, plain)?, 7)?;
+    made.push(ArrayRef::dictionary(alloc, codes, values, false)?)?;
+    Ok(made)
+}
+
+// Texts that differ from them in one thing.
+fn other_same_texts(alloc: Global) -> Result<Vec<ArrayRef>, VortexError> {
+    let mut made = Vec::new(alloc);
+    let plain = Nullability::NonNullable;
+    let long = BinaryView::make_view(LONG, 0, 0);
+    made.push(ArrayRef::constant(alloc, text(alloc, LOST, plain)?, 2)?)?;
+    made.push(ArrayRef::constant(alloc, text(alloc, LONG, plain)?, 3)?)?;
+    made.push(ArrayRef::constant(alloc, text(alloc, LONG, Nullability::Nullable)?, 2)?)?;
+    made.push(texts(
+        alloc,
+        &[long, BinaryView::make_view(b"hi", 0, 0)],
+        one(alloc, LONG)?,
+    )?)?;
+    made.push(byte_lists(alloc, &[long, long], one(alloc, LONG)?)?)?;
+    let bytes = ScalarValue::Bytes(ByteBuffer::copy_from(alloc, LONG)?);
+    let bytes = Scalar::try_new(DType::Binary(plain), Some(bytes))?;
+    made.push(ArrayRef::constant(alloc, bytes, 2)?)?;
+    Ok(made)
+}
+
+#[test]
+fn texts_that_are_all_one(rt: HostRuntime) {
+    let made = same_texts(rt.alloc()).expect(&rt, "made");
+    let others = other_same_texts(rt.alloc()).expect(&rt, "made");
+    expect_equal(&rt, made.as_slice());
+    expect_others(&rt, made.as_slice(), others.as_slice());
+}
