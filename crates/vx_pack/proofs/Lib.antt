@@ -7,3 +7,4 @@ pub mod PartRows
 pub mod RecordRows
 pub mod SameParts
 pub mod Tests
+pub mod SameBytes

@@ -1,7 +1,8 @@
 -- Parts of columns: rows, one after another.
 use Rattle.std.specs.Prelude.{◌≡◌, ◌<◌, ◌≤◌, ◌+◌, ◌^◌, ℕ, true, min, List, Option, None, length, slice_index_or}
-use Rattle.vx_base.specs.Kinds.{Kind, Fits, is_integers}
+use Rattle.vx_base.specs.Kinds.{Kind, Fits, integer_type, is_integers}
 use Rattle.vx_base.specs.Rows.{Row}
+use Rattle.vx_base.specs.declared.ptypes.PType.{PType}
 use Rattle.vx_base.specs.ValueRows.{row_under}
 use Rattle.vx_base.specs.declared.scalar_value.ScalarValue.{ScalarValue}
 use Rattle.vx_tree.specs.Meaning.{kind_of, row_at, tree_len}
@@ -33,6 +34,11 @@ HasKind k (part.Values vs) = Unit {0}
 abbrev pub AreNumbers : Part → Type 0
 AreNumbers (part.Array a start n) = is_integers (kind_of a.now) ≡ true
 AreNumbers (part.Values vs) = Unit {0}
+
+-- an array of integers has this type
+abbrev pub HasType : PType → Part → Type 0
+HasType t (part.Array a start n) = integer_type (kind_of a.now) ≡ t
+HasType t (part.Values vs) = Unit {0}
 
 -- rows of a kind
 pub record IsPart (k : Kind) (p : Part) : Type 0 where

@@ -10,6 +10,7 @@ mod parts;
 mod places;
 mod rows_equal;
 mod same_leaves;
+mod same_numbers;
 mod same_rows;
 mod texts;
 mod truths;

@@ -1,10 +1,9 @@
-// Whether parts have the same truth values, numbers, or bytes.
+// Whether parts have the same truth values, or the same texts or byte lists.
 
 ghost use Rattle.std.specs.Prelude.{◌≡◌, ◌↔◌, option_map, IsTrue};
 ghost use Rattle.vx_base.specs.Kinds.{Kind};
-ghost use Rattle.vx_base.specs.Rows.{number_in};
 ghost use Rattle.vx_tree.specs.Values.{bytes_in};
-ghost use Rattle.vx_pack.specs.Parts.{AreNumbers, AreSameBy, IsWithin, part_len};
+ghost use Rattle.vx_pack.specs.Parts.{AreSameBy, IsWithin, part_len};
 ghost use Rattle.vx_pack.specs.RowForms.{truth_in};
 
 use crate::parts::Part;
@@ -18,23 +17,6 @@ pub(crate) fn same_truths(a: Part, b: Part) -> bool
 {
     for i in 0..a.len() {
         if a.truth(i) != b.truth(i) {
-            return false;
-        }
-    }
-    true
-}
-
-// Whether the numbers are the same, row by row.
-pub(crate) fn same_numbers(a: Part, b: Part) -> bool
-    requires first_ints { AreNumbers a }
-    requires second_ints { AreNumbers b }
-    requires first { IsWithin a }
-    requires second { IsWithin b }
-    requires same_len { part_len b ≡ part_len a }
-    ensures { (k : Kind) → IsTrue result ↔ AreSameBy number_in k a.entry b.entry }
-{
-    for i in 0..a.len() {
-        if a.number(i) != b.number(i) {
             return false;
         }
     }

@@ -9,7 +9,8 @@ ghost use Rattle.vx_pack.specs.Records.{AreRecords, AreSameFields, record_count}
 
 use crate::fields::Records;
 use crate::parts::Part;
-use crate::same_leaves::{same_numbers, same_texts, same_truths};
+use crate::same_leaves::{same_texts, same_truths};
+use crate::same_numbers::same_numbers;
 use vx_base::{DType, StructFields};
 
 // Whether rows of a data type are the same, one by one. Where the rows of each side are all one,
@@ -37,7 +38,7 @@ fn same_by_kind(dtype: &DType, a: Part, b: Part) -> bool
 {
     match dtype {
         DType::Bool(_) => same_truths(a, b),
-        DType::Primitive(_, _) => same_numbers(a, b),
+        DType::Primitive(ptype, _) => same_numbers(*ptype, a, b),
         DType::Utf8(_) => same_texts(a, b),
         DType::Binary(_) => same_texts(a, b),
         DType::List(_, _) => same_lists(dtype, a, b),

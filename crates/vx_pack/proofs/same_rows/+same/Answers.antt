@@ -24,7 +24,7 @@ pub same_by_kind-returns-in-Primitive : goal.same_by_kind-returns-in-Primitive
 same_by_kind-returns-in-Primitive t c =
     let k = dtype_meaning c.args.dtype.now in
     same_leaves number_in k c.args.a c.args.b c.same_numbers.result
-    (subst (λ h. (r s : Row) → Fits h r → Fits h s → number_in r ≡ number_in s → r ≡ s) (sym (ap dtype_meaning c.in-Primitive.is)) (numbers_differ c.in-Primitive.field-0 (is_nullable c.in-Primitive.field-1)))
+    (subst (λ h. (r s : Row) → Fits h r → Fits h s → number_in r ≡ number_in s → r ≡ s) (sym (ap dtype_meaning c.in-Primitive.is)) (numbers_differ c.in-Primitive.ptype (is_nullable c.in-Primitive.field-1)))
     c.requires.first c.requires.second c.requires.same_len (c.same_numbers.ensures k)
 
 pub same_by_kind-returns-in-Utf8 : goal.same_by_kind-returns-in-Utf8

@@ -1,6 +1,6 @@
 use Rattle.std.proofs.Common.{below_more, sym, ◌∙◌}
 use Rattle.vx_pack.proofs.Tests.{same_number_options}
-use Rattle.vx_pack.proofs.same_leaves.same_numbers.Goals as goal
+use Rattle.vx_pack.proofs.same_numbers.same_each_number.Goals as goal
 
 pub loop-i-preserved : goal.loop-i-preserved
 loop-i-preserved c = λ k.
