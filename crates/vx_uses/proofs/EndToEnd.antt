@@ -7,10 +7,13 @@ use Rattle.vx_base.specs.Kinds.{lists, is_nullable_kind}
 use Rattle.vx_tree.specs.Tree.{Tree, bools, primitive, constant, dictionary, fixed_list, list_view, structure, view_array}
 use Rattle.vx_tree.specs.Meaning.{tree_len, kind_of, row_at, rows}
 use Rattle.vx_lists.specs.ListViews.Layout.{items_of, size_of, starts_from}
-use Rattle.vx_lists.specs.ListViews.{is_list_view, elements_of, offsets_of, counts_in, list_rows, IsRebuilt}
+use Rattle.vx_lists.specs.ListViews.{is_list_view, elements_of, offsets_of, sizes_of, counts_in, list_rows, IsRebuilt}
 
 pub rebuilt_offsets : (t r : Tree) → IsRebuilt t r → counts_in (offsets_of r) ≡ starts_from 0 (map size_of (list_rows t))
 rebuilt_offsets t r is = ap (λ l. l.offsets) is.canonical_layout
+
+pub rebuilt_sizes : (t r : Tree) → IsRebuilt t r → counts_in (sizes_of r) ≡ map size_of (list_rows t)
+rebuilt_sizes t r is = ap (λ l. l.sizes) is.canonical_layout
 
 pub rebuilt_elements : (t r : Tree) → IsRebuilt t r → rows (elements_of r) ≡ flat_map items_of (list_rows t)
 rebuilt_elements t r is = ap (λ l. l.elements) is.canonical_layout

@@ -14,3 +14,5 @@ pub mod JoinedTables
 pub mod TwoFaults
 pub mod AppendedArrays
 pub mod ReadTexts
+pub mod ListFlags
+pub mod SummedOffsets

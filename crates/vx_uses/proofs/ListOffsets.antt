@@ -9,7 +9,8 @@ use Rattle.vx_tree.specs.Formed.{IsConsecutive}
 use Rattle.vx_tree.specs.Meaning.{tree_len, row_at, rows, valid_mask, is_valid_at}
 use Rattle.vx_lists.specs.ListViews.Layout.{lists_at, list_at, StandsFor}
 use Rattle.vx_lists.specs.ListViews.{elements_of, offsets_of, sizes_of, validity_of, flag_of, with_flag, counts_in, mask_of, list_layout_of, list_rows, IsRebuilt}
-use Rattle.vx_uses.specs.Uses.{AreListOffsets}
+use Rattle.vx_uses.specs.Uses.{AreListOffsets, first_start, list_offsets}
+use Rattle.vx_uses.proofs.SummedOffsets.{are_list_offsets}
 
 -- a rebuilt list view is flagged
 pub rebuilt_flag : (t r : Tree) → (tree_len t ≡ 0 → r ≡ with_flag true t) → (flag_of t ≡ true → r ≡ t) → (tree_len t ≢ 0 → flag_of t ≡ false → IsRebuilt t r) → flag_of r ≡ true
@@ -95,7 +96,20 @@ module _ (places : HavePlaces) (t : Tree) (len : tree_len (offsets_of t) ≡ tre
       let sums : start + size ≡ get_or starts i 0 + get_or sizes i 0 = omega (arith, first, second, start_is, size_is) in
       sums ∙ ap (λ n. get_or starts n 0 + get_or sizes n 0) (sym here)
 
-  -- the starts, and after them the end of the last list
+  -- the starts, and after them the end of the last list, are sums of the sizes
+  pub offsets_are : (end : ℕ) (offsets : List ℕ) → offsets ≡ starts ++ end ∷ [] → ((i : ℕ) → i + 1 ≡ tree_len t → end ≡ get_or starts i 0 + get_or sizes i 0) → (tree_len t ≡ 0 → end ≡ 0)
+      → offsets ≡ list_offsets (first_start t) sizes
+  offsets_are end offsets are last none =
+      let count : length starts ≡ tree_len t = places.counts_len (offsets_of t) ∙ len in
+      are ∙ are_list_offsets starts sizes end stands.well_formed.sizes_len
+      (λ i inside.
+      let here = places.counts_each (offsets_of t) i (omega (arith, len, count)) in
+      let next = places.counts_each (offsets_of t) (i + 1) (omega (arith, len, count)) in
+      let size = places.counts_each (sizes_of t) i (omega (arith, sizes_len, count)) in
+      omega (arith, here, next, size, follows i (omega (arith, len, count))))
+      (λ i is. last i (is ∙ count)) (λ is. none (sym count ∙ is))
+
+  -- and between them lie the lists
   pub are_offsets : (end : ℕ) (offsets : List ℕ) → offsets ≡ starts ++ end ∷ [] → ((i : ℕ) → i + 1 ≡ tree_len t → end ≡ get_or starts i 0 + get_or sizes i 0) → (tree_len t ≡ 0 → end ≡ 0)
       → AreListOffsets t (rows (elements_of t)) offsets
   are_offsets end offsets are last none = subst (AreListOffsets t (rows (elements_of t))) (sym are) (record {

@@ -1,6 +1,6 @@
 -- What the callers of this crate conclude.
-use Rattle.std.specs.Prelude.{◌≡◌, ◌<◌, ◌≤◌, ◌+◌, ◌-◌, ◌⊎◌, ◌||◌, ℕ, ℤ, negsuc, int_lt, Bool, true, false, List, length, Option, Some, None}
-use Rattle.std.specs.Prelude.{slice_index, slice_range, if◌then◌else◌}
+use Rattle.std.specs.Prelude.{◌≡◌, ◌<◌, ◌≤◌, ◌+◌, ◌-◌, ◌⊎◌, ◌||◌, ◌++◌, ◌∷◌, [], ℕ, ℤ, negsuc, int_lt, Bool, true, false, List}
+use Rattle.std.specs.Prelude.{length, map, sum, Option, Some, None, slice_index, slice_range, if◌then◌else◌}
 use Rattle.vx_base.specs.declared.errors.VortexError.{VortexError}
 use Rattle.vx_base.specs.declared.errors.VortexError.TheVariants.{Negative, OutOfBounds}
 use Rattle.vx_base.specs.Kinds.{Kind, lists, is_integers, is_nullable_kind}
@@ -11,6 +11,8 @@ use Rattle.vx_tree.specs.Faults.{slice_fault, indices_fault}
 use Rattle.vx_tree.specs.Layouts.{is_fixed_list, is_struct}
 use Rattle.vx_tree.specs.Meaning.{tree_len, kind_of, row_at}
 use Rattle.vx_lists.specs.ListViews.Faults.{list_view_fault, list_row_fault, whole_at}
+use Rattle.vx_lists.specs.ListViews.Layout.{size_of, starts_from}
+use Rattle.vx_lists.specs.ListViews.{counts_in, list_rows, offsets_of, sizes_of}
 use Rattle.vx_uses.specs.declared.reader.Lists.{Lists}
 use Rattle.vx_uses.specs.declared.reader.Lists.TheVariants.{Read, NegativeRow, EndsPast, Refused}
 
@@ -67,6 +69,20 @@ abbrev pub is_above : ℤ → Row → Bool
 is_above bound row = exceeds bound (number_in row)
 
 -- ---- lists by offsets alone
+
+-- the offsets of lists of these sizes that lie one after another, the first from `start` on: where each starts, and then
+-- where the last one ends
+abbrev pub list_offsets : ℕ → List ℕ → List ℕ
+list_offsets start sizes = starts_from start sizes ++ (start + sum sizes) ∷ []
+
+-- where the first list of a list view starts, 0 where it has none
+abbrev pub first_start : Tree → ℕ
+first_start t = slice_index (counts_in (offsets_of t)) 0
+
+-- the offsets of a list view's lists, by whether it is flagged: as they lie, else with no elements of null lists
+abbrev pub offsets_by : Bool → Tree → List ℕ
+offsets_by true t = list_offsets (first_start t) (counts_in (sizes_of t))
+offsets_by false t = list_offsets 0 (map size_of (list_rows t))
 
 -- lists of items of a kind
 abbrev pub AreListsOf : Kind → Kind → Type 0

@@ -1,16 +1,18 @@
 //! Columns of lists as a format of offsets alone stores them.
 
-ghost use Rattle.std.specs.Prelude.{◌≡◌, ◌∷◌, [], ◌++◌, map, sum, true, IfOk, IsOkUnless};
+ghost use Rattle.std.specs.Prelude.{◌≡◌, ◌≢◌, ◌↔◌, map, true, false, IfOk, IsOkUnless, IsTrue};
 ghost use Rattle.std.specs.List.{flat_map};
 ghost use Rattle.vx_base.specs.Refusals.{Refuses};
 ghost use Rattle.vx_base.specs.declared.errors.VortexError.TheVariants.{Memory};
-ghost use Rattle.vx_tree.specs.Meaning.{kind_of, rows};
+ghost use Rattle.vx_tree.specs.Formed.{IsConsecutive};
+ghost use Rattle.vx_tree.specs.Meaning.{kind_of, rows, tree_len};
 ghost use Rattle.vx_lists.specs.declared.list_view.rebuild.ListViewRebuildMode.TheVariants.{MakeZeroCopyToList};
-ghost use Rattle.vx_lists.specs.ListViews.Layout.{items_of, size_of, starts_from};
-ghost use Rattle.vx_lists.specs.ListViews.{elements_of, flag_of, list_rows};
+ghost use Rattle.vx_lists.specs.ListViews.Layout.{items_of, size_of};
+ghost use Rattle.vx_lists.specs.ListViews.{counts_in, elements_of, flag_of, list_rows, offsets_of, sizes_of, with_flag};
 ghost use Rattle.vx_lists.specs.ListViews.Faults.{rebuild_overflow, rebuild_fault};
-ghost use Rattle.vx_uses.specs.Uses.{AreListOffsets, AreListsOf};
+ghost use Rattle.vx_uses.specs.Uses.{AreListOffsets, AreListsOf, first_start, list_offsets, offsets_by};
 
+use crate::list_laws::list_views_have_lists_of_their_elements;
 use std::alloc::Global;
 use vx_base::VortexError;
 use vx_lists::laws::{
@@ -33,8 +35,8 @@ pub struct ListColumn {
 
 /// The lists end to end, with one offset more than there are lists. A null list has no elements.
 pub fn lists_end_to_end(alloc: Global, lists: &ListViewArray) -> Result<ListColumn, VortexError>
-    ensures offsets { IfOk result (λ c. let sizes = map size_of (list_rows lists.now)
-        in c.offsets.items ≡ starts_from 0 sizes ++ sum sizes ∷ []) }
+    ensures offsets { IfOk result (λ c.
+        c.offsets.items ≡ list_offsets 0 (map size_of (list_rows lists.now))) }
     ensures elements { IfOk result (λ c. rows c.elements ≡ flat_map items_of (list_rows lists.now)) }
     ensures kind { IfOk result (λ c. AreListsOf (kind_of c.elements) (kind_of lists.now)) }
     ensures refuses { Refuses result (rebuild_overflow lists.now) }
@@ -52,12 +54,31 @@ pub fn lists_end_to_end(alloc: Global, lists: &ListViewArray) -> Result<ListColu
     Ok(ListColumn { offsets, elements })
 }
 
-/// The lists of a flagged list view where they lie: its offsets, with the end of the last list
-/// after them, over its own elements, none of which is copied. Fails only for want of memory.
+/// A list view whose flag says whether its lists lie one after another, null ones counted, which is
+/// read from its offsets and sizes: all else stays. Where they do, `lists_by_offsets` copies no
+/// element. Fails only for want of memory.
+pub fn flagged_lists(alloc: Global, lists: ListViewArray) -> Result<ListViewArray, VortexError>
+    ensures same { IfOk result (λ a. a ≡ with_flag (flag_of a) lists) }
+    ensures flag { IfOk result (λ a.
+        IsTrue (flag_of a) ↔ IsConsecutive (offsets_of lists) (sizes_of lists)) }
+    ensures rows { IfOk result (λ a. rows a ≡ rows lists) }
+    ensures err { IsOkUnless result Memory }
+{
+    list_views_have_lists_of_their_elements(&lists);
+    let follow = lists.is_consecutive();
+    Ok(lists.with_zero_copy_to_list(alloc, follow)?)
+}
+
+/// The lists of a flagged list view where they lie, over its own elements, none of which is copied.
+/// The offsets are where its first list starts, and so much further what the sizes before sum to:
+/// sizes 2, 0, 3 from 4 on have the offsets 4, 6, 6, 9. Fails only for want of memory.
 pub fn zero_copy_lists(alloc: Global, lists: &ListViewArray) -> Result<ListColumn, VortexError>
     requires { flag_of lists.now ≡ true }
-    ensures offsets { IfOk result (λ c. AreListOffsets lists.now (rows c.elements) c.offsets.items) }
+    ensures offsets { IfOk result (λ c. c.offsets.items
+        ≡ list_offsets (first_start lists.now) (counts_in (sizes_of lists.now))) }
+    ensures lists { IfOk result (λ c. AreListOffsets lists.now (rows c.elements) c.offsets.items) }
     ensures elements { IfOk result (λ c. c.elements ≡ elements_of lists.now) }
+    ensures kind { IfOk result (λ c. AreListsOf (kind_of c.elements) (kind_of lists.now)) }
     ensures err { IsOkUnless result Memory }
 {
     counts_stand_at_their_places();
@@ -78,13 +99,21 @@ pub fn zero_copy_lists(alloc: Global, lists: &ListViewArray) -> Result<ListColum
 
 /// The lists of any list view by offsets alone: a flagged one is taken as it is, another is laid
 /// out anew first, which refuses `Overflow` where the total of its sizes passes the new offsets.
+/// Then null lists have no elements, and the offsets are 0 and the sums of the sizes up to each list.
 pub fn lists_by_offsets(alloc: Global, lists: &ListViewArray) -> Result<ListColumn, VortexError>
-    ensures offsets { IfOk result (λ c. AreListOffsets lists.now (rows c.elements) c.offsets.items) }
+    ensures offsets { IfOk result (λ c. c.offsets.items ≡ offsets_by (flag_of lists.now) lists.now) }
+    ensures lists { IfOk result (λ c. AreListOffsets lists.now (rows c.elements) c.offsets.items) }
     ensures shared { flag_of lists.now ≡ true →
         IfOk result (λ c. c.elements ≡ elements_of lists.now) }
+    ensures laid_out { flag_of lists.now ≡ false → tree_len lists.now ≢ 0 →
+        IfOk result (λ c. rows c.elements ≡ flat_map items_of (list_rows lists.now)) }
+    ensures kind { IfOk result (λ c. AreListsOf (kind_of c.elements) (kind_of lists.now)) }
     ensures refuses { Refuses result (rebuild_fault MakeZeroCopyToList lists.now) }
 {
+    counts_stand_at_their_places();
+    rows_stand_at_their_places();
     rows_are_equal_by_place();
+    list_views_have_lists_of_their_elements(lists);
     let rebuilt = lists.rebuild(alloc, ListViewRebuildMode::MakeZeroCopyToList)?;
     Ok(zero_copy_lists(alloc, &rebuilt)?)
 }

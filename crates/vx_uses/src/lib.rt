@@ -10,6 +10,7 @@ pub mod first;
 pub mod foreign_texts;
 pub mod kernel;
 pub mod kernel_laws;
+pub mod list_laws;
 pub mod modes;
 pub mod part_by_steps;
 pub mod reader;

@@ -6,7 +6,7 @@ use vx_lists::{ListViewArray, ListViewRebuildMode};
 use vx_test_help::{bools, has_numbers, has_numbers_or_nulls};
 use vx_tree::{TypedArray, Validity};
 use vx_uses::comparison::have_same_lists;
-use vx_uses::converter::{ListColumn, lists_by_offsets, zero_copy_lists};
+use vx_uses::converter::{ListColumn, flagged_lists, lists_by_offsets, zero_copy_lists};
 use vx_uses::first::column;
 use vx_uses::modes::{moves_again, rebuilt_twice};
 
@@ -198,4 +198,27 @@ fn lists_are_trimmed_once(rt: HostRuntime) {
     );
     assert!(rt; has_numbers(once.elements(), &[1, 2]) && has_numbers(once.offsets(), &[1, 0]));
     assert!(rt; has_numbers(twice.elements(), &[1, 2]) && has_numbers(twice.offsets(), &[1, 0]));
+}
+
+#[test]
+fn lists_one_after_another_are_flagged(rt: HostRuntime) {
+    let alloc = rt.alloc();
+    let elements = column::<i32>(alloc, &[9, 9, 9, 9, 1, 2, 3, 4, 5]).expect(&rt, "made");
+    let offsets = column::<u32>(alloc, &[4, 6, 6]).expect(&rt, "made");
+    let sizes = column::<u32>(alloc, &[2, 0, 3]).expect(&rt, "made");
+    let lists = ListViewArray::try_new(
+        alloc,
+        elements,
+        offsets,
+        sizes,
+        Validity::NonNullable,
+    ).expect(&rt, "made");
+    let flagged = flagged_lists(alloc, lists).expect(&rt, "made");
+    assert!(rt; flagged.is_zero_copy_to_list());
+    let stored = lists_by_offsets(alloc, &flagged).expect(&rt, "made");
+    assert!(rt; stored.offsets.as_slice() == [4, 6, 6, 9].as_slice());
+    assert!(rt; has_numbers(&stored.elements, &[9, 9, 9, 9, 1, 2, 3, 4, 5]));
+    let scattered = scattered_lists(alloc).expect(&rt, "made");
+    let unflagged = flagged_lists(alloc, scattered).expect(&rt, "made");
+    assert!(rt; !unflagged.is_zero_copy_to_list());
 }

@@ -1,4 +1,4 @@
-use Rattle.std.proofs.Common.{◌≡◌, ◌<◌, ◌≤◌, [], ◌∷◌, ◌++◌, map, sym, ◌∙◌, ap, arith}
+use Rattle.std.proofs.Common.{◌≡◌, ◌<◌, ◌≤◌, [], ◌∷◌, ◌++◌, map, sum, sym, ◌∙◌, ap, zero-add, arith}
 use Rattle.vx_base.specs.Kinds.{lists, is_nullable_kind}
 use Rattle.vx_tree.specs.Meaning.{tree_len, kind_of}
 use Rattle.vx_lists.specs.ListViews.Layout.{size_of, starts_from}
@@ -22,7 +22,8 @@ returns-clause-offsets c =
     let read = all_read counts.len counts.each c.rebuilt.inside.array c.in_ok-rebuilt.rebuilt c.rebuilt.view_is c.loop-i.i c.loop-i.offsets.items all c.loop-i.invariant in
     c.in_ok-push-2.ensures.items
     ∙ ap (λ xs. xs ++ c.len-2.result ∷ []) (read ∙ rebuilt_offsets t c.in_ok-rebuilt.rebuilt is)
-    ∙ ap (λ n. starts_from 0 (map size_of (list_rows t)) ++ n ∷ []) (c.len-2.ensures ∙ ap tree_len c.elements.ensures ∙ rebuilt_count c.rows_stand_at_their_places.ensures.len c.joined_rows_have_all_elements.ensures t c.in_ok-rebuilt.rebuilt is)
+    ∙ ap (λ n. starts_from 0 (map size_of (list_rows t)) ++ n ∷ []) (c.len-2.ensures ∙ ap tree_len c.elements.ensures ∙ rebuilt_count c.rows_stand_at_their_places.ensures.len c.joined_rows_have_all_elements.ensures t c.in_ok-rebuilt.rebuilt is
+    ∙ sym (zero-add (sum (map size_of (list_rows t)))))
 
 pub returns-clause-kind : goal.returns-clause-kind
 returns-clause-kind c =
