@@ -17,4 +17,5 @@ pub mod reader;
 pub mod repacking;
 pub mod tables;
 pub mod texts;
+pub mod trimming;
 pub mod writer;

@@ -9,6 +9,7 @@ use vx_uses::comparison::have_same_lists;
 use vx_uses::converter::{ListColumn, flagged_lists, lists_by_offsets, zero_copy_lists};
 use vx_uses::first::column;
 use vx_uses::modes::{moves_again, rebuilt_twice};
+use vx_uses::trimming::trimmed_lists;
 
 // The lists `[3, 4]`, `[1]`, `[2, 3]` over the elements 1 to 4.
 fn scattered_lists(alloc: Global) -> Result<ListViewArray, VortexError> {
@@ -221,4 +222,33 @@ fn lists_one_after_another_are_flagged(rt: HostRuntime) {
     let scattered = scattered_lists(alloc).expect(&rt, "made");
     let unflagged = flagged_lists(alloc, scattered).expect(&rt, "made");
     assert!(rt; !unflagged.is_zero_copy_to_list());
+}
+
+#[test]
+fn lists_are_trimmed_to_their_elements(rt: HostRuntime) {
+    let alloc = rt.alloc();
+    let elements = column::<i32>(alloc, &[0, 1, 2, 3, 4, 5, 6, 7, 8]).expect(&rt, "made");
+    let offsets = column::<u32>(alloc, &[2, 5]).expect(&rt, "made");
+    let sizes = column::<u32>(alloc, &[2, 2]).expect(&rt, "made");
+    let lists = ListViewArray::try_new(
+        alloc,
+        elements,
+        offsets,
+        sizes,
+        Validity::NonNullable,
+    ).expect(&rt, "made");
+    let trimmed = trimmed_lists(alloc, &lists).expect(&rt, "made");
+    assert!(rt; has_numbers(trimmed.elements(), &[2, 3, 4, 5, 6]));
+    assert!(rt; has_numbers(trimmed.offsets(), &[0, 3]));
+    let none = column::<u32>(alloc, &[]).expect(&rt, "made");
+    let also_none = none.try_clone(alloc).expect(&rt, "made");
+    let lists = ListViewArray::try_new(
+        alloc,
+        column::<i32>(alloc, &[1]).expect(&rt, "made"),
+        none,
+        also_none,
+        Validity::NonNullable,
+    )
+    .expect(&rt, "made");
+    assert!(rt; matches!(trimmed_lists(alloc, &lists), Err(VortexError::EmptyInput)));
 }
