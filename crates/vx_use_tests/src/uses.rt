@@ -1,6 +1,7 @@
 // Each caller on values worked by hand.
 
 mod appended;
+mod collected;
 mod columns;
 mod foreign_texts;
 mod layouts;

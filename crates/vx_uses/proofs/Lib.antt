@@ -16,3 +16,4 @@ pub mod AppendedArrays
 pub mod ReadTexts
 pub mod ListFlags
 pub mod SummedOffsets
+pub mod CollectedItems

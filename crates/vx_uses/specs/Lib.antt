@@ -2,3 +2,4 @@ pub mod Uses
 pub mod Packed
 pub mod ForeignTexts
 pub mod Tables
+pub mod Collected

@@ -3,6 +3,7 @@
 #![tactic(auto)]
 
 pub mod appended;
+pub mod collected;
 pub mod comparison;
 pub mod converter;
 pub mod encoder;
