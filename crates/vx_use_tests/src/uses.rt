@@ -5,6 +5,7 @@ mod collected;
 mod columns;
 mod foreign_texts;
 mod layouts;
+mod picked_rows;
 mod refusals;
 mod repacked;
 mod tables;

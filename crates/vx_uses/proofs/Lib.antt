@@ -16,4 +16,5 @@ pub mod AppendedArrays
 pub mod ReadTexts
 pub mod ListFlags
 pub mod SummedOffsets
+pub mod PickedRows
 pub mod CollectedItems
