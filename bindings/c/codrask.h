@@ -1,9 +1,9 @@
 /* Columns from outside, tested by proved code.
  *
  * A column is a table of nodes. Each node is an array, and it stands before the nodes of its parts. codrask_check tells
- * whether a table is a column, and if not, its first fault: which node, which row. What the calls of the first part answer
- * is proved; docs/FROM_C.md says what is trusted of their caller. The second part reads and writes the structs of Arrow, of arrays
- * and of streams: it makes tables, and leaves every test of a column to the first.
+ * whether a table is a column, and if not, its first fault: which node, and which row or position. What the calls of the first part
+ * answer is proved; docs/FROM_C.md says what is trusted of their caller. The second part reads and writes the structs of Arrow, of
+ * arrays and of streams: it makes tables, and leaves every test of a column to the first.
  *
  * For machines of 64 bits whose numbers stand in memory with the lowest byte first, and for gcc or clang. */
 #ifndef CODRASK_H
@@ -76,7 +76,7 @@ struct codrask_node {
 struct codrask_fault {
     uint32_t number; /* 0 where there is none; 1 to 23 as codrask_fault_name tells; 32 to 36 of the table itself; from 64 on of Arrow */
     size_t node;     /* the node that has it, counted from 0 */
-    size_t place;    /* the row that has it, or the position that lies past a length; else 0 */
+    size_t place;    /* the row that has it; of CODRASK_OUT_OF_BOUNDS the end of a list past its elements, or the code; else 0 */
 };
 
 enum codrask_number {
@@ -191,7 +191,7 @@ struct codrask_run_fault {
     uint32_t part;
     size_t which; /* the table, the step or the result, counted from 0 */
     size_t node;  /* the node of the table, else 0 */
-    size_t place; /* the row that has it, or the position that lies past a length; else 0 */
+    size_t place; /* the row that has it; of CODRASK_OUT_OF_BOUNDS the position that lies past a length; else 0 */
 };
 
 /* Runs steps on columns, and writes the arrays at the wanted positions, in plain layouts: neither a dictionary nor a constant.

@@ -3,6 +3,7 @@
 mod appended;
 mod collected;
 mod columns;
+mod faulty_rows;
 mod foreign_texts;
 mod layouts;
 mod picked_rows;

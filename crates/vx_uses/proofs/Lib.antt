@@ -18,3 +18,5 @@ pub mod ListFlags
 pub mod SummedOffsets
 pub mod PickedRows
 pub mod CollectedItems
+pub mod FaultyCodes
+pub mod FaultyLists

@@ -3,3 +3,4 @@ pub mod Packed
 pub mod ForeignTexts
 pub mod Tables
 pub mod Collected
+pub mod FaultyRows

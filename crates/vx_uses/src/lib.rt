@@ -7,6 +7,7 @@ pub mod collected;
 pub mod comparison;
 pub mod converter;
 pub mod encoder;
+pub mod faulty_rows;
 pub mod first;
 pub mod foreign_texts;
 pub mod kernel;
