@@ -18,5 +18,6 @@ pub mod ListFlags
 pub mod SummedOffsets
 pub mod PickedRows
 pub mod CollectedItems
+pub mod StoredNumbers
 pub mod FaultyCodes
 pub mod FaultyLists

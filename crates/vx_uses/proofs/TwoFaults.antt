@@ -1,5 +1,5 @@
 -- What is refused where one fault comes before another.
-use Rattle.std.proofs.Common.{◌≡◌, Option, Some, None, refl, sym, subst, inl, inr}
+use Rattle.std.proofs.Common.{◌≡◌, Option, Some, None, refl, sym, ◌∙◌, subst, inl, inr}
 use Rattle.std.specs.Prelude.{Result}
 use Rattle.vx_base.specs.Refusals.{Refusal, refusal_of, IsMemoryOr, Refuses, or_else}
 use Rattle.vx_base.specs.declared.errors.VortexError.{VortexError}
@@ -9,6 +9,11 @@ use Rattle.vx_base.proofs.FirstFaults.{or_else-second}
 memory_where : (e : VortexError) → None ≡ refusal_of e → e ≡ Memory
 memory_where Memory none = refl
 memory_where _ none = cc
+
+-- where there is no fault, want of memory alone refuses
+pub only_memory : (fault : Option Refusal) (e : VortexError) → fault ≡ None → IsMemoryOr fault e → e ≡ Memory
+only_memory fault e none (inl memory) = memory
+only_memory fault e none (inr same) = memory_where e (sym none ∙ same)
 
 -- what the first of two faults refuses, both refuse
 pub refused_before : (first rest : Option Refusal) (e : VortexError) → IsMemoryOr first e → IsMemoryOr (or_else first rest) e

@@ -1,8 +1,15 @@
 //! Values as a writer lays them out: views, and the buffers that they refer to.
 
-ghost use Rattle.std.specs.Prelude.{◌≡◌, ◌<◌, ◌≤◌, ℕ, List, [], length, map, slice_index_or, IfOk};
+ghost use Rattle.std.specs.Prelude.{◌≡◌, ◌<◌, ◌≤◌, ℕ, true, List, [], length, map, slice_index_or, IfOk, IsOkUnless};
 ghost use Rattle.std.specs.List.{All};
+ghost use Rattle.vx_base.specs.Kinds.{is_integers};
 ghost use Rattle.vx_base.specs.Refusals.{Refuses};
+ghost use Rattle.vx_base.specs.declared.errors.VortexError.TheVariants.{Memory};
+ghost use Rattle.vx_tree.specs.Layouts.{is_primitive};
+ghost use Rattle.vx_tree.specs.Meaning.{kind_of, rows};
+ghost use Rattle.vx_tree.specs.Parts.{valid_of};
+ghost use Rattle.vx_tree.specs.Plain.{IsPlain};
+ghost use Rattle.vx_tree.specs.Tree.{primitive};
 ghost use Rattle.vx_views.specs.BuildFaults.{lengths_of, build_fault, IsPieceCount};
 ghost use Rattle.vx_views.specs.Cut.{IsCut};
 ghost use Rattle.vx_views.specs.Places.{value_at};
@@ -10,6 +17,9 @@ ghost use Rattle.vx_views.specs.Views.{view_value, Resolves};
 
 use std::alloc::Global;
 use vx_base::{Buffer, ByteBuffer, NativePType, VortexError};
+use vx_canonical::ToCanonical;
+use vx_leaves::{PrimitiveArray, PrimitiveDataParts};
+use vx_tree::{ArrayRef, TypedArray};
 use vx_views::{BinaryView, build_views};
 
 /// Values as a column of views stores them. Each view resolves.
@@ -56,4 +66,31 @@ pub fn write_values<P: NativePType>(
 {
     let (buffers, views) = build_views(alloc, 0, limit, heap, lens)?;
     Ok(ValueColumn { buffers, views })
+}
+
+/// What a writer stores of a column of numbers, in whatever layout, a dictionary or a constant too:
+/// the type, the bytes of one number a row, and which rows are valid. Fails only for want of memory.
+pub fn stored_numbers(alloc: Global, column: &ArrayRef) -> Result<PrimitiveDataParts, VortexError>
+    requires { is_integers (kind_of column.now) ≡ true }
+    ensures rows { IfOk result (λ p.
+        rows (primitive p.ptype p.buffer (valid_of p.validity)) ≡ rows column.now) }
+    ensures kind { IfOk result (λ p.
+        kind_of (primitive p.ptype p.buffer (valid_of p.validity)) ≡ kind_of column.now) }
+    ensures err { IsOkUnless result Memory }
+{
+    let plain = column.to_canonical(alloc)?;
+    plain_numbers_are_primitive(&plain);
+    let Ok(numbers) = PrimitiveArray::try_from_array(plain) else {
+        unreachable!()
+    };
+    Ok(numbers.into_data_parts(alloc)?)
+}
+
+// Numbers in plain layout are an array of numbers.
+fn plain_numbers_are_primitive(array: &ArrayRef)
+    requires plain { IsPlain array.now }
+    requires numbers { is_integers (kind_of array.now) ≡ true }
+    ensures { is_primitive array.now ≡ true }
+{
+    array.layout();
 }

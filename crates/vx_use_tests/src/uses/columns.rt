@@ -1,13 +1,15 @@
 // Columns that are encoded and written.
 
+use std::alloc::Global;
 use vx_base::{Buffer, ByteBuffer, DType, PType, VortexError};
-use vx_leaves::{DictArrayExt, PrimitiveArray};
+use vx_leaves::{DictArrayExt, PrimitiveArray, PrimitiveDataParts};
+use vx_test_help::samples::dictionary;
 use vx_test_help::{bools, has_numbers_or_nulls};
-use vx_tree::{TypedArray, Validity};
+use vx_tree::{ArrayRef, TypedArray, Validity};
 use vx_uses::encoder::{flagged_dictionary, narrowed_column};
 use vx_uses::first::column;
 use vx_uses::part_by_steps::part_of_part;
-use vx_uses::writer::write_values;
+use vx_uses::writer::{stored_numbers, write_values};
 
 #[test]
 fn numbers_get_the_narrowest_type(rt: HostRuntime) {
@@ -91,4 +93,30 @@ fn two_steps_cut_a_part_of_a_part(rt: HostRuntime) {
         1..4,
     );
     assert!(rt; matches!(refused, Err(VortexError::OutOfBounds { index: 4, len: 3 })));
+}
+
+// What is stored of a column of numbers, none of another one.
+fn stored(alloc: Global, column: &ArrayRef) -> Result<Option<PrimitiveDataParts>, VortexError> {
+    if !column.dtype().is_int() {
+        return Ok(None);
+    }
+    Ok(Some(stored_numbers(alloc, column)?))
+}
+
+#[test]
+fn a_dictionary_is_stored_as_its_numbers(rt: HostRuntime) {
+    let alloc = rt.alloc();
+    let column = dictionary(alloc).expect(&rt, "made");
+    let Some(parts) = stored(alloc, &column).expect(&rt, "made") else {
+        panic!(rt; "no numbers");
+    };
+    assert!(rt; parts.ptype == PType::U8 && parts.buffer.len() == 5);
+    let read = PrimitiveArray::from_byte_buffer(
+        alloc,
+        parts.buffer,
+        parts.ptype,
+        parts.validity,
+    ).expect(&rt, "made");
+    let rows = [None, None, Some(9), None, Some(6)];
+    assert!(rt; has_numbers_or_nulls(read.as_array(), &rows));
 }
