@@ -20,4 +20,5 @@ pub mod PickedRows
 pub mod CollectedItems
 pub mod StoredNumbers
 pub mod FaultyCodes
+pub mod TableColumns
 pub mod FaultyLists

@@ -1,20 +1,47 @@
 //! Tables, which are columns of records: columns that are looked up by their names, and joined.
 
-ghost use Rattle.std.specs.Prelude.{◌≡◌, ◌++◌, ◌∷◌, [], Some, IfOk};
+ghost use Rattle.std.specs.Prelude.{◌≡◌, ◌++◌, ◌∷◌, [], map, Some, IfOk};
 ghost use Rattle.std.specs.Option.{option_map};
 ghost use Rattle.vx_base.specs.Refusals.{Refuses, or_else};
 ghost use Rattle.vx_canonical.specs.Concatenated.{concat_fault};
 ghost use Rattle.vx_tree.specs.Meaning.{kind_of, rows};
-ghost use Rattle.vx_structs.specs.Structs.Faults.{names_fault};
+ghost use Rattle.vx_tree.specs.Tree.{non_nullable};
+ghost use Rattle.vx_structs.specs.Structs.Faults.{names_fault, struct_fault};
 ghost use Rattle.vx_structs.specs.Structs.Records.{projected, projected_kind};
-ghost use Rattle.vx_structs.specs.Structs.{column_named, names_of};
+ghost use Rattle.vx_structs.specs.Structs.{column_named, names_of, records_by};
 ghost use Rattle.vx_uses.specs.Tables.{chosen, join_fault, rows_named};
 
 use std::alloc::Global;
-use vx_base::{FieldName, VortexError};
+use vx_base::{FieldName, FieldNames, VortexError};
 use vx_canonical::Concatenate;
 use vx_structs::{StructArray, StructArrayExt};
-use vx_tree::{ArrayRef, TypedArray};
+use vx_tree::{ArrayRef, TypedArray, Validity};
+
+/// A table of so many records, none of them null, of the columns that a reader has collected, in
+/// order, each under the name at its place. Of the names a and b and the columns `[1, 2]` and
+/// `[true, false]` the records are `{a:1,b:true}`, `{a:2,b:false}`.
+///
+/// Refuses `LengthMismatch` where there are not as many columns as names, or one has not `len` rows.
+pub fn table_of(
+    alloc: Global,
+    names: &[&str],
+    columns: Vec<ArrayRef>,
+    len: usize,
+) -> Result<StructArray, VortexError>
+    ensures table { IfOk result (λ a.
+        a ≡ records_by (map (λ name. name.now) names.now) columns.items non_nullable len) }
+    ensures refuses { Refuses result
+        (struct_fault (map (λ name. name.now) names.now) columns.items non_nullable len) }
+{
+    let names = FieldNames::try_new(alloc, names)?;
+    StructArray::try_new(
+        alloc,
+        names,
+        columns.into_iter(),
+        len,
+        Validity::NonNullable,
+    )
+}
 
 /// The columns of a name of two tables, joined: the rows of the first column of that name, those of
 /// the one table and then those of the other. A column has a row also where the record is null. Of

@@ -5,7 +5,7 @@ use vx_base::{FieldName, VortexError};
 use vx_structs::{StructArray, StructArrayExt};
 use vx_test_help::{bools, has_numbers, ints};
 use vx_tree::TypedArray;
-use vx_uses::tables::{joined_column, joined_columns};
+use vx_uses::tables::{joined_column, joined_columns, table_of};
 
 // The table of `{a:1,b:true}` and `{a:2,b:false}`.
 fn two_rows(alloc: Global) -> Result<StructArray, VortexError> {
@@ -109,4 +109,24 @@ fn names_come_before_data_types(rt: HostRuntime) {
         )
     );
     assert!(rt; fault_of(rt.alloc(), "a").expect(&rt, "made").is_none());
+}
+
+#[test]
+fn columns_make_a_table(rt: HostRuntime) {
+    let alloc = rt.alloc();
+    let columns = vec![in alloc;
+        ints::<u8>(alloc, &[1, 2]).expect(&rt, "made"),
+        bools(alloc, &[true, false]).expect(&rt, "made"),
+    ]
+    .expect(&rt, "made");
+    let table = table_of(alloc, &["a", "b"], columns, 2).expect(&rt, "made");
+    let Some(first) = table.unmasked_field_by_name_opt("a") else {
+        panic!(rt; "no column");
+    };
+    assert!(rt; table.len() == 2 && has_numbers(first, &[1, 2]));
+    let columns = vec![in alloc; ints::<u8>(alloc, &[1, 2]).expect(&rt, "made")].expect(
+        &rt, "made",
+    );
+    let refused = table_of(alloc, &["a"], columns, 3);
+    assert!(rt; matches!(refused, Err(VortexError::LengthMismatch { .. })));
 }
