@@ -1,19 +1,20 @@
 //! Columns as an encoder makes them smaller.
 
-ghost use Rattle.std.specs.Prelude.{◌≡◌, ◌↔◌, true, false, IfOk, IsTrue, IsOkUnless};
+ghost use Rattle.std.specs.Prelude.{◌≡◌, ◌↔◌, Bool, List, true, false, IfOk, IsTrue, IsOkUnless};
 ghost use Rattle.vx_base.specs.Kinds.{integers, integer_type, is_nullable_kind};
 ghost use Rattle.vx_base.specs.Refusals.{Refuses};
 ghost use Rattle.vx_base.specs.declared.errors.VortexError.TheVariants.{Memory};
 ghost use Rattle.vx_tree.specs.Formed.{ReferencesAll};
 ghost use Rattle.vx_tree.specs.Meaning.{kind_of, rows};
-ghost use Rattle.vx_tree.specs.Operations.{picks, positions};
-ghost use Rattle.vx_leaves.specs.Dictionaries.{codes_in, values_in, referenced_flag, dictionary_fault};
+ghost use Rattle.vx_tree.specs.Operations.{filtered, picks, positions};
+ghost use Rattle.vx_leaves.specs.Dictionaries.{MarksReferenced, codes_in, values_in, referenced_flag, dictionary_fault};
 ghost use Rattle.vx_leaves.specs.Leaves.{is_primitive};
 ghost use Rattle.vx_leaves.specs.Narrow.{valid_numbers, narrowed_type, IsLeastWidth};
+ghost use Rattle.vx_leaves.specs.Scan.{EndsScan};
 
 use std::alloc::Global;
-use vx_base::{VortexError, first_fault_is_least};
-use vx_leaves::{DictArray, PrimitiveArray, PrimitiveArrayExt};
+use vx_base::{Mask, VortexError, first_fault_is_least};
+use vx_leaves::{DictArray, DictArrayExt, PrimitiveArray, PrimitiveArrayExt};
 use vx_tree::row_laws::rows_stand_at_their_places;
 use vx_tree::{ArrayRef, TypedArray};
 
@@ -56,4 +57,24 @@ pub fn flagged_dictionary(
     let dictionary = DictArray::try_new(alloc, codes, values)?;
     let in_use = dictionary.are_all_values_referenced(alloc)?;
     Ok(dictionary.set_all_values_referenced(alloc, in_use)?)
+}
+
+/// The values of a dictionary that some valid code names, in their order, and how many codes were
+/// read to tell them: where the first of many codes name all values, no more are. Of the codes 0, 2,
+/// 0 into the values 5, 6, 9 these are 5, 9. Fails only for want of memory.
+pub fn values_in_use(
+    alloc: Global,
+    dictionary: &DictArray,
+) -> Result<(ArrayRef, usize), VortexError>
+    ensures values { IfOk result (λ used. (marks : List Bool)
+        × MarksReferenced dictionary.now true marks
+        × (rows used.0 ≡ filtered marks (rows (values_in dictionary.now)))) }
+    ensures kind { IfOk result (λ used. kind_of used.0 ≡ kind_of (values_in dictionary.now)) }
+    ensures read { IfOk result (λ used. EndsScan dictionary.now used.1) }
+    ensures err { IsOkUnless result Memory }
+{
+    let (marks, read) = dictionary.referenced_values_scan(alloc, true)?;
+    let used = Mask::from_buffer(alloc, marks)?;
+    let values = dictionary.values().filter(alloc, &used)?;
+    Ok((values, read))
 }

@@ -6,7 +6,7 @@ use vx_leaves::{DictArrayExt, PrimitiveArray, PrimitiveDataParts};
 use vx_test_help::samples::dictionary;
 use vx_test_help::{bools, has_numbers_or_nulls};
 use vx_tree::{ArrayRef, TypedArray, Validity};
-use vx_uses::encoder::{flagged_dictionary, narrowed_column};
+use vx_uses::encoder::{flagged_dictionary, narrowed_column, values_in_use};
 use vx_uses::first::column;
 use vx_uses::part_by_steps::part_of_part;
 use vx_uses::writer::{stored_numbers, write_values};
@@ -119,4 +119,14 @@ fn a_dictionary_is_stored_as_its_numbers(rt: HostRuntime) {
     ).expect(&rt, "made");
     let rows = [None, None, Some(9), None, Some(6)];
     assert!(rt; has_numbers_or_nulls(read.as_array(), &rows));
+}
+
+#[test]
+fn values_that_no_code_names_are_left_out(rt: HostRuntime) {
+    let alloc = rt.alloc();
+    let codes = column::<u8>(alloc, &[0, 2, 0]).expect(&rt, "made");
+    let values = column::<i32>(alloc, &[5, 6, 9]).expect(&rt, "made");
+    let dictionary = flagged_dictionary(alloc, codes, values).expect(&rt, "made");
+    let (used, read) = values_in_use(alloc, &dictionary).expect(&rt, "made");
+    assert!(rt; has_numbers_or_nulls(&used, &[Some(5), Some(9)]) && read == 3);
 }
