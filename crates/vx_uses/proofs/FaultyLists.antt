@@ -6,13 +6,8 @@ use Rattle.vx_base.specs.Refusals.{Refusal, overflow, out_of_bounds, FirstFaultI
 use Rattle.vx_tree.specs.Meaning.{tree_len}
 use Rattle.vx_tree.specs.Tree.{Tree}
 use Rattle.vx_lists.specs.ListViews.Faults.{list_row_fault, list_rows_fault, whole_at}
+use Rattle.vx_uses.specs.FaultyRows.{EndsAt}
 use Rattle.vx_uses.specs.Uses.{IsFirstFault}
-
--- a list of this offset and size ends there
-abbrev pub EndsAt : ℤ → ℤ → ℕ → Type 0
-EndsAt (pos offset) (pos size) end = offset + size ≡ end
-EndsAt (pos offset) (negsuc size) end = ⊥
-EndsAt (negsuc offset) size end = ⊥
 
 past : (fits within : Bool) (sum end : ℕ) → cond fits (cond within None (Some (out_of_bounds sum))) (Some overflow) ≡ Some (out_of_bounds end) → sum ≡ end
 past true true sum end is = cc

@@ -1,6 +1,6 @@
 use Rattle.std.proofs.Common.{ℕ, ◌<◌}
 use Rattle.vx_lists.specs.ListViews.Faults.{whole_at}
-use Rattle.vx_uses.proofs.FaultyLists.{EndsAt}
+use Rattle.vx_uses.specs.FaultyRows.{EndsAt}
 use Rattle.vx_uses.proofs.faulty_rows.row_of_refused_list.Given as goal
 
 abbrev pub invariant-loop-row : goal.invariant-loop-row
