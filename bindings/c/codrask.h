@@ -119,7 +119,9 @@ enum codrask_number {
 uint32_t codrask_version(void);
 
 /* Answers 0 where the nodes are a column, else the number of the first fault, which is then told in *fault: the nodes are
- * read from the last to the first. CODRASK_MEMORY may come in place of any answer. Nothing is kept and nothing changed. */
+ * read from the last to the first. CODRASK_MEMORY may come in place of any answer but of CODRASK_TOO_MANY_NODES, of
+ * CODRASK_NOT_ONE_ARRAY where there is no node, and of CODRASK_UNKNOWN_KIND of the last node. With 0 and CODRASK_MEMORY node and place
+ * are 0. Nothing is kept and nothing changed. */
 uint32_t codrask_check(const struct codrask_node *nodes, size_t node_count, struct codrask_fault *fault);
 
 /* ---- steps ---- */
@@ -187,7 +189,7 @@ enum codrask_part {
 
 /* Why a run is refused. */
 struct codrask_run_fault {
-    uint32_t number; /* 0 where it is not, 1 where memory was refused */
+    uint32_t number; /* 0 where it is not, 1 where memory was refused: all else is 0 then */
     uint32_t part;
     size_t which; /* the table, the step or the result, counted from 0 */
     size_t node;  /* the node of the table, else 0 */
@@ -196,7 +198,8 @@ struct codrask_run_fault {
 
 /* Runs steps on columns, and writes the arrays at the wanted positions, in plain layouts: neither a dictionary nor a constant.
  * Answers 0 where that is done; *made is then the caller's, to be given back by codrask_columns_free. Else the number of the
- * first fault, which *fault tells; *made is then as it was. On the way in *made is CODRASK_NO_COLUMNS. */
+ * first fault, which *fault tells; *made is then as it was. With 0 and CODRASK_MEMORY all else in *fault is 0. On the way in *made is
+ * CODRASK_NO_COLUMNS. */
 uint32_t codrask_run(const struct codrask_column *columns, size_t column_count, const struct codrask_step *steps, size_t step_count,
                      const size_t *wanted, size_t wanted_count, struct codrask_columns *made, struct codrask_run_fault *fault);
 

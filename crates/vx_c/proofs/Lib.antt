@@ -1,5 +1,7 @@
 pub mod Nodes
+pub mod ErrorNumbers
 pub mod TableFaults
+pub mod EarlyFaults
 pub mod LayoutParts
 pub mod Records
 pub mod Names

@@ -1,7 +1,7 @@
 -- A run: what is read one after another, what is written of it, and why it is refused.
 use Rattle.std.proofs.Common.{◌≡◌, ◌+◌, ◌≤◌, ◌<◌, ℕ, zero, suc, List, [], ◌∷◌, ◌++◌, length, map, take, get_or, refl, sym, ◌∙◌, ap, subst, inl, inr, arith, rules, Bor}
 use Rattle.std.specs.Prelude.{Option, Some, None, Result, Ok, slice_get, IsSomeAnd}
-use Rattle.std.specs.List.{AllZip}
+use Rattle.std.specs.List.{All, AllZip}
 use Rattle.std.specs.Option.{option_map}
 use Rattle.std.specs.Slice.{IsItemAt}
 use Rattle.std.proofs.lemmas.List.{map-append, length-map, take_more}
@@ -12,6 +12,7 @@ use Rattle.vx_base.specs.Refusals.{out_of_bounds, IsMemoryOr}
 use Rattle.vx_tree.specs.Tree.{Tree, bools, non_nullable}
 use Rattle.vx_canonical.specs.Canonical.{HasRowsOf, IsCanonical, canonical_fault}
 use Rattle.vx_tree.specs.Faults.{position_fault}
+use Rattle.vx_tree.specs.Fitting.{AllFormed}
 use Rattle.vx_tree.specs.Meaning.{kind_of}
 use Rattle.vx_run.specs.declared.steps.Step.{Step}
 use Rattle.vx_run.specs.Steps.{array_at, HasRun}
@@ -166,9 +167,9 @@ faultless : (results : List Tree) (w : ℕ) (a : Tree) → slice_get results w �
 faultless results w a is few none = fault_there results w a is ∙ few_nodes a few ∙ ap (option_map refused) none
 
 pub too_long : (results : List Tree) (w : ℕ) (a c : Tree) → slice_get results w ≡ Some a → least_count (kind_of a) ≤ MAX_NODES
-    → canonical_fault a ≡ None → IsCanonical a c → MAX_NODES < node_count c → IsNoTable results w TooManyNodes
-too_long results w a c is few none canonical long =
-    inr (refl, faultless results w a is few none, (c, subst (λ x. IsCanonical x c) (sym (array_there results w a is)) canonical, long))
+    → canonical_fault a ≡ None → IsCanonical a c → AllFormed c → MAX_NODES < node_count c → IsNoTable results w TooManyNodes
+too_long results w a c is few none canonical formed long =
+    inr (refl, faultless results w a is few none, (c, subst (λ x. IsCanonical x c) (sym (array_there results w a is)) canonical, formed, long))
 
 rows_both : (t r s : Tree) → HasRowsOf t r → HasRowsOf r s → HasRowsOf t s
 rows_both t r s first second = record {
@@ -212,25 +213,27 @@ run_error tables steps wanted columns taken error.Memory are meant is = tt
 run_error tables steps wanted columns taken (error.Table i node e) are meant is = absurd (cc)
 run_error tables steps wanted columns taken (error.Form i e) are meant is = absurd (cc)
 run_error tables steps wanted columns taken (error.Step i e) are meant is =
-    record { columns = columns; are = are; taken = taken; meant = meant; results = is.0; ran = is.1; stops = is.2 }
+    record { columns = columns; are = are; taken = taken; meant = meant; results = is.0; ran = is.1; formed = is.2; stops = is.3 }
 run_error tables steps wanted columns taken (error.Result i e) are meant is = absurd (cc)
 
 pub result_error : (tables : List CodraskTable) (steps : List CodraskStep) (wanted : List ℕ) (columns results : List Tree) (taken : List Step) (e : RunError)
-    → AreColumns tables columns → AreSteps steps taken → HasRun taken columns results → AreTablesOr results wanted e → IsRunError tables steps wanted e
-result_error tables steps wanted columns results taken error.Memory are meant ran is = tt
-result_error tables steps wanted columns results taken (error.Table i node e) are meant ran is = absurd (cc)
-result_error tables steps wanted columns results taken (error.Form i e) are meant ran is = absurd (cc)
-result_error tables steps wanted columns results taken (error.Step i e) are meant ran is = absurd (cc)
-result_error tables steps wanted columns results taken (error.Result i e) are meant ran is =
-    record { columns = columns; are = are; taken = taken; meant = meant; results = results; ran = ran; refused = is }
+    → AreColumns tables columns → AreSteps steps taken → HasRun taken columns results → All AllFormed results → AreTablesOr results wanted e
+    → IsRunError tables steps wanted e
+result_error tables steps wanted columns results taken error.Memory are meant ran formed is = tt
+result_error tables steps wanted columns results taken (error.Table i node e) are meant ran formed is = absurd (cc)
+result_error tables steps wanted columns results taken (error.Form i e) are meant ran formed is = absurd (cc)
+result_error tables steps wanted columns results taken (error.Step i e) are meant ran formed is = absurd (cc)
+result_error tables steps wanted columns results taken (error.Result i e) are meant ran formed is =
+    record { columns = columns; are = are; taken = taken; meant = meant; results = results; ran = ran; formed = formed; refused = is }
 
 pub run_made : (tables : List CodraskTable) (steps : List CodraskStep) (wanted : List ℕ) (columns results : List Tree) (taken : List Step)
     (written : List WrittenTable) (made : List CodraskTable) → AreColumns tables columns → AreSteps steps taken → HasRun taken columns results
+    → All AllFormed results
     → AllZip (IsMadeOf results) wanted (map (λ (w : WrittenTable). column_of (map node_of w.nodes.items)) written)
     → map (λ (t : CodraskTable). column_of t.nodes.now) made ≡ map (λ (w : WrittenTable). column_of (map node_of w.nodes.items)) written
     → IsMade tables steps wanted made
-run_made tables steps wanted columns results taken written made are meant ran read lent =
-    record { columns = columns; are = are; taken = taken; meant = meant; results = results; ran = ran; written = subst (AllZip (IsMadeOf results) wanted) (sym lent) read }
+run_made tables steps wanted columns results taken written made are meant ran formed read lent =
+    record { columns = columns; are = are; taken = taken; meant = meant; results = results; ran = ran; formed = formed; written = subst (AllZip (IsMadeOf results) wanted) (sym lent) read }
 
 pub told_run : (tables : List CodraskTable) (steps : List CodraskStep) (wanted : List ℕ) (e : RunError) (fault : CodraskRunFault)
     → IsRunError tables steps wanted e → fault ≡ told_of_run e → IsToldOf tables steps wanted fault

@@ -1,14 +1,16 @@
 -- A table, node after node from the last, and its first fault.
-use Rattle.std.proofs.Common.{ℕ, zero, suc, ◌+◌, ◌<◌, ◌≡◌, ◌≢◌, List, [], ◌∷◌, length, drop, get_or, refl, sym, ◌∙◌, ap, subst, inl, inr, arith}
+use Rattle.std.proofs.Common.{ℕ, zero, suc, ◌+◌, ◌<◌, ◌≡◌, ◌≢◌, List, [], ◌∷◌, length, drop, get_or, refl, sym, ◌∙◌, ap, subst, inl, inr, arith, rules}
 use Rattle.std.specs.Prelude.{Option, Some, None, Result, Ok, Err}
 use Rattle.std.proofs.Math.Seq.{drop-cons}
 use Rattle.vx_base.specs.declared.errors.VortexError.TheVariants.{Memory}
 use Rattle.vx_tree.specs.Tree.{Tree}
+use Rattle.vx_c.specs.declared.faults.CodraskFault.{CodraskFault}
 use Rattle.vx_c.specs.declared.faults.NodeError.{NodeError}
 use Rattle.vx_c.specs.declared.faults.NodeError.TheVariants.{NotOneArray, Refused}
 use Rattle.vx_c.specs.declared.table.CodraskNode.{CodraskNode}
 use Rattle.vx_c.specs.Tables.{NodeFault, node_made, at_node, then_node, arrays_from, only, fault_in}
-use Rattle.vx_c.specs.Answers.{fault_of, IsFaultOf, IsTableFault, IsRead, with_node, told_of, IsAnswer, node_error_number}
+use Rattle.vx_c.specs.Answers.{fault_of, IsFaultOf, IsTableFault, IsRead, with_node, fault_at, as_told, told_of, IsAnswer}
+use Rattle.vx_c.proofs.ErrorNumbers.{node_error_number-fault}
 use Rattle.vx_c.proofs.Nodes.{memory_alone}
 
 -- the node at a place, read after those behind it
@@ -65,17 +67,22 @@ abbrev named_in : NodeFault → Option (ℕ × NodeFault) → NodeFault
 named_in other None = other
 named_in other (Some p) = p.1
 
+-- of another number nothing is left out
+told-as : (fault : CodraskFault) → 1 < fault.number → as_told fault ≡ fault
+told-as fault more = let other : fault.number ≢ 1 = λ h. omega (arith, h, more) in search (rules, arith, other)
+
 told-one : (i j : ℕ) (e : NodeError) (f : NodeFault) (o : Option NodeFault) → o ≡ fault_of e → Some (j, f) ≡ with_node i o
     → IsAnswer (told_of {A = Unit {0}} (Err (i, e))) (Some (j, f))
 told-one i j e f None is same = absurd (cc)
 told-one i j e f (Some g) is same =
     let named : g ≡ f = sym (ap (named_in f) same) in
     let place : i ≡ j = sym (ap (node_in j) same) in
-    inr (e, sym is ∙ ap Some named, ap (λ k. told_of {A = Unit {0}} (Err (k, e))) place)
+    let names : fault_of e ≡ Some f = sym is ∙ ap Some named in
+    inr (e, names, told-as (fault_at i e) (node_error_number-fault e f names) ∙ ap (λ k. fault_at k e) place)
 
 told-memory : (i : ℕ) (e : NodeError) (fault : Option (ℕ × NodeFault)) → e ≡ Refused Memory → IsAnswer (told_of {A = Unit {0}} (Err (i, e))) fault
-told-memory i e None m = inl (ap node_error_number m)
-told-memory i e (Some p) m = inl (ap node_error_number m)
+told-memory i e None m = inl (ap (λ (x : NodeError). as_told (fault_at i x)) m)
+told-memory i e (Some p) m = inl (ap (λ (x : NodeError). as_told (fault_at i x)) m)
 
 pub told_right : (r : Result (Unit {0}) (ℕ × NodeError)) (fault : Option (ℕ × NodeFault)) → IsRead r fault → IsAnswer (told_of r) fault
 told_right (Ok u) fault none = subst (IsAnswer (told_of (Ok u))) (sym none) (inr refl)

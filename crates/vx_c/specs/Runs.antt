@@ -1,6 +1,6 @@
 -- What a run writes, and why it is refused.
-use Rattle.std.specs.Prelude.{◌≡◌, ◌<◌, ◌≤◌, ◌⊎◌, ℕ, List, length, map, take, Option, Some, None, Result, Ok, Err, IsSomeAnd, slice_get, nat_lt, if◌then◌else◌}
-use Rattle.std.specs.List.{AllZip}
+use Rattle.std.specs.Prelude.{◌≡◌, ◌<◌, ◌≤◌, ◌⊎◌, ℕ, List, length, map, take, Option, Some, None, Result, Ok, Err, IsSomeAnd, slice_get, nat_lt, ◌==◌, if◌then◌else◌}
+use Rattle.std.specs.List.{All, AllZip}
 use Rattle.std.specs.Option.{option_map}
 use Rattle.vx_base.specs.declared.errors.VortexError.{VortexError}
 use Rattle.vx_base.specs.Kinds.{Kind}
@@ -8,6 +8,7 @@ use Rattle.vx_base.specs.Refusals.{error_number}
 use Rattle.vx_tree.specs.Tree.{Tree}
 use Rattle.vx_canonical.specs.Canonical.{HasRowsOf, IsCanonical, canonical_fault}
 use Rattle.vx_tree.specs.Faults.{position_fault}
+use Rattle.vx_tree.specs.Fitting.{AllFormed}
 use Rattle.vx_tree.specs.Meaning.{kind_of}
 use Rattle.vx_tree.specs.Plain.{IsPlain}
 use Rattle.vx_run.specs.declared.steps.Step.{Step}
@@ -67,7 +68,7 @@ abbrev pub IsMadeOf : List Tree → ℕ → Result Tree (ℕ × NodeFault) → T
 IsMadeOf results w read = (result_fault results w ≡ None) × IsReadBack (array_at results w) read
 
 -- the tables are columns, the steps are run on them, and each table that is written, read again, is a column with the rows
--- of the array that is asked for
+-- of the array that is asked for. All arrays are well formed at every depth, the columns in front
 pub record IsMade (tables : List CodraskTable) (steps : List CodraskStep) (wanted : List ℕ) (made : List CodraskTable) : Type 0 where
   pub columns : List Tree
   pub are : AreColumns tables columns
@@ -75,6 +76,7 @@ pub record IsMade (tables : List CodraskTable) (steps : List CodraskStep) (wante
   pub meant : AreSteps steps taken
   pub results : List Tree
   pub ran : HasRun taken columns results
+  pub formed : All AllFormed results
   pub written : AllZip (IsMadeOf results) wanted (map column_in made)
 
 -- ---- why a run is refused
@@ -91,7 +93,7 @@ IsNoStep steps i e =
     ⊎ ((length steps ≤ MAX_STEPS) × ((taken : List Step) × AllZip IsStepOf (take i steps) taken)
     × IsSomeAnd (slice_get steps i) (λ c. IsFormFault e (step_form_fault c)))
 
--- the columns and the steps, which stop at one
+-- the columns and the steps, which stop at one; all arrays before it are well formed at every depth
 pub record IsStopped (tables : List CodraskTable) (steps : List CodraskStep) (i : ℕ) (e : VortexError) : Type 0 where
   pub columns : List Tree
   pub are : AreColumns tables columns
@@ -99,13 +101,18 @@ pub record IsStopped (tables : List CodraskTable) (steps : List CodraskStep) (i 
   pub meant : AreSteps steps taken
   pub results : List Tree
   pub ran : HasRun (take i taken) columns results
+  pub formed : All AllFormed results
   pub stops : IsStop taken i results e
+
+-- an array, made plain and well formed at every depth, has more nodes than a table may have
+abbrev pub IsTooLong : Tree → Type 0
+IsTooLong t = (c : Tree) × IsCanonical t c × AllFormed c × (MAX_NODES < node_count c)
 
 -- the array at a position has a fault, or it has none, and its table has too many nodes
 abbrev pub IsNoTable : List Tree → ℕ → NodeError → Type 0
 IsNoTable results w e =
     IsFormFault e (result_fault results w)
-    ⊎ ((e ≡ TooManyNodes) × (result_fault results w ≡ None) × ((c : Tree) × IsCanonical (array_at results w) c × (MAX_NODES < node_count c)))
+    ⊎ ((e ≡ TooManyNodes) × (result_fault results w ≡ None) × IsTooLong (array_at results w))
 
 -- the arrays that are asked for, up to one, are read back from their tables, and that one is refused
 abbrev pub IsNoResult : List Tree → List ℕ → ℕ → NodeError → Type 0
@@ -113,7 +120,7 @@ IsNoResult results wanted i e =
     ((read : List (Result Tree (ℕ × NodeFault))) × AllZip (IsMadeOf results) (take i wanted) read)
     × IsSomeAnd (slice_get wanted i) (λ w. IsNoTable results w e)
 
--- the run is done, and an array that is asked for is refused
+-- the run is done, with arrays that are well formed at every depth, and one that is asked for is refused
 pub record IsNotMade (tables : List CodraskTable) (steps : List CodraskStep) (wanted : List ℕ) (i : ℕ) (e : NodeError) : Type 0 where
   pub columns : List Tree
   pub are : AreColumns tables columns
@@ -121,6 +128,7 @@ pub record IsNotMade (tables : List CodraskTable) (steps : List CodraskStep) (wa
   pub meant : AreSteps steps taken
   pub results : List Tree
   pub ran : HasRun taken columns results
+  pub formed : All AllFormed results
   pub refused : IsNoResult results wanted i e
 
 -- why a run is refused
@@ -141,7 +149,7 @@ AreStepsOr steps (error.Form i e) = IsNoStep steps i e
 AreStepsOr steps e = e ≡ error.Memory
 
 abbrev pub IsRanOr : List Step → List Tree → RunError → Type 0
-IsRanOr steps columns (error.Step i e) = (results : List Tree) × HasRun (take i steps) columns results × IsStop steps i results e
+IsRanOr steps columns (error.Step i e) = (results : List Tree) × HasRun (take i steps) columns results × All AllFormed results × IsStop steps i results e
 IsRanOr steps columns e = e ≡ error.Memory
 
 abbrev pub AreTablesOr : List Tree → List ℕ → RunError → Type 0
@@ -150,12 +158,27 @@ AreTablesOr results wanted e = e ≡ error.Memory
 
 -- ---- what C is told
 
+-- that there is no fault, and that memory was refused
+abbrev pub no_run_fault : CodraskRunFault
+no_run_fault = record { number = 0; part = 0; which = 0; node = 0; place = 0 }
+
+abbrev pub run_want_of_memory : CodraskRunFault
+run_want_of_memory = record { number = 1; part = 0; which = 0; node = 0; place = 0 }
+
+-- an error: its number, its part of the run and its place there
+abbrev pub run_fault_at : RunError → CodraskRunFault
+run_fault_at error.Memory = run_want_of_memory
+run_fault_at (error.Table i node e) = record { number = node_error_number e; part = 1; which = i; node = node; place = node_error_place e }
+run_fault_at (error.Form i e) = record { number = node_error_number e; part = 2; which = i; node = 0; place = node_error_place e }
+run_fault_at (error.Step i e) = record { number = error_number e; part = 2; which = i; node = 0; place = error_place e }
+run_fault_at (error.Result i e) = record { number = node_error_number e; part = 3; which = i; node = 0; place = node_error_place e }
+
+-- where memory was refused, that alone
+abbrev pub run_as_told : CodraskRunFault → CodraskRunFault
+run_as_told fault = if fault.number == 1 then run_want_of_memory else fault
+
 abbrev pub told_of_run : RunError → CodraskRunFault
-told_of_run error.Memory = record { number = 1; part = 0; which = 0; node = 0; place = 0 }
-told_of_run (error.Table i node e) = record { number = node_error_number e; part = 1; which = i; node = node; place = node_error_place e }
-told_of_run (error.Form i e) = record { number = node_error_number e; part = 2; which = i; node = 0; place = node_error_place e }
-told_of_run (error.Step i e) = record { number = error_number e; part = 2; which = i; node = 0; place = error_place e }
-told_of_run (error.Result i e) = record { number = node_error_number e; part = 3; which = i; node = 0; place = node_error_place e }
+told_of_run e = run_as_told (run_fault_at e)
 
 -- C is told of an error that stands
 abbrev pub IsToldOf : List CodraskTable → List CodraskStep → List ℕ → CodraskRunFault → Type 0

@@ -1,17 +1,19 @@
 // Why a table is refused, and how C is told.
 
 ghost use Rattle.std.specs.Prelude.{◌≡◌, ◌<◌};
-ghost use Rattle.vx_c.specs.Runs.{told_of_run};
+ghost use Rattle.vx_c.specs.Runs.{no_run_fault, run_want_of_memory, run_fault_at, run_as_told, told_of_run};
 ghost use Rattle.vx_c.specs.declared.faults.RunError.TheVariants.{Memory as memory};
 ghost use Rattle.vx_base.specs.declared.errors.VortexError.TheVariants.{Memory};
 ghost use Rattle.vx_c.specs.declared.faults.NodeError.TheVariants.{Refused};
-ghost use Rattle.vx_c.specs.Answers.{told_of, error_place, node_error_number, node_error_place};
+ghost use Rattle.vx_c.specs.Answers.{no_fault, want_of_memory, fault_at, as_told, told_of};
+ghost use Rattle.vx_c.specs.Answers.{error_place, node_error_number, node_error_place};
 ghost use Rattle.vx_base.specs.Refusals.{error_number};
 
 use std::alloc::{AllocError, AllocFailed};
 use vx_base::VortexError;
 
-/// The first fault of a table.
+/// The first fault of a table. Where there is none, and where memory was refused, all but the
+/// number is 0.
 #[repr(C)]
 #[derive(Clone, Copy, Debug, PartialEq, Eq)]
 pub struct CodraskFault {
@@ -23,7 +25,7 @@ pub struct CodraskFault {
     pub place: usize,
 }
 
-/// Why a run is refused.
+/// Why a run is refused. Where it is not, and where memory was refused, all but the number is 0.
 #[repr(C)]
 #[derive(Clone, Copy, Debug, PartialEq, Eq)]
 pub struct CodraskRunFault {
@@ -122,28 +124,66 @@ fn place_of(error: &VortexError) -> usize
     }
 }
 
+impl CodraskFault {
+    // That there is no fault.
+    fn none() -> CodraskFault
+        ensures { result ≡ no_fault }
+    {
+        CodraskFault {
+            number: 0,
+            node: 0,
+            place: 0,
+        }
+    }
+
+    // That memory was refused.
+    fn want_of_memory() -> CodraskFault
+        ensures { result ≡ want_of_memory }
+    {
+        CodraskFault {
+            number: 1,
+            node: 0,
+            place: 0,
+        }
+    }
+
+    // An error at a node.
+    fn at(node: usize, error: &NodeError) -> CodraskFault
+        ensures { result ≡ fault_at node error.now }
+    {
+        CodraskFault {
+            number: error.number(),
+            node,
+            place: error.place(),
+        }
+    }
+
+    // Where memory was refused, that alone.
+    fn as_told(self) -> CodraskFault
+        ensures { result ≡ as_told self }
+    {
+        if self.number == 1 {
+            CodraskFault::want_of_memory()
+        } else {
+            self
+        }
+    }
+}
+
 // What C is told of a table that was read, or of the node that is refused.
 pub(crate) fn told(read: Result<(), (usize, NodeError)>) -> CodraskFault
     ensures { result ≡ told_of read }
 {
     match read {
-        Ok(()) => CodraskFault {
-            number: 0,
-            node: 0,
-            place: 0,
-        },
-        Err((node, error)) => CodraskFault {
-            number: error.number(),
-            node,
-            place: error.place(),
-        },
+        Ok(()) => CodraskFault::none(),
+        Err((node, error)) => CodraskFault::at(node, &error).as_told(),
     }
 }
 
 impl CodraskRunFault {
     // That there is no fault.
     pub(crate) fn none() -> CodraskRunFault
-        ensures { result.number ≡ 0 }
+        ensures { result ≡ no_run_fault }
     {
         CodraskRunFault {
             number: 0,
@@ -153,6 +193,30 @@ impl CodraskRunFault {
             place: 0,
         }
     }
+
+    // That memory was refused.
+    fn want_of_memory() -> CodraskRunFault
+        ensures { result ≡ run_want_of_memory }
+    {
+        CodraskRunFault {
+            number: 1,
+            part: 0,
+            which: 0,
+            node: 0,
+            place: 0,
+        }
+    }
+
+    // Where memory was refused, that alone.
+    fn as_told(self) -> CodraskRunFault
+        ensures { result ≡ run_as_told self }
+    {
+        if self.number == 1 {
+            CodraskRunFault::want_of_memory()
+        } else {
+            self
+        }
+    }
 }
 
 // What C is told of a run that is refused.
@@ -160,6 +224,13 @@ impl CodraskRunFault {
 pub(crate) fn told_of_run(error: RunError) -> CodraskRunFault
     ensures told { result ≡ told_of_run error }
     ensures some { 0 < result.number }
+{
+    run_fault_at(error).as_told()
+}
+
+// An error, with its part of the run and its place there.
+fn run_fault_at(error: RunError) -> CodraskRunFault
+    ensures { result ≡ run_fault_at error }
 {
     let (part, which, node) = match error {
         RunError::Memory => (0, 0, 0),

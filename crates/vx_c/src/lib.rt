@@ -4,8 +4,8 @@
 
 ghost use Rattle.std.specs.Prelude.{◌≡◌, ◌<◌};
 ghost use Rattle.vx_c.specs.Tables.{table_fault};
-ghost use Rattle.vx_c.specs.Answers.{IsAnswer};
-ghost use Rattle.vx_c.specs.Runs.{IsMade, IsToldOf};
+ghost use Rattle.vx_c.specs.Answers.{IsAnswer, TakesMemory};
+ghost use Rattle.vx_c.specs.Runs.{IsMade, IsToldOf, no_run_fault};
 
 mod counting;
 mod faults;
@@ -37,8 +37,10 @@ pub extern "C" fn codrask_version() -> u32
 }
 
 /// Whether a table of nodes is a column. Answers 0 where it is, else the number of its first fault,
-/// or 1 where memory was refused. `fault` is then that number, the node that has the fault, and the
-/// row or position that the fault names, else 0.
+/// or 1 where memory was refused. `fault` is that number, the node that has the fault, and the row
+/// or position that the fault names, else 0; of 0 and 1 nothing beside the number. Too many nodes,
+/// a table without any, and a last node that no kind has are told without asking for memory.
+#[tactic(auto, using(crate::proofs::TableFaults::told_right, crate::proofs::EarlyFaults::memory_told))]
 #[unsafe(no_mangle)]
 pub extern "C" fn codrask_check(
     alloc: Global,
@@ -46,6 +48,7 @@ pub extern "C" fn codrask_check(
     fault: &mut CodraskFault,
 ) -> u32
     ensures answer { IsAnswer fault.new (table_fault nodes.now) }
+    ensures memory { result ≡ 1 → TakesMemory nodes.now }
     ensures number { result ≡ fault.new.number }
 {
     *fault = told(check(alloc, nodes));
@@ -57,9 +60,10 @@ pub extern "C" fn codrask_check(
 /// `made` then has the tables, in blocks of `malloc` that are the caller's: each slice that is not
 /// empty is one. Else the answer is the number of the first fault, and `fault` says where it is: of
 /// the tables, then of the steps, then of the step that is refused, then of what is asked for. It
-/// is 1 where memory was refused. `made` is then as it was. An array whose table would have more
-/// than 4096 nodes is refused before any is written, and before it is made plain where its data
-/// type needs so many.
+/// is 1 where memory was refused, which is all that `fault` says then: room for the lists of a run
+/// is asked for first. `made` is then as it was. An array whose table would have more than 4096
+/// nodes is refused before any is written, and before it is made plain where its data type needs so
+/// many.
 #[tactic(auto, using(crate::proofs::RunParts::told_run))]
 #[unsafe(no_mangle)]
 pub extern "C" fn codrask_run(
@@ -71,6 +75,7 @@ pub extern "C" fn codrask_run(
     fault: &mut CodraskRunFault,
 ) -> u32
     ensures made { result ≡ 0 → IsMade tables.now steps.now wanted.now made.new.tables.now }
+    ensures none { result ≡ 0 → fault.new ≡ no_run_fault }
     ensures fault { 0 < result → IsToldOf tables.now steps.now wanted.now fault.new }
     ensures number { result ≡ fault.new.number }
     ensures kept { 0 < result → made.new ≡ made.old }

@@ -1,8 +1,10 @@
 // A table of nodes, read from its last node to its first.
 
-ghost use Rattle.std.specs.Prelude.{◌≡◌, Ok, IfOk, IfErr};
+ghost use Rattle.std.specs.Prelude.{◌≡◌, ◌⊎◌, Ok, IfOk, IfErr, IsSome};
 ghost use Rattle.vx_tree.specs.Parts.{valid_of};
-ghost use Rattle.vx_c.specs.Answers.{IsFaultOf, IsTableFault, IsRead};
+ghost use Rattle.vx_c.specs.declared.faults.NodeError.TheVariants.{UnknownKind, NotOneArray};
+ghost use Rattle.vx_c.specs.NodeKinds.{kind_numbered};
+ghost use Rattle.vx_c.specs.Answers.{IsFaultOf, IsTableFault, IsRead, IsLastKnown, IsEarly, TakesMemory};
 ghost use Rattle.vx_c.specs.Tables.{node_made, valid_of_number, arrays_from, only, column_of, table_fault};
 
 use crate::faults::NodeError;
@@ -18,7 +20,8 @@ pub(crate) const MAX_NODES: usize = 4096;
 
 // Whether a table is a column.
 pub(crate) fn check(alloc: Global, nodes: &[CodraskNode<'_>]) -> Result<(), (usize, NodeError)>
-    ensures { IsRead result (table_fault nodes.now) }
+    ensures read { IsRead result (table_fault nodes.now) }
+    ensures early { IfErr result (λ fault. IsEarly fault.1 ⊎ TakesMemory nodes.now) }
 {
     match column(alloc, nodes) {
         Ok(_) => Ok(()),
@@ -27,12 +30,14 @@ pub(crate) fn check(alloc: Global, nodes: &[CodraskNode<'_>]) -> Result<(), (usi
 }
 
 // The column that a table is. Refuses its first fault, from the last node to the first.
+#[tactic(auto, using(crate::proofs::EarlyFaults::early))]
 pub(crate) fn column(
     alloc: Global,
     nodes: &[CodraskNode<'_>],
 ) -> Result<ArrayRef, (usize, NodeError)>
     ensures ok { IfOk result (λ array. column_of nodes.now ≡ Ok array) }
     ensures err { IfErr result (λ fault. IsTableFault fault (column_of nodes.now)) }
+    ensures early { IfErr result (λ fault. IsEarly fault.1 ⊎ TakesMemory nodes.now) }
 {
     if MAX_NODES < nodes.len() {
         return Err((0, NodeError::TooManyNodes));
@@ -47,6 +52,7 @@ pub(crate) fn column(
 fn only_array(mut stack: Stack) -> Result<ArrayRef, (usize, NodeError)>
     ensures ok { IfOk result (λ array. only (Ok stack) ≡ Ok array) }
     ensures err { IfErr result (λ fault. IsTableFault fault (only (Ok stack))) }
+    ensures early { IfErr result (λ fault. fault.1 ≡ NotOneArray) }
 {
     if stack.len() != 1 {
         return Err((0, NodeError::NotOneArray));
@@ -61,6 +67,7 @@ fn only_array(mut stack: Stack) -> Result<ArrayRef, (usize, NodeError)>
 fn arrays_of(alloc: Global, nodes: &[CodraskNode<'_>]) -> Result<Stack, (usize, NodeError)>
     ensures ok { IfOk result (λ stack. arrays_from 0 nodes.now ≡ Ok stack) }
     ensures err { IfErr result (λ fault. IsTableFault fault (arrays_from 0 nodes.now)) }
+    ensures early { IfErr result (λ fault. (fault.1 ≡ UnknownKind) ⊎ IsLastKnown nodes.now) }
 {
     let mut stack = Stack::new(alloc);
     for read in 0..nodes.len() {
@@ -73,9 +80,11 @@ fn arrays_of(alloc: Global, nodes: &[CodraskNode<'_>]) -> Result<Stack, (usize, 
 }
 
 // Puts the array of a node on top, in place of those that are its parts.
+#[tactic(auto, using(crate::proofs::EarlyFaults::kind_some))]
 fn push_node(alloc: Global, node: &CodraskNode<'_>, stack: &mut Stack) -> Result<(), NodeError>
     ensures ok { IfOk result (λ _. node_made node.now stack.old ≡ Ok stack.new) }
     ensures err { IfErr result (λ e. IsFaultOf e (node_made node.now stack.old)) }
+    ensures early { IfErr result (λ e. (e ≡ UnknownKind) ⊎ IsSome (kind_numbered node.now.kind)) }
 {
     let kind = NodeKind::numbered(node.kind).ok_or(NodeError::UnknownKind)?;
     let validity = validity_numbered(node.validity, stack)?;

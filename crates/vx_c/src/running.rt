@@ -1,7 +1,8 @@
 // A run: columns that C hands over, steps on them, and the tables of what is asked for.
 
 ghost use Rattle.std.specs.Prelude.{IfOk, IfErr, map};
-ghost use Rattle.std.specs.List.{AllZip};
+ghost use Rattle.std.specs.List.{All, AllZip};
+ghost use Rattle.vx_tree.specs.Fitting.{AllFormed};
 ghost use Rattle.vx_run.specs.Steps.{HasRun};
 ghost use Rattle.vx_c.specs.Tables.{column_of};
 ghost use Rattle.vx_c.specs.Written.{node_of};
@@ -85,11 +86,27 @@ fn results_of(
     steps: &[Step],
 ) -> Result<Vec<ArrayRef>, RunError>
     ensures ok { IfOk result (λ results. HasRun steps.now columns.items results.items) }
+    ensures formed { IfOk result (λ results. All AllFormed results.items) }
     ensures err { IfErr result (IsRanOr steps.now columns.items) }
 {
     match run(alloc, columns, steps) {
-        Ok(results) => Ok(results),
-        Err(fault) => Err(RunError::Step(fault.step, fault.error)),
+        Ok(results) => {
+            all_formed(&results);
+            Ok(results)
+        }
+        Err(fault) => {
+            all_formed(&fault.arrays);
+            Err(RunError::Step(fault.step, fault.error))
+        }
+    }
+}
+
+// What is always true of the arrays, at every depth. It does nothing.
+fn all_formed(arrays: &[ArrayRef])
+    ensures { All AllFormed arrays.now }
+{
+    for array in arrays {
+        array.known();
     }
 }
 
@@ -128,6 +145,7 @@ fn table_of(alloc: Global, results: &[ArrayRef], position: usize) -> Result<Writ
         return Err(NodeError::TooManyNodes);
     }
     let plain = array.to_canonical(alloc)?;
+    plain.known();
     if left_by_array(&plain, MAX_NODES).is_none() {
         return Err(NodeError::TooManyNodes);
     }
