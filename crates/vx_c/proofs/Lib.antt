@@ -11,6 +11,8 @@ pub mod WrittenLayouts
 pub mod SameNodes
 pub mod Moved
 pub mod Sixteen
+pub mod UnflaggedFormed
+pub mod ReadBack
 pub mod RunParts
 pub mod Meant
 pub mod RunFaults

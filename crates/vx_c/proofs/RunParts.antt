@@ -10,7 +10,7 @@ use Rattle.vx_base.specs.declared.errors.VortexError.{VortexError}
 use Rattle.vx_base.specs.declared.errors.VortexError.TheVariants.{Memory, OutOfBounds}
 use Rattle.vx_base.specs.Refusals.{out_of_bounds, IsMemoryOr}
 use Rattle.vx_tree.specs.Tree.{Tree, bools, non_nullable}
-use Rattle.vx_canonical.specs.Canonical.{HasRowsOf, IsCanonical, canonical_fault}
+use Rattle.vx_canonical.specs.Canonical.{IsCanonical, canonical_fault}
 use Rattle.vx_tree.specs.Faults.{position_fault}
 use Rattle.vx_tree.specs.Fitting.{AllFormed}
 use Rattle.vx_tree.specs.Meaning.{kind_of}
@@ -31,10 +31,10 @@ use Rattle.vx_c.specs.Answers.{IsFormFault, IsTableFault}
 use Rattle.vx_c.specs.Steps.{IsStepOf, step_form_fault}
 use Rattle.vx_c.specs.Unflagged.{unflagged, least_count, node_count}
 use Rattle.vx_c.specs.Written.{IsWritten, node_of}
-use Rattle.vx_c.specs.Runs.{column_in, AreColumns, AreSteps, IsReadBack, IsMadeOf, IsMade, IsNoTable, kind_fault, or_fault, result_fault, IsRunError, IsToldOf}
+use Rattle.vx_c.specs.Runs.{column_in, AreColumns, AreSteps, IsMadeOf, IsMade, IsNoTable, kind_fault, or_fault, result_fault, IsRunError, IsToldOf}
 use Rattle.vx_c.specs.Runs.{AreColumnsOr, AreStepsOr, IsRanOr, AreTablesOr, told_of_run}
 use Rattle.vx_c.specs.declared.faults.CodraskRunFault.{CodraskRunFault}
-use Rattle.vx_c.proofs.Unflagged.{unflagged-rows, kept_count, kept_plain}
+use Rattle.vx_c.proofs.Unflagged.{kept_count}
 use Rattle.vx_c.proofs.Meant.{form_refused}
 use Rattle.vx_c.proofs.WrittenTables.{tables-column}
 
@@ -171,24 +171,16 @@ pub too_long : (results : List Tree) (w : ℕ) (a c : Tree) → slice_get result
 too_long results w a c is few none canonical formed long =
     inr (refl, faultless results w a is few none, (c, subst (λ x. IsCanonical x c) (sym (array_there results w a is)) canonical, formed, long))
 
-rows_both : (t r s : Tree) → HasRowsOf t r → HasRowsOf r s → HasRowsOf t s
-rows_both t r s first second = record {
-  len = second.len ∙ first.len;
-  kind = second.kind ∙ first.kind;
-  rows = λ i inside. second.rows i (omega (arith, inside, first.len)) ∙ first.rows i inside;
-}
-
 pub table_made : (results : List Tree) (w : ℕ) (a c : Tree) (nodes made : List WrittenNode) → slice_get results w ≡ Some a
-    → least_count (kind_of a) ≤ MAX_NODES → canonical_fault a ≡ None → IsCanonical a c → IsWritten [] (unflagged c ∷ []) nodes
+    → least_count (kind_of a) ≤ MAX_NODES → canonical_fault a ≡ None → IsCanonical a c → AllFormed c → IsWritten [] (unflagged c ∷ []) nodes
     → node_count c ≤ MAX_NODES → made ≡ nodes → IsMadeOf results w (column_of (map node_of made))
-table_made results w a c nodes made is few none canonical written short kept =
+table_made results w a c nodes made is few none canonical formed written short kept =
     let counted : length (map node_of written.more) ≤ MAX_NODES =
     omega (arith, length-map written.more node_of, ap length written.put, written_alone c nodes written, short) in
     let read : column_of (map node_of made) ≡ Ok (unflagged c) =
     ap (λ ws. column_of (map node_of ws)) (kept ∙ written.put) ∙ tables-column (map node_of written.more) (unflagged c) written.tables counted in
-    let rows : HasRowsOf (array_at results w) (unflagged c) =
-    subst (λ x. HasRowsOf x (unflagged c)) (sym (array_there results w a is)) (rows_both a c (unflagged c) canonical.same (unflagged-rows c)) in
-    (faultless results w a is few none, subst (IsReadBack (array_at results w)) (sym read) (rows, kept_plain c canonical.plain))
+    let of : IsCanonical (array_at results w) c = subst (λ x. IsCanonical x c) (sym (array_there results w a is)) canonical in
+    (faultless results w a is few none, record { plain = c; canonical = of; formed = formed; short = short; is = read })
 
 -- ---- the whole run
 

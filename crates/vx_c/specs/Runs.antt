@@ -6,11 +6,10 @@ use Rattle.vx_base.specs.declared.errors.VortexError.{VortexError}
 use Rattle.vx_base.specs.Kinds.{Kind}
 use Rattle.vx_base.specs.Refusals.{error_number}
 use Rattle.vx_tree.specs.Tree.{Tree}
-use Rattle.vx_canonical.specs.Canonical.{HasRowsOf, IsCanonical, canonical_fault}
+use Rattle.vx_canonical.specs.Canonical.{IsCanonical, canonical_fault}
 use Rattle.vx_tree.specs.Faults.{position_fault}
 use Rattle.vx_tree.specs.Fitting.{AllFormed}
 use Rattle.vx_tree.specs.Meaning.{kind_of}
-use Rattle.vx_tree.specs.Plain.{IsPlain}
 use Rattle.vx_run.specs.declared.steps.Step.{Step}
 use Rattle.vx_run.specs.Steps.{array_at, HasRun, IsStop}
 use Rattle.vx_c.specs.declared.faults.NodeError.{NodeError}
@@ -25,7 +24,7 @@ use Rattle.vx_c.specs.declared.table.CodraskTable.{CodraskTable}
 use Rattle.vx_c.specs.Tables.{NodeFault, too_many_nodes, too_many_steps, refused, column_of}
 use Rattle.vx_c.specs.Answers.{IsFormFault, IsTableFault, error_place, node_error_number, node_error_place, fault_of}
 use Rattle.vx_c.specs.Steps.{IsStepOf, step_form_fault}
-use Rattle.vx_c.specs.Unflagged.{least_count, node_count}
+use Rattle.vx_c.specs.Unflagged.{unflagged, least_count, node_count}
 
 -- ---- what is run
 
@@ -43,10 +42,14 @@ AreSteps meant steps = (length meant ≤ MAX_STEPS) × AllZip IsStepOf meant ste
 
 -- ---- what is written
 
--- a table that was read is a column in plain layouts, of as many rows as this array, of its kind, and each of them the same
-abbrev pub IsReadBack : Tree → Result Tree (ℕ × NodeFault) → Type 0
-IsReadBack t (Ok r) = HasRowsOf t r × IsPlain r
-IsReadBack t (Err f) = ⊥
+-- a table that was read is a column: this array, made plain and well formed at every depth, of no more nodes than a table may
+-- have, with no flag set
+pub record IsReadBack (t : Tree) (read : Result Tree (ℕ × NodeFault)) : Type 0 where
+  pub plain : Tree
+  pub canonical : IsCanonical t plain
+  pub formed : AllFormed plain
+  pub short : node_count plain ≤ MAX_NODES
+  pub is : read ≡ Ok (unflagged plain)
 
 -- an array needs more nodes than a table may have, whatever its rows are: each plain one of its kind does
 abbrev pub kind_fault : Kind → Option NodeFault
@@ -67,8 +70,8 @@ result_fault results w =
 abbrev pub IsMadeOf : List Tree → ℕ → Result Tree (ℕ × NodeFault) → Type 0
 IsMadeOf results w read = (result_fault results w ≡ None) × IsReadBack (array_at results w) read
 
--- the tables are columns, the steps are run on them, and each table that is written, read again, is a column with the rows
--- of the array that is asked for. All arrays are well formed at every depth, the columns in front
+-- the tables are columns, the steps are run on them, and each table that is written, read again, is the array that is asked
+-- for, made plain, with no flag set. All arrays are well formed at every depth, the columns in front
 pub record IsMade (tables : List CodraskTable) (steps : List CodraskStep) (wanted : List ℕ) (made : List CodraskTable) : Type 0 where
   pub columns : List Tree
   pub are : AreColumns tables columns
