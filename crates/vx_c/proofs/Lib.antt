@@ -8,6 +8,8 @@ pub mod Names
 pub mod Unflagged
 pub mod WrittenTables
 pub mod WrittenLayouts
+pub mod PackedBytes
+pub mod TablesRead
 pub mod SameNodes
 pub mod Moved
 pub mod Sixteen

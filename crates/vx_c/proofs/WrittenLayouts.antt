@@ -45,7 +45,7 @@ use Rattle.vx_c.proofs.WrittenTables.{parts-written, leaf-written, none_written,
 
 -- ---- kinds and counts
 
-known : (k : NodeKind) → kind_numbered (kind_number k) ≡ Some k
+pub known : (k : NodeKind) → kind_numbered (kind_number k) ≡ Some k
 known bool_kind = refl
 known (Number U8) = refl
 known (Number U16) = refl
@@ -105,7 +105,7 @@ bools_written w bits v old new node fits put =
 
 -- ---- numbers
 
-whole_none : (t : PType) (bs : List ℕ) (n : ℕ) → length bs ≡ n * byte_width t → whole_fault t bs ≡ None
+pub whole_none : (t : PType) (bs : List ℕ) (n : ℕ) → length bs ≡ n * byte_width t → whole_fault t bs ≡ None
 whole_none t bs n exact = rest
   where
     divided : (p : PType) → length bs ≡ n * byte_width p → length bs % byte_width p ≡ 0
@@ -138,7 +138,7 @@ numbers_written w t bs v old new kind number bytes len formed put =
 
 -- ---- lists of one size
 
-count_none : (count size len : ℕ) → count ≡ len * size → count < 2 ^ 64 → element_count_fault count size len ≡ None
+pub count_none : (count size len : ℕ) → count ≡ len * size → count < 2 ^ 64 → element_count_fault count size len ≡ None
 count_none count zero len is short = let none : count ≡ 0 = omega (arith, is) in search (rules, arith, none)
 count_none count (suc k) len is short = let fits : len * suc k < 2 ^ 64 = omega (arith, is, short) in search (rules, arith, fits, is)
 
@@ -194,7 +194,7 @@ counts_none t counts = ap (λ b. if b then None else Some mismatched_types) (ap 
 sizes_none : (o s : Tree) → tree_len s ≡ tree_len o → sizes_len_fault (unflagged o) (unflagged s) ≡ None
 sizes_none o s same = let len : tree_len (unflagged s) ≡ tree_len (unflagged o) = kept_len s ∙ same ∙ sym (kept_len o) in search (rules, arith, len)
 
-lists_none : (e o s : Tree) (v : Valid) (f : Bool) → WellFormed (list_view e o s v f) → tree_len e < 2 ^ 64
+pub lists_none : (e o s : Tree) (v : Valid) (f : Bool) → WellFormed (list_view e o s v f) → tree_len e < 2 ^ 64
     → list_view_fault (unflagged e) (unflagged o) (unflagged s) (unflagged_valid v) ≡ None
 lists_none e o s v f formed short =
     let u = unflagged_valid v in
@@ -253,11 +253,11 @@ pub column_count-from : (cs : List Tree) → column_count (trees_from cs) ≡ le
 column_count-from [] = refl
 column_count-from (c ∷ cs) = omega (arith, column_count-from cs)
 
-length-unflagged : (cs : List Tree) → length (map unflagged cs) ≡ length cs
+pub length-unflagged : (cs : List Tree) → length (map unflagged cs) ≡ length cs
 length-unflagged [] = refl
 length-unflagged (c ∷ cs) = ap suc (length-unflagged cs)
 
-struct_none : (names : List (List ℕ)) (cs : List Tree) (v : Valid) (n m : ℕ) → WellFormed (structure names (trees_from cs) v n) → m ≡ n
+pub struct_none : (names : List (List ℕ)) (cs : List Tree) (v : Valid) (n m : ℕ) → WellFormed (structure names (trees_from cs) v n) → m ≡ n
     → struct_fault names (map unflagged cs) (unflagged_valid v) m ≡ None
 struct_none names cs v n m formed same =
     or_else-second (length_fault (length names) (length (map unflagged cs))) (columns_fault (map unflagged cs) (unflagged_valid v) m) None one
@@ -270,7 +270,7 @@ struct_none names cs v n m formed same =
     one = search (rules, arith, len)
 
 -- records of columns before others
-records-read : (n : CodraskNode) (u : Valid) (cs others : List Tree) → length cs ≡ length (buffers_in n)
+pub records-read : (n : CodraskNode) (u : Valid) (cs others : List Tree) → length cs ≡ length (buffers_in n)
     → or_else (names_fault (buffers_in n)) (struct_fault (buffers_in n) cs u n.length) ≡ None
     → records_made n u (cs ++ others) ≡ Ok (structure (buffers_in n) (trees_from cs) u n.length, others)
 records-read n u cs others len none =
@@ -379,7 +379,7 @@ values-made n vs bs k v others views buffers formed =
     (λ j. view_array (sym (emptied_same vs bs k v formed) j) bs k u) ∙ (λ j. array_of_views (sym views j) (sym buffers j) k u) in
     made_by (view_array_fault (views_in n) (buffers_in n) k u) (array_of_views (views_in n) (buffers_in n) k u) (view_array vs bs k u) others none same
 
-values-layout : (b : Bool) (n : CodraskNode) (vs bs : List (List ℕ)) (k : Kind) (v : Valid) (others : List Tree) → is_texts k ≡ b → views_in n ≡ vs → buffers_in n ≡ bs
+pub values-layout : (b : Bool) (n : CodraskNode) (vs bs : List (List ℕ)) (k : Kind) (v : Valid) (others : List Tree) → is_texts k ≡ b → views_in n ≡ vs → buffers_in n ≡ bs
     → WellFormed (view_array vs bs k v) → layout_made (view_kind b) n (unflagged_valid v) others ≡ Ok (view_array vs bs k (unflagged_valid v), others)
 values-layout true n vs bs k v others is views buffers formed =
     let kinds : texts (nullable (unflagged_valid v)) ≡ k = (λ j. texts (kept_nullable v j)) ∙ sym (formed.1.kind ∙ ap (λ b. value_kind b (nullable v)) is) in
@@ -409,7 +409,7 @@ pub parent_put : (w : WrittenNode) (k : NodeKind) (size len : ℕ) (names : List
 parent_put w k size len names v old new kind number sized long named put =
     record { node = w; kind = kind; validity = number; size_is = sized; len_is = long; names_are = named; put = put }
 
-bits_none : (bytes : List ℕ) (from len : ℕ) → from + len ≤ 8 * length bytes → from + len < 2 ^ 64 → bits_fault bytes from len ≡ None
+pub bits_none : (bytes : List ℕ) (from len : ℕ) → from + len ≤ 8 * length bytes → from + len < 2 ^ 64 → bits_fault bytes from len ≡ None
 bits_none bytes from len inside counted = search (rules, arith, inside, counted)
 
 pub bits_node : (w : WrittenNode) (bits : List Bool) (number offset len : ℕ) (bytes : List ℕ) → w.kind ≡ bool_kind → w.validity ≡ number → w.offset ≡ offset → w.length ≡ len

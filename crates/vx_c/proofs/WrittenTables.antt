@@ -16,10 +16,10 @@ use Rattle.vx_c.proofs.Nodes.{node-made}
 
 -- ---- tables
 
-tables-none : AreTablesOf [] []
+pub tables-none : AreTablesOf [] []
 tables-none = λ i rest others h. ap (λ k. arrays_from k rest) (sym (zero-add i)) ∙ h
 
-tables-both : (ns ms : List CodraskNode) (ts us : List Tree) → AreTablesOf ns ts → AreTablesOf ms us → AreTablesOf (ns ++ ms) (ts ++ us)
+pub tables-both : (ns ms : List CodraskNode) (ts us : List Tree) → AreTablesOf ns ts → AreTablesOf ms us → AreTablesOf (ns ++ ms) (ts ++ us)
 tables-both ns ms ts us first second = λ i rest others h.
     let at : length ms + (length ns + i) ≡ length (ns ++ ms) + i = omega (arith, length-append ns ms) in
     let behind = second (length ns + i) rest others (ap (λ k. arrays_from k rest) at ∙ h) in
@@ -85,13 +85,19 @@ valid-read all_valid others = refl
 valid-read all_invalid others = refl
 valid-read (by_array t) others = refl
 
-node-read : (n : CodraskNode) (k : NodeKind) (v : Valid) (us others : List Tree) (t : Tree) → kind_numbered n.kind ≡ Some k → n.validity ≡ valid_number v
+pub node-read : (n : CodraskNode) (k : NodeKind) (v : Valid) (us others : List Tree) (t : Tree) → kind_numbered n.kind ≡ Some k → n.validity ≡ valid_number v
     → layout_made k n v (us ++ others) ≡ Ok (t, others) → tree_len t ≡ n.length → node_made n ((valid_trees v ++ us) ++ others) ≡ Ok (t ∷ others)
 node-read n k v us others t known number made len =
     let validity : valid_of_number n.validity (valid_trees v ++ (us ++ others)) ≡ Ok (v, us ++ others) =
     ap (λ x. valid_of_number x (valid_trees v ++ (us ++ others))) number ∙ valid-read v (us ++ others) in
     ap (node_made n) (append_assoc (valid_trees v) us others)
     ∙ node-made n (valid_trees v ++ (us ++ others)) (us ++ others) others k v t known validity made len
+
+pub valid_number-kept : (v : Valid) → valid_number v ≡ valid_number (unflagged_valid v)
+valid_number-kept non_nullable = refl
+valid_number-kept all_valid = refl
+valid_number-kept all_invalid = refl
+valid_number-kept (by_array t) = refl
 
 -- an array whose node, validity and parts were put after some nodes
 pub parts-written : (w : WrittenNode) (k : NodeKind) (v : Valid) (old mid new : List WrittenNode) (us : List Tree) (t : Tree)
@@ -102,13 +108,7 @@ parts-written w k v old mid new us t known number put parts made len count =
     let u = unflagged_valid v in
     let all : IsWritten put.mid (valid_trees u ++ us) new = written-both put.mid mid new (valid_trees u) us put.valid parts in
     written-node w old put.mid new (valid_trees u ++ us) t put.first all
-    (λ others. node-read (node_of w) k u us others t known (number ∙ same_number v) (made others) len) count
-  where
-    same_number : (x : Valid) → valid_number x ≡ valid_number (unflagged_valid x)
-    same_number non_nullable = refl
-    same_number all_valid = refl
-    same_number all_invalid = refl
-    same_number (by_array m) = refl
+    (λ others. node-read (node_of w) k u us others t known (number ∙ valid_number-kept v) (made others) len) count
 
 pub leaf-written : (w : WrittenNode) (k : NodeKind) (v : Valid) (old new : List WrittenNode) (t : Tree)
     → kind_numbered (node_of w).kind ≡ Some k → w.validity ≡ valid_number v → IsPut w v old new

@@ -5,4 +5,6 @@ pub mod Answers
 pub mod Steps
 pub mod Unflagged
 pub mod Written
+pub mod TablesOf
+pub mod WorkedTables
 pub mod Runs

@@ -1,12 +1,18 @@
 //! Laws of tables. The functions do nothing: their contracts are the laws.
 
-ghost use Rattle.std.specs.Prelude.{Ok};
+ghost use Rattle.std.specs.Prelude.{◌≡◌, Ok, Some};
+ghost use Rattle.vx_base.specs.Refusals.{out_of_bounds};
 ghost use Rattle.vx_canonical.specs.Canonical.{HasRowsOf};
 ghost use Rattle.vx_tree.specs.Fitting.{AllFormed};
 ghost use Rattle.vx_tree.specs.Plain.{IsPlain};
 ghost use Rattle.vx_tree.specs.Tree.{Tree};
+ghost use Rattle.vx_tree.specs.Worked.{signed_numbers, some_booleans, overlapping_lists};
 ghost use Rattle.vx_c.specs.Runs.{IsReadBack};
+ghost use Rattle.vx_c.specs.Tables.{column_of, table_fault, refused, unknown_kind, missing_nodes, not_one_array};
+ghost use Rattle.vx_c.specs.TablesOf.{TablesAreRead};
 ghost use Rattle.vx_c.specs.Unflagged.{IsLeastCount, unflagged};
+ghost use Rattle.vx_c.specs.WorkedTables.{numbers_table, nulls_table, overlapping_table, long_list_table};
+ghost use Rattle.vx_c.specs.WorkedTables.{two_faults_table, lone_list_table, two_columns_table};
 
 /// The table of a plain array has no fewer nodes than the least of its kind: where these are more
 /// than a table may have, no plain array of the same rows has a table.
@@ -23,4 +29,22 @@ pub fn tables_are_read_back_with_their_rows()
     ensures plain { (t : Tree) → IsPlain t → IsPlain (unflagged t) }
     ensures formed { (t : Tree) → AllFormed t → AllFormed (unflagged t) }
     ensures read { (t r : Tree) → IsReadBack t (Ok r) → HasRowsOf t r × IsPlain r × AllFormed r }
+{}
+
+/// Small tables are the arrays, and have the faults, that were worked by hand: the fault is that of
+/// the last node that has one.
+pub fn worked_tables_are_their_arrays()
+    ensures numbers { column_of numbers_table ≡ Ok signed_numbers }
+    ensures nulls { column_of nulls_table ≡ Ok some_booleans }
+    ensures lists { column_of overlapping_table ≡ Ok overlapping_lists }
+    ensures past_the_elements { table_fault long_list_table ≡ Some (0, refused (out_of_bounds 5)) }
+    ensures last_first { table_fault two_faults_table ≡ Some (1, unknown_kind) }
+    ensures no_parts { table_fault lone_list_table ≡ Some (0, missing_nodes) }
+    ensures two_columns { table_fault two_columns_table ≡ Some (0, not_one_array) }
+{}
+
+/// The table of a plain array is the column that is the array without its flags: each plain array
+/// that a machine holds, of no more nodes than a table may have, has a table.
+pub fn tables_of_plain_arrays_are_read()
+    ensures { TablesAreRead }
 {}
