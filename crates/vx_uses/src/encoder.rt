@@ -59,8 +59,8 @@ pub fn flagged_dictionary(
     Ok(dictionary.set_all_values_referenced(alloc, in_use)?)
 }
 
-/// The values of a dictionary that some valid code names, in their order, and how many codes were
-/// read to tell them: where the first of many codes name all values, no more are. Of the codes 0, 2,
+/// The values of a dictionary that some valid code names, in their order, and the end of the scan
+/// that tells them: where the first of many codes name all values, it ends early. Of the codes 0, 2,
 /// 0 into the values 5, 6, 9 these are 5, 9. Fails only for want of memory.
 pub fn values_in_use(
     alloc: Global,
