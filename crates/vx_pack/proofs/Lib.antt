@@ -8,3 +8,4 @@ pub mod RecordRows
 pub mod SameParts
 pub mod Tests
 pub mod SameBytes
+pub mod OneRow

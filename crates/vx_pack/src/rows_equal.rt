@@ -15,10 +15,12 @@ pub trait RowsEqual {
     /// Nullability is part of the data type, at every depth, and so are the names of records. Two
     /// nulls are equal, and null is equal to nothing else. What lies under a null row, elements of
     /// no list, bytes of no text and bits after the last row never count. Takes no memory, and so
-    /// never fails. Ends at the first difference; else it looks at each row once: numbers of which
-    /// none is null are compared as bytes, all at once. Where the layouts of both say that all
-    /// their rows are one, as those of a constant and of a dictionary whose codes are all one, only
-    /// the first row of each is looked at.
+    /// never fails. Ends at the first difference; else it looks at each row once, numbers of which
+    /// none is null as bytes, all at once. Where the layouts of both say that all their rows are
+    /// one, the first row of each decides, however many there are: those of a constant, of a
+    /// dictionary whose codes are such, and, where the state says that none is null, of lists and
+    /// records of such parts. The lists `[3, 4]`, `[1]`, null are equal wherever they lie among
+    /// their elements, and differ from `[3, 4]`, `[1]`, `[]`.
     fn rows_equal(&self, other: &Self) -> bool;
 }
 

@@ -22,7 +22,7 @@ pub(crate) fn same_rows(dtype: &DType, a: Part, b: Part) -> bool
     requires same_len { part_len b ≡ part_len a }
     ensures { IsTrue result ↔ AreSame (dtype_meaning dtype.now) a.entry b.entry }
 {
-    if a.has_one_row() && b.has_one_row() {
+    if a.len() > 1 && a.has_one_row() && b.has_one_row() {
         return same_by_kind(dtype, a.first(), b.first());
     }
     same_by_kind(dtype, a, b)

@@ -2,10 +2,14 @@
 
 use std::process::Abort;
 use vx_pack::RowsEqual;
+use vx_pack::laws::{
+    arrays_equal_themselves, equal_rows_are_equal_from_both_sides, equal_rows_are_equal_in_turn,
+};
+use vx_test_help::samples::{dictionary, lists, records};
 use vx_tree::ArrayRef;
 
-mod fixed_size_lists;
-mod list_views;
+mod layouts;
+mod lists;
 mod many_rows;
 mod numbers;
 mod records;
@@ -29,4 +33,14 @@ fn expect_others(rt: &impl Abort, arrays: &[ArrayRef], others: &[ArrayRef]) {
             assert!(rt; !other.rows_equal(array), "{j} beside {i}");
         }
     }
+}
+
+#[test]
+fn laws(rt: HostRuntime) {
+    let lists = lists(rt.alloc()).expect(&rt, "made");
+    let records = records(rt.alloc()).expect(&rt, "made");
+    let dictionary = dictionary(rt.alloc()).expect(&rt, "made");
+    assert!(rt; arrays_equal_themselves(&lists));
+    assert!(rt; equal_rows_are_equal_from_both_sides(&lists, &records));
+    assert!(rt; equal_rows_are_equal_in_turn(&records, &records, &dictionary));
 }

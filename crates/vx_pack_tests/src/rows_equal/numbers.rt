@@ -1,106 +1,51 @@
 // Numbers.
 
+use super::layouts::{counts, named, same_counts};
 use super::{expect_equal, expect_others};
 use std::alloc::Global;
-use vx_base::{Nullability, PType, Scalar, VortexError};
-use vx_test_help::{bools, numbers};
-use vx_tree::{ArrayRef, Validity};
+use vx_base::VortexError;
+use vx_test_help::{bools, ints};
+use vx_tree::ArrayRef;
 
 // The number 5, null, and the number 5 again, of type u8.
 fn some_numbers(alloc: Global) -> Result<Vec<ArrayRef>, VortexError> {
     let mut made = Vec::new(alloc);
-    made.push(numbers(
-        alloc,
-        PType::U8,
-        &[5, 0, 5],
-        Validity::Array(bools(alloc, &[true, false, true])?),
-    )?)?;
+    made.push(counts(alloc, &[5, 0, 5])?.mask(alloc, &bools(alloc, &[true, false, true])?)?)?;
     // Another byte lies below the null.
-    made.push(numbers(
-        alloc,
-        PType::U8,
-        &[5, 9, 5],
-        Validity::Array(bools(alloc, &[true, false, true])?),
-    )?)?;
-    // A slice.
-    let mask = Validity::Array(bools(alloc, &[false, true, false, true, true])?);
-    let longer = numbers(alloc, PType::U8, &[7, 5, 1, 5, 8], mask)?;
+    made.push(counts(alloc, &[5, 9, 5])?.mask(alloc, &bools(alloc, &[true, false, true])?)?)?;
+    // A part of more rows.
+    let longer = counts(alloc, &[7, 5, 1, 5, 8])?;
+    let longer = longer.mask(alloc, &bools(alloc, &[false, true, false, true, true])?)?;
     made.push(longer.slice(alloc, 1..4)?)?;
-    // A null code.
-    let codes = numbers(
+    // A null code, and a null value.
+    let codes = ints::<i16>(alloc, &[0, 1, 0])?.mask(alloc, &bools(alloc, &[true, false, true])?)?;
+    made.push(named(alloc, codes, counts(alloc, &[5, 6])?)?)?;
+    let values = counts(alloc, &[5, 6, 5])?.mask(alloc, &bools(alloc, &[true, false, true])?)?;
+    made.push(named(alloc, counts(alloc, &[2, 1, 0])?, values)?)?;
+    // A validity that is a dictionary, and rows that are all one but for null.
+    let valid = named(
         alloc,
-        PType::I16,
-        &[0, 0, 3, 0, 0, 0],
-        Validity::Array(bools(alloc, &[true, false, true])?),
+        counts(alloc, &[1, 0, 1])?,
+        bools(alloc, &[false, true])?,
     )?;
-    let values = numbers(alloc, PType::U8, &[5], Validity::NonNullable)?;
-    made.push(ArrayRef::dictionary(alloc, codes, values, false)?)?;
-    // A null value.
-    let codes = numbers(alloc, PType::U8, &[2, 0, 1], Validity::NonNullable)?;
-    let values = numbers(
-        alloc,
-        PType::U8,
-        &[6, 5, 5],
-        Validity::Array(bools(alloc, &[false, true, true])?),
-    )?;
-    made.push(ArrayRef::dictionary(alloc, codes, values, false)?)?;
-    // A validity that is a dictionary.
-    let codes = numbers(alloc, PType::U8, &[1, 0, 1], Validity::NonNullable)?;
-    let truths = ArrayRef::dictionary(alloc, codes, bools(alloc, &[false, true])?, false)?;
-    made.push(numbers(alloc, PType::U8, &[5, 5, 5], Validity::Array(truths))?)?;
-    // Rows that a mask makes null.
-    let fives = ArrayRef::constant(
-        alloc,
-        Scalar::int(5, PType::U8, Nullability::NonNullable),
-        3,
-    )?;
-    made.push(fives.mask(alloc, &bools(alloc, &[true, false, true])?)?)?;
+    made.push(counts(alloc, &[5, 5, 5])?.mask(alloc, &valid)?)?;
+    made.push(same_counts(alloc, 5, 3)?.mask(alloc, &bools(alloc, &[true, false, true])?)?)?;
     Ok(made)
 }
 
-// Numbers that differ from them in one thing.
-fn other_numbers(alloc: Global) -> Result<Vec<ArrayRef>, VortexError> {
+// Rows that differ from them in one thing.
+fn other_some_numbers(alloc: Global) -> Result<Vec<ArrayRef>, VortexError> {
     let mut made = Vec::new(alloc);
-    let ptype = PType::U8;
-    // Another number.
-    made.push(numbers(
-        alloc,
-        ptype,
-        &[5, 0, 6],
-        Validity::Array(bools(alloc, &[true, false, true])?),
-    )?)?;
+    // A number.
+    made.push(counts(alloc, &[5, 0, 6])?.mask(alloc, &bools(alloc, &[true, false, true])?)?)?;
     // No null: the default row, and the byte that lies below a null.
-    made.push(numbers(alloc, ptype, &[5, 0, 5], Validity::AllValid)?)?;
-    made.push(numbers(alloc, ptype, &[5, 9, 5], Validity::AllValid)?)?;
+    made.push(counts(alloc, &[5, 0, 5])?.mask(alloc, &bools(alloc, &[true, true, true])?)?)?;
+    made.push(counts(alloc, &[5, 9, 5])?.mask(alloc, &bools(alloc, &[true, true, true])?)?)?;
     // A null more.
-    made.push(numbers(
-        alloc,
-        ptype,
-        &[5, 0, 5],
-        Validity::Array(bools(alloc, &[true, false, false])?),
-    )?)?;
-    made.push(numbers(alloc, ptype, &[5, 0, 5], Validity::AllInvalid)?)?;
-    // Another length.
-    made.push(numbers(
-        alloc,
-        ptype,
-        &[5, 0],
-        Validity::Array(bools(alloc, &[true, false])?),
-    )?)?;
-    made.push(numbers(
-        alloc,
-        ptype,
-        &[5, 0, 5, 0],
-        Validity::Array(bools(alloc, &[true, false, true, false])?),
-    )?)?;
-    // Another type.
-    made.push(numbers(
-        alloc,
-        PType::I8,
-        &[5, 0, 5],
-        Validity::Array(bools(alloc, &[true, false, true])?),
-    )?)?;
-    // A validity as rows.
+    made.push(counts(alloc, &[5, 0, 5])?.mask(alloc, &bools(alloc, &[true, false, false])?)?)?;
+    // The length, the type, and rows of another kind.
+    made.push(counts(alloc, &[5, 0])?.mask(alloc, &bools(alloc, &[true, false])?)?)?;
+    made.push(ints::<i8>(alloc, &[5, 0, 5])?.mask(alloc, &bools(alloc, &[true, false, true])?)?)?;
     made.push(bools(alloc, &[true, false, true])?)?;
     Ok(made)
 }
@@ -108,7 +53,7 @@ fn other_numbers(alloc: Global) -> Result<Vec<ArrayRef>, VortexError> {
 #[test]
 fn some_numbers_in_all_layouts(rt: HostRuntime) {
     let made = some_numbers(rt.alloc()).expect(&rt, "made");
-    let others = other_numbers(rt.alloc()).expect(&rt, "made");
+    let others = other_some_numbers(rt.alloc()).expect(&rt, "made");
     expect_equal(&rt, made.as_slice());
     expect_others(&rt, made.as_slice(), others.as_slice());
 }
@@ -116,39 +61,30 @@ fn some_numbers_in_all_layouts(rt: HostRuntime) {
 // The numbers 258, -2, 258 of type i32.
 fn signed_numbers(alloc: Global) -> Result<Vec<ArrayRef>, VortexError> {
     let mut made = Vec::new(alloc);
-    let bytes = [2, 1, 0, 0, 254, 255, 255, 255, 2, 1, 0, 0];
-    made.push(numbers(alloc, PType::I32, &bytes, Validity::NonNullable)?)?;
-    let longer = [
-        9, 9, 9, 9, 2, 1, 0, 0, 254, 255, 255, 255, 2, 1, 0, 0, 9, 9, 9, 9,
-    ];
-    let longer = numbers(alloc, PType::I32, &longer, Validity::NonNullable)?;
-    made.push(longer.slice(alloc, 1..4)?)?;
-    let codes = numbers(alloc, PType::U8, &[1, 0, 1], Validity::NonNullable)?;
-    let values = numbers(
+    made.push(ints::<i32>(alloc, &[258, -2, 258])?)?;
+    made.push(ints::<i32>(alloc, &[9, 258, -2, 258, 9])?.slice(alloc, 1..4)?)?;
+    made.push(named(
         alloc,
-        PType::I32,
-        &[254, 255, 255, 255, 2, 1, 0, 0],
-        Validity::NonNullable,
-    )?;
-    made.push(ArrayRef::dictionary(alloc, codes, values, true)?)?;
+        counts(alloc, &[1, 0, 1])?,
+        ints::<i32>(alloc, &[-2, 258])?,
+    )?)?;
     Ok(made)
 }
 
-// Numbers that differ from them in one thing.
+// Rows that differ from them in one thing.
 fn other_signed_numbers(alloc: Global) -> Result<Vec<ArrayRef>, VortexError> {
     let mut made = Vec::new(alloc);
-    let last = [2, 1, 0, 0, 254, 255, 255, 255, 2, 1, 0, 1];
-    made.push(numbers(alloc, PType::I32, &last, Validity::NonNullable)?)?;
-    let first = [3, 1, 0, 0, 254, 255, 255, 255, 2, 1, 0, 0];
-    made.push(numbers(alloc, PType::I32, &first, Validity::NonNullable)?)?;
-    let bytes = [2, 1, 0, 0, 254, 255, 255, 255, 2, 1, 0, 0];
+    made.push(ints::<i32>(alloc, &[258, -2, 259])?)?;
+    made.push(ints::<i32>(alloc, &[257, -2, 258])?)?;
+    made.push(ints::<i32>(alloc, &[258, -2])?)?;
     // Null may stand.
-    made.push(numbers(alloc, PType::I32, &bytes, Validity::AllValid)?)?;
-    // Without a sign.
-    made.push(numbers(alloc, PType::U32, &bytes, Validity::NonNullable)?)?;
+    made.push(ints::<i32>(alloc, &[258, -2, 258])?.mask(
+        alloc,
+        &bools(alloc, &[true, true, true])?,
+    )?)?;
     // The same bytes as other numbers.
-    made.push(numbers(alloc, PType::I16, &bytes, Validity::NonNullable)?)?;
-    made.push(numbers(alloc, PType::I32, &[], Validity::NonNullable)?)?;
+    made.push(ints::<u32>(alloc, &[258, 4294967294, 258])?)?;
+    made.push(ints::<i64>(alloc, &[258, -2, 258])?)?;
     Ok(made)
 }
 
@@ -160,47 +96,33 @@ fn signed_numbers_in_all_layouts(rt: HostRuntime) {
     expect_others(&rt, made.as_slice(), others.as_slice());
 }
 
-// The number 5 three times, null nowhere allowed.
+// The number 5 three times, where no null may stand.
 fn same_numbers(alloc: Global) -> Result<Vec<ArrayRef>, VortexError> {
     let mut made = Vec::new(alloc);
-    let five = Scalar::int(5, PType::U8, Nullability::NonNullable);
-    made.push(ArrayRef::constant(alloc, five, 3)?)?;
-    made.push(numbers(alloc, PType::U8, &[5, 5, 5], Validity::NonNullable)?)?;
-    let codes = numbers(alloc, PType::U8, &[1, 0, 1], Validity::NonNullable)?;
-    let values = numbers(alloc, PType::U8, &[5, 5], Validity::NonNullable)?;
-    made.push(ArrayRef::dictionary(alloc, codes, values, false)?)?;
-    let zero = Scalar::int(0, PType::U32, Nullability::NonNullable);
-    let codes = ArrayRef::constant(alloc, zero, 3)?;
-    let values = numbers(alloc, PType::U8, &[5, 6], Validity::NonNullable)?;
-    made.push(ArrayRef::dictionary(alloc, codes, values, false)?)?;
+    made.push(same_counts(alloc, 5, 3)?)?;
+    made.push(counts(alloc, &[5, 5, 5])?)?;
+    made.push(named(alloc, counts(alloc, &[1, 0, 1])?, counts(alloc, &[5, 5])?)?)?;
+    made.push(named(alloc, same_counts(alloc, 0, 3)?, counts(alloc, &[5, 6])?)?)?;
     // A dictionary of a dictionary.
-    let codes = numbers(alloc, PType::U8, &[1, 1], Validity::NonNullable)?;
-    let values = numbers(alloc, PType::U8, &[6, 5], Validity::NonNullable)?;
-    let inner = ArrayRef::dictionary(alloc, codes, values, false)?;
-    let codes = numbers(alloc, PType::U8, &[0, 1, 0], Validity::NonNullable)?;
-    made.push(ArrayRef::dictionary(alloc, codes, inner, false)?)?;
+    let inner = named(alloc, counts(alloc, &[1, 1])?, counts(alloc, &[6, 5])?)?;
+    made.push(named(alloc, counts(alloc, &[0, 1, 0])?, inner)?)?;
     Ok(made)
 }
 
-// Numbers that differ from them in one thing.
+// Rows that differ from them in one thing.
 fn other_same_numbers(alloc: Global) -> Result<Vec<ArrayRef>, VortexError> {
     let mut made = Vec::new(alloc);
-    let six = Scalar::int(6, PType::U8, Nullability::NonNullable);
-    made.push(ArrayRef::constant(alloc, six, 3)?)?;
-    let five = Scalar::int(5, PType::U8, Nullability::NonNullable);
-    made.push(ArrayRef::constant(alloc, five, 4)?)?;
-    let five = Scalar::int(5, PType::U8, Nullability::Nullable);
-    made.push(ArrayRef::constant(alloc, five, 3)?)?;
-    made.push(numbers(alloc, PType::U8, &[5, 5, 6], Validity::NonNullable)?)?;
-    made.push(numbers(alloc, PType::U8, &[6, 5, 5], Validity::NonNullable)?)?;
-    let codes = numbers(alloc, PType::U8, &[1, 0, 1], Validity::NonNullable)?;
-    let values = numbers(alloc, PType::U8, &[6, 5], Validity::NonNullable)?;
-    made.push(ArrayRef::dictionary(alloc, codes, values, false)?)?;
+    made.push(same_counts(alloc, 6, 3)?)?;
+    made.push(same_counts(alloc, 5, 4)?)?;
+    made.push(counts(alloc, &[5, 5, 6])?)?;
+    made.push(counts(alloc, &[6, 5, 5])?)?;
+    made.push(named(alloc, counts(alloc, &[1, 0, 1])?, counts(alloc, &[6, 5])?)?)?;
+    made.push(counts(alloc, &[5, 5, 5])?.mask(alloc, &bools(alloc, &[true, true, true])?)?)?;
     Ok(made)
 }
 
 #[test]
-fn numbers_that_are_all_one(rt: HostRuntime) {
+fn same_numbers_in_all_layouts(rt: HostRuntime) {
     let made = same_numbers(rt.alloc()).expect(&rt, "made");
     let others = other_same_numbers(rt.alloc()).expect(&rt, "made");
     expect_equal(&rt, made.as_slice());

@@ -3,12 +3,11 @@
 ghost use Rattle.std.specs.Prelude.{◌≡◌, length, IfOk};
 ghost use Rattle.vx_tree.specs.Meaning.{tree_len};
 
+use super::layouts::{counts, named};
 use super::{expect_equal, expect_others};
 use std::alloc::Global;
-use vx_base::{
-    Buffer, ByteBuffer, DType, Mask, Nullability, PType, Scalar, ScalarValue, VortexError,
-};
-use vx_test_help::{bools, numbers};
+use vx_base::{Buffer, ByteBuffer, DType, Mask, Nullability, Scalar, ScalarValue, VortexError};
+use vx_test_help::bools;
 use vx_tree::{ArrayRef, Validity};
 use vx_views::{BinaryView, check_views};
 
@@ -80,18 +79,15 @@ fn some_texts(alloc: Global) -> Result<Vec<ArrayRef>, VortexError> {
     let longer = texts(alloc, &[no, hi, no, moved, no], two(alloc)?)?;
     made.push(longer.slice(alloc, 1..4)?.mask(alloc, &mask)?)?;
     // A null code.
-    let codes = numbers(
+    let codes = counts(alloc, &[1, 0, 2])?.mask(alloc, &mask)?;
+    made.push(named(
         alloc,
-        PType::U8,
-        &[1, 0, 2],
-        Validity::Array(bools(alloc, &[true, false, true])?),
-    )?;
-    let values = texts(alloc, &[no, hi, long], one(alloc, LONG)?)?;
-    made.push(ArrayRef::dictionary(alloc, codes, values, false)?)?;
+        codes,
+        texts(alloc, &[no, hi, long], one(alloc, LONG)?)?,
+    )?)?;
     // A null value.
-    let codes = numbers(alloc, PType::U8, &[0, 1, 2], Validity::NonNullable)?;
     let values = texts(alloc, &[hi, hi, long], one(alloc, LONG)?)?.mask(alloc, &mask)?;
-    made.push(ArrayRef::dictionary(alloc, codes, values, true)?)?;
+    made.push(named(alloc, counts(alloc, &[0, 1, 2])?, values)?)?;
     Ok(made)
 }
 
@@ -140,9 +136,8 @@ fn same_texts(alloc: Global) -> Result<Vec<ArrayRef>, VortexError> {
     made.push(texts(alloc, &[long, long], one(alloc, LONG)?)?)?;
     made.push(texts(alloc, &[moved, moved], two(alloc)?)?)?;
     // The values are a constant.
-    let codes = numbers(alloc, PType::U8, &[6, 2], Validity::NonNullable)?;
     let values = ArrayRef::constant(alloc, text(alloc, LONG, plain)?, 7)?;
-    made.push(ArrayRef::dictionary(alloc, codes, values, false)?)?;
+    made.push(named(alloc, counts(alloc, &[6, 2])?, values)?)?;
     Ok(made)
 }
 

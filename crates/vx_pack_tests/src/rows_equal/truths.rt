@@ -1,38 +1,64 @@
 // Truth values.
 
+use super::layouts::{counts, named};
 use super::{expect_equal, expect_others};
 use std::alloc::Global;
-use vx_base::{BitBuffer, Nullability, PType, Scalar, VortexError};
-use vx_test_help::{bools, numbers, some_bools};
-use vx_tree::{ArrayRef, Validity};
+use vx_base::{Nullability, Scalar, VortexError};
+use vx_test_help::bools;
+use vx_tree::ArrayRef;
 
 // True, null, false.
 fn some_truths(alloc: Global) -> Result<Vec<ArrayRef>, VortexError> {
     let mut made = Vec::new(alloc);
-    made.push(some_bools(alloc, &[true, false, false], &[true, false, true])?)?;
+    made.push(bools(alloc, &[true, false, false])?.mask(
+        alloc,
+        &bools(alloc, &[true, false, true])?,
+    )?)?;
     // Another bit lies below the null.
-    made.push(some_bools(alloc, &[true, true, false], &[true, false, true])?)?;
+    made.push(bools(alloc, &[true, true, false])?.mask(
+        alloc,
+        &bools(alloc, &[true, false, true])?,
+    )?)?;
     // Bits that do not begin a byte.
-    let mut longer = [true; 12];
-    longer[9..12].copy_from_slice(&[true, true, false]);
-    let mut valid = [true; 12];
-    valid[10] = false;
-    let longer = some_bools(alloc, &longer, &valid)?;
-    made.push(longer.slice(alloc, 9..12)?)?;
-    let codes = numbers(alloc, PType::U8, &[1, 2, 0], Validity::NonNullable)?;
-    let values = some_bools(alloc, &[false, true, true], &[true, true, false])?;
-    made.push(ArrayRef::dictionary(alloc, codes, values, false)?)?;
+    let longer = bools(
+        alloc,
+        &[
+            true, true, true, true, true, true, true, true, true, true, false,
+        ],
+    )?;
+    made.push(
+        longer
+            .slice(alloc, 8..11)?
+            .mask(alloc, &bools(alloc, &[true, false, true])?)?,
+    )?;
+    let values = bools(alloc, &[false, true, true])?.mask(
+        alloc,
+        &bools(alloc, &[true, false, true])?,
+    )?;
+    made.push(named(alloc, counts(alloc, &[2, 1, 0])?, values)?)?;
     Ok(made)
 }
 
-// Truth values that differ from them in one thing.
-fn other_truths(alloc: Global) -> Result<Vec<ArrayRef>, VortexError> {
+// Rows that differ from them in one thing.
+fn other_some_truths(alloc: Global) -> Result<Vec<ArrayRef>, VortexError> {
     let mut made = Vec::new(alloc);
-    made.push(some_bools(alloc, &[true, false, true], &[true, false, true])?)?;
-    // Null and the default row.
-    made.push(some_bools(alloc, &[true, false, false], &[true, true, true])?)?;
-    made.push(some_bools(alloc, &[true, false, false], &[true, false, false])?)?;
-    made.push(some_bools(alloc, &[true, false], &[true, false])?)?;
+    made.push(bools(alloc, &[true, false, true])?.mask(
+        alloc,
+        &bools(alloc, &[true, false, true])?,
+    )?)?;
+    made.push(bools(alloc, &[false, false, false])?.mask(
+        alloc,
+        &bools(alloc, &[true, false, true])?,
+    )?)?;
+    // The default row in place of null.
+    made.push(bools(alloc, &[true, false, false])?.mask(
+        alloc,
+        &bools(alloc, &[true, true, true])?,
+    )?)?;
+    made.push(bools(alloc, &[true, false, false])?.mask(
+        alloc,
+        &bools(alloc, &[true, false, false])?,
+    )?)?;
     made.push(bools(alloc, &[true, false, false])?)?;
     Ok(made)
 }
@@ -40,7 +66,7 @@ fn other_truths(alloc: Global) -> Result<Vec<ArrayRef>, VortexError> {
 #[test]
 fn some_truths_in_all_layouts(rt: HostRuntime) {
     let made = some_truths(rt.alloc()).expect(&rt, "made");
-    let others = other_truths(rt.alloc()).expect(&rt, "made");
+    let others = other_some_truths(rt.alloc()).expect(&rt, "made");
     expect_equal(&rt, made.as_slice());
     expect_others(&rt, made.as_slice(), others.as_slice());
 }
@@ -50,24 +76,26 @@ fn same_truths(alloc: Global) -> Result<Vec<ArrayRef>, VortexError> {
     let mut made = Vec::new(alloc);
     made.push(bools(alloc, &[true, true, true])?)?;
     made.push(ArrayRef::constant(alloc, Scalar::bool(true, Nullability::NonNullable), 3)?)?;
-    let zeroes = ArrayRef::zeroes(alloc, PType::U8, 3)?;
-    made.push(ArrayRef::dictionary(alloc, zeroes, bools(alloc, &[true])?, true)?)?;
+    made.push(named(
+        alloc,
+        counts(alloc, &[0, 1, 0])?,
+        bools(alloc, &[true, true])?,
+    )?)?;
     Ok(made)
 }
 
-// Truth values that differ from them in one thing.
+// Rows that differ from them in one thing.
 fn other_same_truths(alloc: Global) -> Result<Vec<ArrayRef>, VortexError> {
     let mut made = Vec::new(alloc);
     made.push(bools(alloc, &[true, true, false])?)?;
     made.push(bools(alloc, &[true, true])?)?;
-    let bits = BitBuffer::from_bools(alloc, &[true, true, true])?;
-    made.push(ArrayRef::bools(alloc, bits, Validity::AllValid)?)?;
+    made.push(ArrayRef::constant(alloc, Scalar::bool(true, Nullability::Nullable), 3)?)?;
     made.push(ArrayRef::constant(alloc, Scalar::bool(false, Nullability::NonNullable), 3)?)?;
     Ok(made)
 }
 
 #[test]
-fn truths_that_are_all_one(rt: HostRuntime) {
+fn same_truths_in_all_layouts(rt: HostRuntime) {
     let made = same_truths(rt.alloc()).expect(&rt, "made");
     let others = other_same_truths(rt.alloc()).expect(&rt, "made");
     expect_equal(&rt, made.as_slice());
