@@ -5,7 +5,7 @@ use Rattle.std.specs.Iterator.{Drains}
 use Rattle.std.proofs.lemmas.Iterator.{YieldsList, items_from_drains}
 use Rattle.std.proofs.lemmas.List.{length-map, map-id}
 use Rattle.vx_base.specs.Rows.{null, boolean, whole}
-use Rattle.vx_tree.specs.Meaning.{rows, nullable, valid_mask}
+use Rattle.vx_tree.specs.Meaning.{nullable, valid_mask}
 use Rattle.vx_tree.specs.Operations.{masked}
 use Rattle.vx_tree.specs.Tree.{bools, non_nullable, all_valid, all_invalid, by_array}
 use Rattle.vx_tree.specs.Validities.{valid_from}

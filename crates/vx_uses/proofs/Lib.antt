@@ -22,3 +22,4 @@ pub mod StoredNumbers
 pub mod FaultyCodes
 pub mod TableColumns
 pub mod FaultyLists
+pub mod CollectedTexts

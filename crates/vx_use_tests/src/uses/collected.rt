@@ -3,8 +3,8 @@
 use std::test::Fail;
 use vx_base::{DType, Nullability, PType};
 use vx_test_help::has_numbers_or_nulls;
-use vx_test_help::rows::is_truth;
-use vx_uses::collected::{numbers_or_nulls, truths_or_nulls};
+use vx_test_help::rows::{is_null, is_text, is_truth};
+use vx_uses::collected::{numbers_or_nulls, texts_or_nulls, truths_or_nulls};
 
 #[test]
 fn numbers_are_collected(rt: HostRuntime) -> Result<(), Fail> {
@@ -33,5 +33,15 @@ fn truth_values_are_collected(rt: HostRuntime) -> Result<(), Fail> {
         assert!(rt; is_truth(alloc, &column, i, *item)?);
     }
     assert!(rt; column.len() == 3);
+    Ok(())
+}
+
+#[test]
+fn texts_are_collected(rt: HostRuntime) -> Result<(), Fail> {
+    let alloc = rt.alloc();
+    let column = texts_or_nulls(alloc, &[Some("abc"), None, Some("a longer text"), Some("")])?;
+    assert!(rt; column.len() == 4);
+    assert!(rt; is_text(alloc, &column, 0, b"abc")? && is_null(alloc, &column, 1)?);
+    assert!(rt; is_text(alloc, &column, 2, b"a longer text")? && is_text(alloc, &column, 3, b"")?);
     Ok(())
 }
