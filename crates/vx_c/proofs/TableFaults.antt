@@ -1,5 +1,5 @@
 -- A table, node after node from the last, and its first fault.
-use Rattle.std.proofs.Common.{ℕ, zero, suc, ◌+◌, ◌<◌, ◌≡◌, ◌≢◌, List, [], ◌∷◌, length, drop, get_or, refl, sym, ◌∙◌, ap, subst, inl, inr, arith, rules}
+use Rattle.std.proofs.Common.{ℕ, zero, suc, ◌+◌, ◌<◌, ◌≤◌, ◌≡◌, ◌≢◌, List, [], ◌∷◌, length, drop, get_or, refl, sym, ◌∙◌, ap, subst, inl, inr, arith, rules}
 use Rattle.std.specs.Prelude.{Option, Some, None, Result, Ok, Err}
 use Rattle.std.proofs.Math.Seq.{drop-cons}
 use Rattle.vx_base.specs.declared.errors.VortexError.TheVariants.{Memory}
@@ -7,8 +7,9 @@ use Rattle.vx_tree.specs.Tree.{Tree}
 use Rattle.vx_c.specs.declared.faults.CodraskFault.{CodraskFault}
 use Rattle.vx_c.specs.declared.faults.NodeError.{NodeError}
 use Rattle.vx_c.specs.declared.faults.NodeError.TheVariants.{NotOneArray, Refused}
+use Rattle.vx_c.specs.declared.reading.TheConstants.{MAX_NODES}
 use Rattle.vx_c.specs.declared.table.CodraskNode.{CodraskNode}
-use Rattle.vx_c.specs.Tables.{NodeFault, node_made, at_node, then_node, arrays_from, only, fault_in}
+use Rattle.vx_c.specs.Tables.{NodeFault, node_made, at_node, then_node, arrays_from, only, column_of, fault_in}
 use Rattle.vx_c.specs.Answers.{fault_of, IsFaultOf, IsTableFault, IsRead, with_node, fault_at, as_told, told_of, IsAnswer}
 use Rattle.vx_c.proofs.ErrorNumbers.{node_error_number-fault}
 use Rattle.vx_c.proofs.Nodes.{memory_alone}
@@ -56,6 +57,14 @@ faulty-only p (Ok ts) (inr is) = inl (memory_alone p.1 (none_of (fault_of p.1) i
     none_of None h = refl
     none_of (Some f) h = absurd (cc)
 faulty-only p (Err f) (inr is) = inr is
+
+-- of no more nodes than a table may have
+pub column-faulty : (nodes : List CodraskNode) (p : ℕ × NodeError) → length nodes ≤ MAX_NODES → IsTableFault p (arrays_from 0 nodes)
+    → IsTableFault p (column_of nodes)
+column-faulty nodes p few fault = subst (IsTableFault p) (sym short) (faulty-only p (arrays_from 0 nodes) fault)
+  where
+    short : column_of nodes ≡ only (arrays_from 0 nodes)
+    short = search (rules, arith, few)
 
 -- ---- what C is told
 
