@@ -1,12 +1,11 @@
 -- The fields of records, by their places.
-use Rattle.std.proofs.Common.{◌≡◌, ◌+◌, ◌<◌, ◌≤◌, ℕ, zero, suc, List, [], ◌∷◌, length, map, get_or, refl, sym, ◌∙◌, ap, arith, Option, Some, None}
-use Rattle.vx_base.specs.Codes.{kind_depth, kinds_depth}
+use Rattle.std.proofs.Common.{◌≡◌, ◌<◌, ℕ, zero, suc, List, [], ◌∷◌, length, map, get_or, refl, sym, ◌∙◌, ap, arith, Option, None}
 use Rattle.vx_base.specs.DTypes.{dtype_meaning, kinds_of as dtype_kinds}
 use Rattle.vx_base.specs.declared.dtypes.DType.{DType}
 use Rattle.vx_base.specs.declared.scalar_value.ScalarValue.{ScalarValue}
-use Rattle.vx_base.specs.Kinds.{Kind, Kinds, no_kinds, kind, Fits, FieldsFit}
-use Rattle.vx_base.specs.Rows.{Row, Fields, no_fields, field, rows_from}
-use Rattle.vx_base.specs.ValueRows.{RecordFits, fields_named, named, option_row, row_under, unnamed}
+use Rattle.vx_base.specs.Kinds.{Kinds, no_kinds, kind, Fits, FieldsFit}
+use Rattle.vx_base.specs.Rows.{Fields, no_fields, field, rows_from}
+use Rattle.vx_base.specs.ValueRows.{RecordFits, fields_named, option_row, row_under, unnamed}
 use Rattle.vx_tree.specs.Tree.{Tree, Trees, no_trees, tree}
 use Rattle.vx_tree.specs.Formed.{column_count}
 use Rattle.vx_tree.specs.Meaning.{fields_at, kind_of, kinds_of, row_at, trees_from}

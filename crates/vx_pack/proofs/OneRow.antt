@@ -1,7 +1,7 @@
 -- Arrays whose rows are all one, as their parts are.
-use Rattle.std.proofs.Common.{◌≡◌, ◌+◌, ◌*◌, ◌<◌, ℕ, zero, suc, List, [], ◌∷◌, length, get_or, refl, sym, ◌∙◌, ap, arith, Bool, true}
+use Rattle.std.proofs.Common.{◌≡◌, ◌+◌, ◌*◌, ◌<◌, ℕ, suc, List, [], ◌∷◌, length, get_or, refl, sym, ◌∙◌, ap, arith, Bool, true}
 use Rattle.vx_base.specs.Rows.{items, record_of, field}
-use Rattle.vx_tree.specs.Meaning.{fields_at, is_valid_at, row_at, rows_range, trees_from}
+use Rattle.vx_tree.specs.Meaning.{fields_at, is_valid_at, row_at, trees_from}
 use Rattle.vx_tree.specs.Tree.{Tree, Valid, fixed_list, list_view, structure}
 use Rattle.vx_tree.proofs.FixedLists.{rows_range-same}
 

@@ -1,7 +1,7 @@
 -- Parts of arrays and of values: lists and fields.
-use Rattle.std.proofs.Common.{◌≡◌, ◌+◌, ◌*◌, ◌<◌, ◌≤◌, ◌^◌, ℕ, zero, suc, List, [], ◌∷◌, length, map, get_or, refl, sym, ◌∙◌, ap, subst, arith, zero-add, Bool, true, Option, Some, None}
+use Rattle.std.proofs.Common.{◌≡◌, ◌+◌, ◌*◌, ◌<◌, ◌≤◌, ℕ, List, [], ◌∷◌, length, map, get_or, refl, sym, ◌∙◌, ap, subst, arith, zero-add, Bool, true, Option, None}
 use Rattle.vx_base.specs.declared.scalar_value.ScalarValue.{ScalarValue}
-use Rattle.vx_base.specs.Kinds.{Kind, Kinds, lists, fixed_lists, records, AllFit, Fits}
+use Rattle.vx_base.specs.Kinds.{Kind, Kinds, lists, fixed_lists, AllFit, Fits}
 use Rattle.vx_base.specs.Rows.{Row, items, rows_from}
 use Rattle.vx_base.specs.ValueRows.{RecordFits, all_named, named, option_row, row_under, unnamed, fields_named}
 use Rattle.vx_tree.specs.Columns.{AllReach}

@@ -1,5 +1,5 @@
 -- Rows of rows, compared one by one.
-use Rattle.std.proofs.Common.{◌≡◌, ◌+◌, ◌<◌, ◌↔◌, ℕ, zero, suc, refl, sym, ◌∙◌, ap, arith, zero-add, IsTrue, Bool}
+use Rattle.std.proofs.Common.{◌≡◌, ◌+◌, ◌<◌, ℕ, zero, suc, refl, sym, ◌∙◌, ap, arith, zero-add}
 use Rattle.vx_base.specs.Rows.{Row, items}
 use Rattle.vx_tree.specs.Meaning.{rows_range}
 use Rattle.vx_tree.proofs.FixedLists.{rows_range-same}

@@ -1,7 +1,7 @@
 -- Rows that are records: of columns beside each other, and of values.
-use Rattle.std.proofs.Common.{◌≡◌, ◌+◌, ◌<◌, ◌≤◌, ◌^◌, ℕ, List, length, map, get_or, refl, sym, ◌∙◌, ap, subst, arith, Bool, true, Option, Some, None}
+use Rattle.std.proofs.Common.{◌≡◌, ◌≤◌, ℕ, List, length, map, sym, ◌∙◌, ap, subst, arith, Bool, true, Option}
 use Rattle.vx_base.specs.declared.scalar_value.ScalarValue.{ScalarValue}
-use Rattle.vx_base.specs.Kinds.{Kind, Kinds, records, or_nullable, Fits}
+use Rattle.vx_base.specs.Kinds.{Kinds, records, or_nullable, Fits}
 use Rattle.vx_base.specs.Rows.{Row, record_of, rows_from}
 use Rattle.vx_base.specs.ValueRows.{RecordFits, fields_named, named, option_row, row_under, unnamed}
 use Rattle.vx_tree.specs.Columns.{AllReach}

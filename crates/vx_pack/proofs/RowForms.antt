@@ -1,5 +1,5 @@
 -- What a row is: under a kind's names, where it may be null, and by what it fits.
-use Rattle.std.proofs.Common.{◌≡◌, ℕ, List, Bool, true, false, refl, sym, ◌∙◌, ap}
+use Rattle.std.proofs.Common.{◌≡◌, ℕ, List, Bool, true, false, refl}
 use Rattle.std.specs.Prelude.{None, if◌then◌else◌}
 use Rattle.vx_base.specs.declared.ptypes.PType.{PType}
 use Rattle.vx_base.specs.Kinds.{Kind, booleans, integers, texts, binaries, lists, fixed_lists, records, Kinds, Fits}

@@ -1,15 +1,15 @@
 -- Numbers are the same where their bytes are.
-use Rattle.std.proofs.Common.{◌≡◌, ◌↔◌, ◌+◌, ◌-◌, ◌*◌, ◌/◌, ◌<◌, ◌≤◌, ℕ, zero, suc, List, [], ◌∷◌, ◌++◌, length, get_or, take, drop, refl, sym, ◌∙◌, ap, arith, IsTrue, Bool, true}
+use Rattle.std.proofs.Common.{◌≡◌, ◌↔◌, ◌+◌, ◌-◌, ◌*◌, ◌/◌, ◌<◌, ◌≤◌, ℕ, zero, suc, List, [], ◌∷◌, ◌++◌, length, take, drop, refl, sym, ◌∙◌, ap, arith, IsTrue, Bool, true}
 use Rattle.std.specs.Prelude.{ℤ, pos, slice_range}
 use Rattle.std.proofs.lemmas.List.{drop-drop, get_or-drop, get_or-take, length-drop, length-take-le, take-append-drop}
 use Rattle.std.proofs.Math.Nat.{mul-le-mul_right}
 use Rattle.vx_base.proofs.ListParts.{length_part}
 use Rattle.vx_base.proofs.NumberBytes.{bytes_of-number_of}
-use Rattle.vx_base.proofs.NumberLists.{get_numbers, length_numbers, numbers_part, numbers_room, whole as whole_numbers}
+use Rattle.vx_base.proofs.NumberLists.{get_numbers, numbers_part, numbers_room, whole as whole_numbers}
 use Rattle.vx_base.specs.Bytes.{AreBytes}
 use Rattle.vx_base.specs.Integers.{byte_width, bytes_of, number_at, number_nth, number_of, numbers}
 use Rattle.vx_base.specs.Kinds.{Kind, integer_type}
-use Rattle.vx_base.specs.Rows.{Row, whole, number_in}
+use Rattle.vx_base.specs.Rows.{whole, number_in}
 use Rattle.vx_base.specs.declared.ptypes.PType.{PType}
 use Rattle.vx_views.proofs.Padding.{bytes-drop, bytes-take}
 use Rattle.vx_tree.specs.Tree.{Tree, Valid, primitive}

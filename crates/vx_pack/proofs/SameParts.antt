@@ -1,7 +1,7 @@
 -- Parts that have the same rows.
-use Rattle.std.proofs.Common.{◌≡◌, ◌↔◌, ◌+◌, ◌<◌, ◌≤◌, ℕ, zero, suc, List, length, refl, sym, ◌∙◌, ap, subst, arith, zero-add, IsTrue, Bool, true, false, not, Option, Some, None}
+use Rattle.std.proofs.Common.{◌≡◌, ◌↔◌, ◌+◌, ◌<◌, ◌≤◌, ℕ, List, length, refl, sym, ◌∙◌, ap, subst, arith, zero-add, IsTrue, Bool, true, false, not, Option, Some, None}
 use Rattle.vx_base.specs.Kinds.{Kind, Kinds, records, Fits}
-use Rattle.vx_base.specs.Rows.{Row, null, items, record_of, list_in, Fields}
+use Rattle.vx_base.specs.Rows.{Row, items, record_of, list_in}
 use Rattle.vx_tree.specs.Meaning.{kind_of, row_at, rows, rows_range, tree_len, trees_from}
 use Rattle.vx_tree.specs.Tree.{Tree}
 use Rattle.vx_tree.proofs.RowLists.{rows_by_place}
@@ -9,7 +9,7 @@ use Rattle.vx_pack.proofs.Ranges.{same_items, are_same_items}
 use Rattle.vx_pack.proofs.RowForms.{no_list, no_record}
 use Rattle.vx_pack.specs.declared.parts.Part.{Part}
 use Rattle.vx_pack.specs.declared.fields.Records.{Records}
-use Rattle.vx_pack.specs.Lists.{IsListIn, IsListOf, is_lists}
+use Rattle.vx_pack.specs.Lists.{IsListOf, is_lists}
 use Rattle.vx_pack.specs.Parts.{AreAllOne, AreSame, AreSameBy, IsFirstOf, IsPart, IsPartOf, part_len, part_row}
 use Rattle.vx_pack.specs.RowForms.{record_in}
 use Rattle.std.specs.Prelude.{is_some}

@@ -1,9 +1,9 @@
 -- Values as the rows of a list.
-use Rattle.std.proofs.Common.{◌≡◌, ◌+◌, ◌<◌, ℕ, zero, suc, List, [], ◌∷◌, length, map, get_or, refl, sym, ◌∙◌, ap, arith, Option, Some, None}
+use Rattle.std.proofs.Common.{◌≡◌, ◌+◌, ◌<◌, ℕ, zero, suc, List, [], ◌∷◌, length, map, get_or, refl, sym, ◌∙◌, ap, arith, Option, None}
 use Rattle.vx_base.specs.declared.scalar_value.ScalarValue.{ScalarValue}
 use Rattle.vx_base.specs.Kinds.{Kind, Fits, AllFit}
-use Rattle.vx_base.specs.Rows.{Row, row, rows_from}
-use Rattle.vx_base.specs.ValueRows.{all_named, named, option_row, row_under}
+use Rattle.vx_base.specs.Rows.{row, rows_from}
+use Rattle.vx_base.specs.ValueRows.{all_named, option_row, row_under}
 use Rattle.vx_tree.specs.Meaning.{rows_range}
 use Rattle.std.proofs.lemmas.List.{get_or_default}
 use Rattle.vx_tree.proofs.FixedLists.{rows_range-same}

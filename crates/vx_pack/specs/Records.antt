@@ -1,5 +1,5 @@
 -- Records, by their fields.
-use Rattle.std.specs.Prelude.{◌≡◌, ◌<◌, ◌≤◌, ◌+◌, ◌^◌, ℕ, zero, suc, Bool, false, List, Option, Some, None, length, map}
+use Rattle.std.specs.Prelude.{◌≡◌, ◌<◌, ◌+◌, ℕ, zero, suc, Bool, false, List, Option, Some, None, length, map}
 use Rattle.vx_base.specs.Kinds.{Kind, booleans, records, Kinds, no_kinds, kind}
 use Rattle.vx_base.specs.Rows.{Row, record_of, Fields, rows_from}
 use Rattle.vx_base.specs.ValueRows.{RecordFits, fields_named, option_row, unnamed}

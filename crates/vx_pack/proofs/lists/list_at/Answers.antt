@@ -1,7 +1,6 @@
 use Rattle.vx_pack.proofs.PartRows.{list_at_place, list_of_values}
 use Rattle.std.proofs.Common.{◌≡◌, sym, ◌∙◌, ap, subst, Some}
 use Rattle.vx_base.specs.Kinds.{Fits}
-use Rattle.vx_tree.specs.Formed.{WellFormed}
 use Rattle.vx_tree.specs.Meaning.{kind_of, row_at}
 use Rattle.vx_tree.specs.Parts.{tree_of}
 use Rattle.vx_tree.specs.Tree.{Tree, constant}

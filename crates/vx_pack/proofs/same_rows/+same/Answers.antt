@@ -1,14 +1,14 @@
-use Rattle.std.proofs.Common.{◌≡◌, ◌↔◌, ◌+◌, ◌<◌, ◌≤◌, IsTrue, sym, ◌∙◌, ap, subst, refl, arith, below_more, length, min}
+use Rattle.std.proofs.Common.{◌≡◌, ◌↔◌, ◌≤◌, IsTrue, sym, ◌∙◌, ap, subst, refl, arith, below_more, length, min}
 use Rattle.std.proofs.lemmas.Bool.{eqb-true}
 use Rattle.vx_base.specs.Codes.{kind_depth, kinds_depth}
 use Rattle.vx_base.specs.DTypes.{dtype_meaning, field_kinds, field_names, is_nullable}
-use Rattle.vx_base.specs.Kinds.{Kind, Fits, is_nullable_kind, records}
+use Rattle.vx_base.specs.Kinds.{Fits, is_nullable_kind, records}
 use Rattle.vx_base.specs.Rows.{Row, number_in}
 use Rattle.vx_base.proofs.ValueFits.{field_depth}
 use Rattle.vx_tree.specs.RowParts.{field_at}
 use Rattle.vx_tree.specs.Values.{bytes_in}
 use Rattle.vx_pack.specs.RowForms.{truth_in}
-use Rattle.vx_pack.specs.Parts.{IsPart, part_len, part_row}
+use Rattle.vx_pack.specs.Parts.{IsPart, part_row}
 use Rattle.vx_pack.proofs.RowForms.{binaries_differ, numbers_differ, texts_differ, truths_differ}
 use Rattle.vx_pack.proofs.SameParts.{dtype_at, fields_counted, lists_of_lengths, null_beside_record, same_all_records, same_field, same_fields_by_place, same_leaves, same_lists}
 use Rattle.vx_pack.proofs.same_rows.+same.Goals as goal

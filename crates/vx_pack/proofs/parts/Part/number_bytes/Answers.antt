@@ -1,8 +1,5 @@
 use Rattle.std.proofs.Common.{◌≡◌, ◌+◌, ◌*◌, sym, ◌∙◌, ap, refl, subst}
 use Rattle.std.specs.Prelude.{slice_range}
-use Rattle.vx_base.specs.Integers.{byte_width}
-use Rattle.vx_base.specs.Kinds.{integer_type}
-use Rattle.vx_tree.specs.Meaning.{kind_of}
 use Rattle.vx_tree.specs.Parts.{tree_of, valid_of}
 use Rattle.vx_tree.specs.Tree.{primitive}
 use Rattle.vx_pack.proofs.SameBytes.{number_bytes_of}
