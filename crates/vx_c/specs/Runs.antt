@@ -152,7 +152,8 @@ AreStepsOr steps (error.Form i e) = IsNoStep steps i e
 AreStepsOr steps e = e ≡ error.Memory
 
 abbrev pub IsRanOr : List Step → List Tree → RunError → Type 0
-IsRanOr steps columns (error.Step i e) = (results : List Tree) × HasRun (take i steps) columns results × All AllFormed results × IsStop steps i results e
+IsRanOr steps columns (error.Step i e) =
+    (results : List Tree) × HasRun (take i steps) columns results × All AllFormed results × IsStop steps i results e
 IsRanOr steps columns e = e ≡ error.Memory
 
 abbrev pub AreTablesOr : List Tree → List ℕ → RunError → Type 0

@@ -111,4 +111,5 @@ abbrev mutual
 -- the table of a plain array, well formed at every depth, is the column that is the array without its flags, where it has no more
 -- nodes than a table may have
 abbrev pub TablesAreRead : Type 0
-TablesAreRead = (t : Tree) → AllFormed t → IsPlain t → IsHeld t → node_count t ≤ MAX_NODES → column_of (table_of t) ≡ Ok (unflagged t)
+TablesAreRead =
+    (t : Tree) → AllFormed t → IsPlain t → IsHeld t → node_count t ≤ MAX_NODES → column_of (table_of t) ≡ Ok (unflagged t)

@@ -18,7 +18,8 @@ words_node bs = node_numbered 3 0 3 0 0 bs [] []
 -- three lists over the numbers 1 to 4, by offsets and sizes
 abbrev pub lists_table : List ℕ → List ℕ → List CodraskNode
 lists_table offsets sizes =
-    node_numbered 13 0 3 0 0 [] [] [] ∷ node_numbered 1 0 4 0 0 (1 ∷ 2 ∷ 3 ∷ 4 ∷ []) [] [] ∷ words_node offsets ∷ words_node sizes ∷ []
+    node_numbered 13 0 3 0 0 [] [] []
+    ∷ node_numbered 1 0 4 0 0 (1 ∷ 2 ∷ 3 ∷ 4 ∷ []) [] [] ∷ words_node offsets ∷ words_node sizes ∷ []
 
 -- the offsets 2, 0, 1 and the sizes 2, 1, 2
 abbrev pub overlapping_table : List CodraskNode
