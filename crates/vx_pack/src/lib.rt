@@ -1,4 +1,4 @@
-//! Whether two arrays have equal rows, in any two layouts.
+//! Whether two arrays have equal rows, in any two layouts, and the one form that rows alone determine.
 #![tactic(auto)]
 
 mod codes;
@@ -6,7 +6,15 @@ mod fields;
 pub mod laws;
 mod lists;
 mod one_row;
+mod pack;
+mod pack_rows;
+mod packed_bits;
+mod packed_fields;
+mod packed_lists;
+mod packed_numbers;
+mod packed_texts;
 mod parts;
+mod pieces;
 mod places;
 mod rows_equal;
 mod same_leaves;
@@ -16,4 +24,5 @@ mod texts;
 mod truths;
 mod values;
 
+pub use crate::pack::Pack;
 pub use crate::rows_equal::RowsEqual;

@@ -2,7 +2,8 @@
 
 ghost use Rattle.std.specs.Prelude.{◌≡◌, ◌<◌, ◌≤◌, ◌+◌, IsTrue, option_map};
 ghost use Rattle.vx_base.specs.Kinds.{Kind};
-ghost use Rattle.vx_base.specs.Rows.{number_in};
+ghost use Rattle.vx_base.specs.Refusals.{Gives};
+ghost use Rattle.vx_base.specs.Rows.{is_present, number_in};
 ghost use Rattle.vx_tree.specs.Meaning.{tree_len};
 ghost use Rattle.vx_tree.specs.Values.{bytes_in};
 ghost use Rattle.vx_pack.specs.Parts.{AreAllOne, AreNumbers, AreValuesOf, IsFirstOf, IsPartOf, IsWithin, part_len, part_row};
@@ -12,7 +13,8 @@ use crate::one_row::has_one_row;
 use crate::texts::bytes_at;
 use crate::truths::truth_at;
 use crate::values::{bytes_of, number_of, truth_of};
-use vx_base::ScalarValue;
+use std::alloc::Global;
+use vx_base::{ScalarValue, VortexError};
 use vx_tree::ArrayRef;
 
 // Rows, one after another.
@@ -70,6 +72,18 @@ impl<'a> Part<'a> {
         match self {
             Part::Array(array, _, _) => has_one_row(array),
             Part::Values(_) => false,
+        }
+    }
+
+    // Whether row `i` is not null.
+    pub fn is_present(self, alloc: Global, i: usize) -> Result<bool, VortexError>
+        requires within { IsWithin self }
+        requires in_bounds { i < part_len self }
+        ensures { Gives result (λ b. (k : Kind) → b ≡ is_present (part_row k self.entry i)) }
+    {
+        match self {
+            Part::Array(array, start, _) => array.is_valid(alloc, start + i),
+            Part::Values(values) => Ok(values[i].is_some()),
         }
     }
 

@@ -1,0 +1,89 @@
+// The fields of records that are packed.
+
+ghost use Rattle.std.specs.Prelude.{◌≡◌, ◌<◌, ◌++◌, ◌∷◌, [], Bool, List, length, IfSome};
+ghost use Rattle.std.specs.List.{All};
+ghost use Rattle.vx_base.specs.DTypes.{field_kinds, field_names};
+ghost use Rattle.vx_base.specs.Kinds.{records};
+ghost use Rattle.vx_base.specs.Refusals.{Gives};
+ghost use Rattle.vx_pack.specs.Pieces.{AreFieldPieces, IsPiece, piece_rows, pieces_rows};
+ghost use Rattle.vx_pack.specs.Records.{kind_at};
+ghost use Rattle.vx_pack.specs.declared.pieces.Piece.{Piece as Pieces};
+
+use crate::pieces::Piece;
+use std::alloc::Global;
+use vx_base::{StructFields, VortexError};
+
+// The field at a place of each record, a default row where the record is null.
+pub(crate) fn field_pieces<'a>(
+    alloc: Global,
+    fields: &StructFields,
+    pieces: &[Piece<'a>],
+    place: usize,
+) -> Result<Vec<Piece<'a>>, VortexError>
+    requires place { place < length (field_names fields.now) }
+    requires pieces { (n : Bool) × All (IsPiece (records (field_names fields.now) (field_kinds fields.now) n)) pieces.now }
+    ensures { let kind = records (field_names fields.now) (field_kinds fields.now) in
+        (n : Bool) → All (IsPiece (kind n)) pieces.now → Gives result (λ column.
+        AreFieldPieces (kind_at place (field_kinds fields.now)) place (pieces_rows (kind n) pieces.now) column.items) }
+{
+    let mut column = Vec::new(alloc);
+    for piece in pieces {
+        push_field(&mut column, fields, *piece, place)?;
+    }
+    Ok(column)
+}
+
+// That of a piece, at the end of the column: whole, where the field is a column.
+fn push_field<'a>(
+    column: &mut Vec<Piece<'a>>,
+    fields: &StructFields,
+    piece: Piece<'a>,
+    place: usize,
+) -> Result<(), VortexError>
+    requires place { place < length (field_names fields.now) }
+    requires piece { (n : Bool) × IsPiece (records (field_names fields.now) (field_kinds fields.now) n) piece }
+    ensures { let kind = records (field_names fields.now) (field_kinds fields.now) in
+        (n : Bool) → IsPiece (kind n) piece → Gives result (λ _. (more : List Pieces)
+        × AreFieldPieces (kind_at place (field_kinds fields.now)) place (piece_rows (kind n) piece) more
+        × (column.new.items ≡ column.old.items ++ more)) }
+{
+    match whole_field(fields, piece, place) {
+        Some(field) => column.push(field)?,
+        None => push_each_field(column, fields, piece, place)?,
+    }
+    Ok(())
+}
+
+// The field of all rows, where it is a column or they are default rows.
+fn whole_field<'a>(fields: &StructFields, piece: Piece<'a>, place: usize) -> Option<Piece<'a>>
+    requires place { place < length (field_names fields.now) }
+    requires piece { (n : Bool) × IsPiece (records (field_names fields.now) (field_kinds fields.now) n) piece }
+    ensures { let kind = records (field_names fields.now) (field_kinds fields.now) in
+        (n : Bool) → IsPiece (kind n) piece → IfSome result (λ field.
+        AreFieldPieces (kind_at place (field_kinds fields.now)) place (piece_rows (kind n) piece) (field ∷ [])) }
+{
+    match piece {
+        Piece::Rows(part) => Some(Piece::Rows(part.records()?.field(place))),
+        Piece::Blank(len) => Some(Piece::Blank(len)),
+    }
+}
+
+// The same, record by record.
+fn push_each_field<'a>(
+    column: &mut Vec<Piece<'a>>,
+    fields: &StructFields,
+    piece: Piece<'a>,
+    place: usize,
+) -> Result<(), VortexError>
+    requires place { place < length (field_names fields.now) }
+    requires piece { (n : Bool) × IsPiece (records (field_names fields.now) (field_kinds fields.now) n) piece }
+    ensures { let kind = records (field_names fields.now) (field_kinds fields.now) in
+        (n : Bool) → IsPiece (kind n) piece → Gives result (λ _. (more : List Pieces)
+        × AreFieldPieces (kind_at place (field_kinds fields.now)) place (piece_rows (kind n) piece) more
+        × (column.new.items ≡ column.old.items ++ more)) }
+{
+    for i in 0..piece.len() {
+        column.push(piece.field_or_blank(fields, i, place))?;
+    }
+    Ok(())
+}
