@@ -58,6 +58,12 @@ pub record AreListPieces (item : Kind) (blank : ℕ) (rs : List Row) (ps : List 
   pub each : All (IsPiece item) ps
   pub lists : map (piece_rows item) ps ≡ map (items_or_blank item blank) rs
 
+-- pieces of so many rows, which are these
+pub record AreElements (item : Kind) (n : ℕ) (rs : List Row) (ps : List Piece) : Type 0 where
+  pub each : All (IsPiece item) ps
+  pub count : sum (map piece_len ps) ≡ n
+  pub rows : pieces_rows item ps ≡ rs
+
 -- the field at a place of a row, a default row where it is null
 pub record IsFieldPiece (k : Kind) (place : ℕ) (r : Row) (p : Piece) : Type 0 where
   pub piece : IsPiece k p

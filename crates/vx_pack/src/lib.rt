@@ -16,6 +16,7 @@ mod packed_texts;
 mod parts;
 mod pieces;
 mod places;
+mod presence;
 mod rows_equal;
 mod same_leaves;
 mod same_numbers;

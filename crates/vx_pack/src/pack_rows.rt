@@ -10,7 +10,9 @@ ghost use Rattle.vx_pack.specs.Records.{kind_at};
 
 use crate::packed_bits::{truth_bits, validity_of};
 use crate::packed_fields::field_pieces;
-use crate::packed_lists::{list_pieces, sizes_array, starts_array, total_within};
+use crate::packed_lists::{
+    fixed_list_pieces, list_pieces, sizes_array, starts_array, total_within,
+};
 use crate::packed_numbers::number_bytes;
 use crate::packed_texts::pack_texts;
 use crate::pieces::Piece;
@@ -103,7 +105,7 @@ fn pack_lists(
     ensures err { let kind = dtype_meaning dtype.now in
         IfErr result (IsPackRefused kind (pieces_rows kind pieces.now)) }
 {
-    let lists = list_pieces(alloc, dtype, pieces, 0)?;
+    let lists = list_pieces(alloc, dtype, pieces, 0, len)?;
     let total = total_within(&lists, MAX_ELEMENTS)?;
     let elements = pack_rows(alloc, items, &lists, total)?;
     let offsets = starts_array(alloc, &lists, total)?;
@@ -129,8 +131,10 @@ fn pack_fixed_lists(
     ensures err { let kind = dtype_meaning dtype.now in
         IfErr result (IsPackRefused kind (pieces_rows kind pieces.now)) }
 {
-    let lists = list_pieces(alloc, dtype, pieces, size as usize)?;
-    let total = total_within(&lists, usize::MAX)?;
+    let Some(total) = len.checked_mul(size as usize) else {
+        return Err(VortexError::Overflow);
+    };
+    let lists = fixed_list_pieces(alloc, dtype, pieces, size, len)?;
     let elements = pack_rows(alloc, items, &lists, total)?;
     let validity = validity_of(alloc, dtype, pieces, len)?;
     ArrayRef::fixed_size_list(alloc, elements, size, validity, len)
@@ -201,6 +205,6 @@ fn pack_field(
         (n : Bool) → ArePieces (kind n) pieces.now len →
         IfErr result (IsPackRefused field (map (field_or_default field place) (pieces_rows (kind n) pieces.now))) }
 {
-    let column = field_pieces(alloc, fields, pieces, place)?;
+    let column = field_pieces(alloc, fields, place, pieces)?;
     pack_rows(alloc, &fields.fields()[place], &column, len)
 }

@@ -1,11 +1,14 @@
 // Bits, one for each row that is packed.
 
-ghost use Rattle.std.specs.Prelude.{◌≡◌, ◌<◌, ◌+◌, ◌^◌, ◌++◌, ◌∷◌, [], true, length, map, replicate};
+ghost use Rattle.std.specs.Prelude.{◌≡◌, ◌<◌, ◌+◌, ◌^◌, ◌++◌, ◌∷◌, [], true, length, map, IsTrue};
+ghost use Rattle.std.specs.List.{All};
 ghost use Rattle.vx_base.specs.DTypes.{dtype_meaning};
 ghost use Rattle.vx_base.specs.Kinds.{is_nullable_kind};
 ghost use Rattle.vx_base.specs.Refusals.{Gives};
 ghost use Rattle.vx_base.specs.Rows.{is_present, truth_of};
 ghost use Rattle.vx_tree.specs.Parts.{valid_of};
+ghost use Rattle.vx_tree.specs.Tree.{all_valid};
+ghost use Rattle.vx_tree.specs.Validities.{valid_from};
 ghost use Rattle.vx_pack.specs.Packed.{packed_valid};
 ghost use Rattle.vx_pack.specs.Pieces.{ArePieces, IsPiece, piece_len, piece_rows, pieces_rows};
 
@@ -57,10 +60,45 @@ pub(crate) fn validity_of(
 {
     match dtype.nullability() {
         Nullability::NonNullable => Ok(Validity::NonNullable),
-        Nullability::Nullable => {
-            Validity::from_buffer(alloc, present_bits(alloc, dtype, pieces, len)?)
+        Nullability::Nullable => nullable_validity(alloc, dtype, pieces, len),
+    }
+}
+
+// The same where null may stand: no bit is made where the layouts tell that all rows are there, or
+// that none is.
+fn nullable_validity(
+    alloc: Global,
+    dtype: &DType,
+    pieces: &[Piece],
+    len: usize,
+) -> Result<Validity, VortexError>
+    requires nullable { is_nullable_kind (dtype_meaning dtype.now) ≡ true }
+    requires pieces { ArePieces (dtype_meaning dtype.now) pieces.now len }
+    ensures { Gives result (λ v. valid_of v
+        ≡ valid_from (map is_present (pieces_rows (dtype_meaning dtype.now) pieces.now)) all_valid) }
+{
+    if have_presence(dtype, pieces, true) {
+        return Ok(Validity::AllValid);
+    }
+    if len > 0 && have_presence(dtype, pieces, false) {
+        return Ok(Validity::AllInvalid);
+    }
+    Validity::from_buffer(alloc, present_bits(alloc, dtype, pieces, len)?)
+}
+
+// Whether the layouts tell that all rows are there, or that all are null, as is asked.
+fn have_presence(dtype: &DType, pieces: &[Piece], wanted: bool) -> bool
+    requires nullable { is_nullable_kind (dtype_meaning dtype.now) ≡ true }
+    requires pieces { All (IsPiece (dtype_meaning dtype.now)) pieces.now }
+    ensures { IsTrue result →
+        All (λ r. is_present r ≡ wanted) (pieces_rows (dtype_meaning dtype.now) pieces.now) }
+{
+    for piece in pieces {
+        if piece.presence() != Some(wanted) {
+            return false;
         }
     }
+    true
 }
 
 // Which rows are not null, where null may stand.

@@ -17,8 +17,8 @@ use vx_base::{StructFields, VortexError};
 pub(crate) fn field_pieces<'a>(
     alloc: Global,
     fields: &StructFields,
-    pieces: &[Piece<'a>],
     place: usize,
+    pieces: &[Piece<'a>],
 ) -> Result<Vec<Piece<'a>>, VortexError>
     requires place { place < length (field_names fields.now) }
     requires pieces { (n : Bool) × All (IsPiece (records (field_names fields.now) (field_kinds fields.now) n)) pieces.now }

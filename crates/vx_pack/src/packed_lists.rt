@@ -1,14 +1,14 @@
 // Lists that are packed: where each begins and ends, and which rows are theirs.
 
-ghost use Rattle.std.specs.Prelude.{◌≡◌, ◌≤◌, ◌<◌, ◌++◌, ◌^◌, List, MatchResult, map, sum};
-ghost use Rattle.std.specs.List.{All};
+ghost use Rattle.std.specs.Prelude.{◌≡◌, ◌≤◌, ◌<◌, ◌*◌, ◌++◌, ◌^◌, Bool, List, MatchResult, map, sum};
+ghost use Rattle.std.specs.List.{flat_map};
 ghost use Rattle.vx_base.specs.DTypes.{dtype_meaning};
-ghost use Rattle.vx_base.specs.Kinds.{Kind};
+ghost use Rattle.vx_base.specs.Kinds.{Kind, fixed_lists};
 ghost use Rattle.vx_base.specs.Refusals.{Gives};
 ghost use Rattle.vx_base.specs.declared.errors.VortexError.TheVariants.{Overflow};
 ghost use Rattle.vx_pack.specs.Lists.{IsItemOf};
-ghost use Rattle.vx_pack.specs.Packed.{count_type, counts_array, list_starts};
-ghost use Rattle.vx_pack.specs.Pieces.{AreListPieces, IsPiece, blank_of, piece_len, piece_rows, pieces_rows};
+ghost use Rattle.vx_pack.specs.Packed.{count_type, counts_array, items_or_blank, list_starts};
+ghost use Rattle.vx_pack.specs.Pieces.{AreElements, AreListPieces, ArePieces, IsPiece, blank_of, piece_len, piece_rows, pieces_rows};
 ghost use Rattle.vx_pack.specs.declared.pieces.Piece.{Piece as Pieces};
 
 use crate::packed_numbers::push_number;
@@ -23,17 +23,37 @@ pub(crate) fn list_pieces<'a>(
     dtype: &DType,
     pieces: &[Piece<'a>],
     blank: usize,
+    len: usize,
 ) -> Result<Vec<Piece<'a>>, VortexError>
-    requires pieces { All (IsPiece (dtype_meaning dtype.now)) pieces.now }
+    requires pieces { ArePieces (dtype_meaning dtype.now) pieces.now len }
     requires blank { blank_of (dtype_meaning dtype.now) ≡ blank }
     ensures { (item : Kind) → IsItemOf item (dtype_meaning dtype.now) → Gives result (λ lists.
         AreListPieces item blank (pieces_rows (dtype_meaning dtype.now) pieces.now) lists.items) }
 {
-    let mut lists = Vec::new(alloc);
+    let mut lists = Vec::with_capacity(alloc, len)?;
     for piece in pieces {
         push_lists(&mut lists, dtype, *piece, blank)?;
     }
     Ok(lists)
+}
+
+// The same of lists of one size: where they have no elements, no list is looked at.
+pub(crate) fn fixed_list_pieces<'a>(
+    alloc: Global,
+    dtype: &DType,
+    pieces: &[Piece<'a>],
+    size: u32,
+    len: usize,
+) -> Result<Vec<Piece<'a>>, VortexError>
+    requires pieces { ArePieces (dtype_meaning dtype.now) pieces.now len }
+    ensures { (item : Kind) (n : Bool) → dtype_meaning dtype.now ≡ fixed_lists item size n → Gives result (λ lists.
+        AreElements item (len * size) (flat_map (items_or_blank item size) (pieces_rows (dtype_meaning dtype.now) pieces.now))
+        lists.items) }
+{
+    if size == 0 {
+        return Ok(Vec::new(alloc));
+    }
+    list_pieces(alloc, dtype, pieces, size as usize, len)
 }
 
 // Those of a piece, at the end of the lists.
@@ -95,7 +115,7 @@ pub(crate) fn starts_array(
     ensures { Gives result (λ a. a ≡ counts_array (count_type total) (list_starts (map piece_len lists.now))) }
 {
     let ptype = count_type(total);
-    let mut bytes = Vec::new(alloc);
+    let mut bytes = Vec::with_capacity(alloc, lists.len().saturating_mul(ptype.byte_width()))?;
     let mut start: usize = 0;
     for list in lists {
         push_number(&mut bytes, ptype, start as i128)?;
@@ -117,7 +137,7 @@ pub(crate) fn sizes_array(
     ensures { Gives result (λ a. a ≡ counts_array (count_type total) (map piece_len lists.now)) }
 {
     let ptype = count_type(total);
-    let mut bytes = Vec::new(alloc);
+    let mut bytes = Vec::with_capacity(alloc, lists.len().saturating_mul(ptype.byte_width()))?;
     for list in lists {
         push_number(&mut bytes, ptype, list.len() as i128)?;
     }

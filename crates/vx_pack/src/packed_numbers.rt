@@ -26,7 +26,7 @@ pub(crate) fn number_bytes(
     ensures { (n : Bool) → ArePieces (integers ptype n) pieces.now len → Gives result (λ b. b
         ≡ bytes_of_numbers ptype (map number_or_zero (pieces_rows (integers ptype n) pieces.now))) }
 {
-    let mut bytes = Vec::new(alloc);
+    let mut bytes = Vec::with_capacity(alloc, len.saturating_mul(ptype.byte_width()))?;
     for piece in pieces {
         push_numbers(&mut bytes, ptype, *piece)?;
     }

@@ -1,7 +1,6 @@
 // Texts and byte lists that are packed.
 
 ghost use Rattle.std.specs.Prelude.{◌≡◌, ◌++◌, IfErr, IfOk, map, true};
-ghost use Rattle.std.specs.List.{All};
 ghost use Rattle.vx_base.specs.DTypes.{dtype_meaning};
 ghost use Rattle.vx_base.specs.Refusals.{Gives};
 ghost use Rattle.vx_text.specs.Collected.{maybe_value};
@@ -29,7 +28,7 @@ pub(crate) fn pack_texts(
     ensures err { let kind = dtype_meaning dtype.now in
         IfErr result (IsPackRefused kind (pieces_rows kind pieces.now)) }
 {
-    let items = text_items(alloc, dtype, pieces)?;
+    let items = text_items(alloc, dtype, pieces, len)?;
     let dtype = dtype.try_clone(alloc)?;
     Ok(VarBinViewArray::from_iter(alloc, items.into_iter(), dtype)?.into_array())
 }
@@ -39,13 +38,14 @@ fn text_items<'a>(
     alloc: Global,
     dtype: &DType,
     pieces: &[Piece<'a>],
+    len: usize,
 ) -> Result<Vec<Option<&'a [u8]>>, VortexError>
     requires values { has_bytes (dtype_meaning dtype.now) ≡ true }
-    requires pieces { All (IsPiece (dtype_meaning dtype.now)) pieces.now }
+    requires pieces { ArePieces (dtype_meaning dtype.now) pieces.now len }
     ensures { Gives result (λ items. map maybe_value items.items
         ≡ map bytes_in (pieces_rows (dtype_meaning dtype.now) pieces.now)) }
 {
-    let mut items = Vec::new(alloc);
+    let mut items = Vec::with_capacity(alloc, len)?;
     for piece in pieces {
         push_items(&mut items, dtype, *piece)?;
     }

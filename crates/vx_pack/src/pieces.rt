@@ -1,6 +1,6 @@
 // Rows that are packed: those of columns, and default rows between them.
 
-ghost use Rattle.std.specs.Prelude.{◌≡◌, ◌<◌, Bool, true, length, map, option_map, IfSome};
+ghost use Rattle.std.specs.Prelude.{◌≡◌, ◌<◌, ℕ, Bool, true, length, map, option_map, IfSome};
 ghost use Rattle.vx_base.specs.DTypes.{field_kinds, field_names};
 ghost use Rattle.vx_base.specs.Integers.{Holds};
 ghost use Rattle.vx_base.specs.Kinds.{Kind, integers, is_nullable_kind, records};
@@ -98,6 +98,17 @@ impl<'a> Piece<'a> {
         match self {
             Piece::Rows(part) => part.is_present(alloc, i),
             Piece::Blank(_) => Ok(false),
+        }
+    }
+
+    // Whether the layout tells that all rows are there, or that all are null, where null may stand.
+    pub fn presence(self) -> Option<bool>
+        ensures { IfSome result (λ b. (k : Kind) (i : ℕ) → is_nullable_kind k ≡ true →
+            is_present (piece_row k self.entry i) ≡ b) }
+    {
+        match self {
+            Piece::Rows(part) => part.presence(),
+            Piece::Blank(_) => Some(false),
         }
     }
 
