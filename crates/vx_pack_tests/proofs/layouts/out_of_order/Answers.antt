@@ -6,10 +6,10 @@ use Rattle.vx_base.specs.declared.ptypes.PType.TheVariants.{U8}
 use Rattle.vx_tree.specs.Tree.{Tree, primitive, non_nullable}
 use Rattle.vx_tree.specs.Meaning.{tree_len, row_at}
 use Rattle.vx_tree.specs.Formed.{IsListView}
-use Rattle.vx_pack_tests.proofs.rows_equal.layouts.end_to_end.Goals as goal
+use Rattle.vx_pack_tests.proofs.layouts.out_of_order.Goals as goal
 
 abbrev starts : Tree
-starts = primitive U8 (0 ∷ 2 ∷ 2 ∷ []) non_nullable
+starts = primitive U8 (2 ∷ 4 ∷ 0 ∷ []) non_nullable
 
 abbrev sizes : Tree
 sizes = primitive U8 (2 ∷ 0 ∷ 2 ∷ []) non_nullable

@@ -7,13 +7,20 @@ ghost use Rattle.vx_base.specs.Rows.{whole};
 ghost use Rattle.vx_tree.specs.Tree.{constant, primitive, non_nullable};
 
 use std::alloc::Global;
-use std::rc::Rc;
 use vx_base::{
     ByteBuffer, DType, FieldNames, Nullability, PType, Scalar, ScalarValue, ScalarValues,
-    StructFields, VortexError,
+    VortexError,
 };
-use vx_test_help::columns_of;
+use vx_test_help::{bools, columns_of};
 use vx_tree::{ArrayRef, Layout, Validity};
+
+mod dtypes;
+mod many;
+mod texts;
+
+pub(crate) use dtypes::{fixed_of, lists_of, records_of, u8s};
+pub(crate) use many::{MANY, many_columns, many_named};
+pub(crate) use texts::{LONG, byte_lists, one_buffer, text, texts};
 
 // Numbers of type u8, none of them null.
 pub(crate) fn counts(alloc: Global, numbers: &[u8]) -> Result<ArrayRef, VortexError>
@@ -61,25 +68,120 @@ pub(crate) fn named(
     )
 }
 
-// Three lists of one size, 2, of six elements.
-pub(crate) fn pairs(alloc: Global, elements: ArrayRef) -> Result<ArrayRef, VortexError> {
-    if elements.len() != 6 {
-        return Err(VortexError::MismatchedTypes);
-    }
-    ArrayRef::fixed_size_list(alloc, elements, 2, Validity::NonNullable, 3)
+// The same rows, null where these are false.
+pub(crate) fn null_where(
+    alloc: Global,
+    array: ArrayRef,
+    valid: &[bool],
+) -> Result<ArrayRef, VortexError> {
+    array.mask(alloc, &bools(alloc, valid)?)
 }
 
-// Records of two columns of three rows.
+// The default row of a data type, so many times: null where it may stand.
+pub(crate) fn defaults(alloc: Global, dtype: DType, len: usize) -> Result<ArrayRef, VortexError> {
+    ArrayRef::constant(alloc, Scalar::default_value(alloc, dtype)?, len)
+}
+
+// So many lists of one size.
+pub(crate) fn fixed(
+    alloc: Global,
+    elements: ArrayRef,
+    size: u32,
+    len: usize,
+) -> Result<ArrayRef, VortexError> {
+    if len.checked_mul(size as usize) != Some(elements.len()) {
+        return Err(VortexError::MismatchedTypes);
+    }
+    ArrayRef::fixed_size_list(alloc, elements, size, Validity::NonNullable, len)
+}
+
+// Three lists of one size, 2, of six elements.
+pub(crate) fn pairs(alloc: Global, elements: ArrayRef) -> Result<ArrayRef, VortexError> {
+    fixed(alloc, elements, 2, 3)
+}
+
+// Records of two columns.
 pub(crate) fn records(
     alloc: Global,
     names: &[&str; 2],
     first: ArrayRef,
     second: ArrayRef,
 ) -> Result<ArrayRef, VortexError> {
-    if first.len() != 3 || second.len() != 3 {
+    let len = first.len();
+    if second.len() != len {
         return Err(VortexError::MismatchedTypes);
     }
-    columns_of(alloc, names, first, second, Validity::NonNullable, 3)
+    columns_of(alloc, names, first, second, Validity::NonNullable, len)
+}
+
+// Records of one column.
+pub(crate) fn wrapped(
+    alloc: Global,
+    name: &str,
+    column: ArrayRef,
+) -> Result<ArrayRef, VortexError> {
+    let len = column.len();
+    let names = FieldNames::try_new(alloc, &[name])?;
+    let columns = vec![in alloc; column]?;
+    ArrayRef::structure(alloc, names, columns, Validity::NonNullable, len)
+}
+
+// So many records without columns.
+pub(crate) fn without_columns(alloc: Global, len: usize) -> Result<ArrayRef, VortexError> {
+    let names = FieldNames::try_new(alloc, &[])?;
+    ArrayRef::structure(alloc, names, Vec::new(alloc), Validity::NonNullable, len)
+}
+
+// Lists by where each begins among the elements and how many it has. Refuses where one ends past
+// them.
+pub(crate) fn lists_within(
+    alloc: Global,
+    elements: ArrayRef,
+    offsets: ArrayRef,
+    sizes: ArrayRef,
+) -> Result<ArrayRef, VortexError> {
+    if !are_within(elements.len(), &offsets, &sizes) {
+        return Err(VortexError::MismatchedTypes);
+    }
+    ArrayRef::list_view(
+        alloc,
+        elements,
+        offsets,
+        sizes,
+        Validity::NonNullable,
+        false,
+    )
+}
+
+// Whether these are counts, as many of the one as of the other, and each list ends within so many
+// elements.
+fn are_within(len: usize, offsets: &ArrayRef, sizes: &ArrayRef) -> bool {
+    if !offsets.dtype().is_plain_int() || !sizes.dtype().is_plain_int() {
+        return false;
+    }
+    if sizes.len() != offsets.len() {
+        return false;
+    }
+    for i in 0..offsets.len() {
+        match (offsets.int_at(i), sizes.int_at(i)) {
+            (Some(offset), Some(size))
+                if 0 <= offset && 0 <= size && offset + size <= len as i128 => {}
+            _ => return false,
+        }
+    }
+    true
+}
+
+// The same by numbers of type u8.
+pub(crate) fn lists_at(
+    alloc: Global,
+    elements: ArrayRef,
+    offsets: &[u8],
+    sizes: &[u8],
+) -> Result<ArrayRef, VortexError> {
+    let offsets = counts(alloc, offsets)?;
+    let sizes = counts(alloc, sizes)?;
+    lists_within(alloc, elements, offsets, sizes)
 }
 
 // The lists of the first two of four elements, of none, and of the last two.
@@ -167,8 +269,7 @@ pub(crate) fn same_lists(
     len: usize,
 ) -> Result<ArrayRef, VortexError> {
     let values = values(alloc, numbers)?;
-    let items = Rc::new(alloc, DType::Primitive(PType::U8, nullability))?;
-    let dtype = DType::List(items, Nullability::NonNullable);
+    let dtype = lists_of(alloc, u8s(nullability), Nullability::NonNullable)?;
     let scalar = Scalar::try_new(dtype, Some(ScalarValue::List(values)))?;
     ArrayRef::constant(alloc, scalar, len)
 }
@@ -180,15 +281,8 @@ pub(crate) fn same_records(
     len: usize,
 ) -> Result<ArrayRef, VortexError> {
     let values = values(alloc, numbers)?;
-    let mut dtypes = Vec::new(alloc);
-    dtypes.push(DType::Primitive(PType::U8, Nullability::NonNullable))?;
-    dtypes.push(DType::Primitive(PType::U8, Nullability::Nullable))?;
-    let names = FieldNames::try_new(alloc, &["a", "b"])?;
-    if names.len() != dtypes.len() {
-        return Err(VortexError::MismatchedTypes);
-    }
-    let fields = StructFields::new(names, Rc::new(alloc, dtypes)?);
-    let dtype = DType::new_struct(fields, Nullability::NonNullable);
+    let dtypes = vec![in alloc; u8s(Nullability::NonNullable), u8s(Nullability::Nullable)]?;
+    let dtype = records_of(alloc, &["a", "b"], dtypes, Nullability::NonNullable)?;
     let scalar = Scalar::try_new(dtype, Some(ScalarValue::Record(values)))?;
     ArrayRef::constant(alloc, scalar, len)
 }

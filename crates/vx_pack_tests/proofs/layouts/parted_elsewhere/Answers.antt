@@ -6,13 +6,13 @@ use Rattle.vx_base.specs.declared.ptypes.PType.TheVariants.{U8}
 use Rattle.vx_tree.specs.Tree.{Tree, primitive, non_nullable}
 use Rattle.vx_tree.specs.Meaning.{tree_len, row_at}
 use Rattle.vx_tree.specs.Formed.{IsListView}
-use Rattle.vx_pack_tests.proofs.rows_equal.layouts.out_of_order.Goals as goal
+use Rattle.vx_pack_tests.proofs.layouts.parted_elsewhere.Goals as goal
 
 abbrev starts : Tree
-starts = primitive U8 (2 ∷ 4 ∷ 0 ∷ []) non_nullable
+starts = primitive U8 (0 ∷ 1 ∷ 1 ∷ []) non_nullable
 
 abbrev sizes : Tree
-sizes = primitive U8 (2 ∷ 0 ∷ 2 ∷ []) non_nullable
+sizes = primitive U8 (1 ∷ 0 ∷ 3 ∷ []) non_nullable
 
 -- each offset and size is a count
 are_counts : (i : ℕ) → (row_at starts i ≡ whole (pos (count_in (row_at starts i)))) × (row_at sizes i ≡ whole (pos (count_in (row_at sizes i))))

@@ -1,0 +1,164 @@
+// Columns of more rows than memory holds, or than can be counted.
+
+use super::{expect_packed, expect_parts};
+use crate::layouts::{
+    MANY, counts, defaults, fixed_of, lists_within, many_columns, many_named, records_of,
+    same_counts, same_lists, u8s, without_columns,
+};
+use std::alloc::Global;
+use std::process::Abort;
+use vx_base::Nullability::{self, NonNullable, Nullable};
+use vx_base::{DType, VortexError};
+use vx_pack::Pack;
+use vx_test_help::ints;
+use vx_tree::ArrayRef;
+
+// A quarter of the rows that can be counted.
+const QUARTER: i64 = 4611686018427387904;
+
+// Stops unless what was made is refused in this way.
+fn expect_refused(
+    rt: &(impl Abort + AllocGlobal),
+    made: Result<ArrayRef, VortexError>,
+    wanted: VortexError,
+) {
+    let array = made.expect(rt, "made");
+    assert_eq!(rt; array.pack(rt.alloc()).err(), Some(wanted));
+}
+
+// Stops unless what was made packs to these parts. Its rows are not compared, since no layout says
+// that they are all one.
+fn expect_many(rt: &(impl Abort + AllocGlobal), made: Result<ArrayRef, VortexError>, wanted: &str) {
+    let array = made.expect(rt, "made");
+    let packed = expect_parts(rt, &array, wanted);
+    assert_eq!(rt; packed.len(), array.len());
+}
+
+// Lists of so many of the same elements.
+fn lists_of_one(alloc: Global, elements: ArrayRef, sizes: &[i64]) -> Result<ArrayRef, VortexError> {
+    let offsets = same_counts(alloc, 0, sizes.len())?;
+    lists_within(alloc, elements, offsets, ints::<i64>(alloc, sizes)?)
+}
+
+// Lists of so many zeroes.
+fn lists_of_zeroes(alloc: Global, sizes: &[i64]) -> Result<ArrayRef, VortexError> {
+    lists_of_one(alloc, same_counts(alloc, 0, QUARTER as usize)?, sizes)
+}
+
+// A list of so many records without columns.
+fn list_of_nothing(alloc: Global, size: i64) -> Result<ArrayRef, VortexError> {
+    lists_of_one(alloc, without_columns(alloc, 2147483648)?, &[size])
+}
+
+// So many rows of the default list of a size.
+fn fixed_lists(
+    alloc: Global,
+    size: u32,
+    nullability: Nullability,
+    len: usize,
+) -> Result<ArrayRef, VortexError> {
+    defaults(
+        alloc,
+        fixed_of(alloc, u8s(NonNullable), size, nullability)?,
+        len,
+    )
+}
+
+// So many rows of the default record without columns.
+fn bare_records(alloc: Global, nullability: Nullability) -> Result<ArrayRef, VortexError> {
+    defaults(
+        alloc,
+        records_of(alloc, &[], Vec::new(alloc), nullability)?,
+        MANY,
+    )
+}
+
+#[test]
+fn elements_that_i64_does_not_count(rt: HostRuntime) {
+    let sizes = [QUARTER, QUARTER, QUARTER, QUARTER];
+    expect_refused(
+        &rt,
+        lists_of_zeroes(rt.alloc(), &sizes),
+        VortexError::Overflow,
+    );
+    let sizes = [QUARTER, QUARTER];
+    expect_refused(
+        &rt,
+        lists_of_zeroes(rt.alloc(), &sizes),
+        VortexError::Overflow,
+    );
+    let sizes = [QUARTER, QUARTER - 1];
+    expect_refused(
+        &rt,
+        lists_of_zeroes(rt.alloc(), &sizes),
+        VortexError::Memory,
+    );
+}
+
+#[test]
+fn elements_of_one_size_that_usize_does_not_count(rt: HostRuntime) {
+    let made = fixed_lists(rt.alloc(), 2147483648, Nullable, 8589934592);
+    expect_refused(&rt, made, VortexError::Overflow);
+}
+
+#[test]
+fn more_rows_than_memory_holds(rt: HostRuntime) {
+    let memory = VortexError::Memory;
+    expect_refused(&rt, many_named(rt.alloc(), 1), memory);
+    expect_refused(&rt, same_counts(rt.alloc(), 5, MANY), memory);
+    expect_refused(&rt, many_columns(rt.alloc(), 1), memory);
+    expect_refused(&rt, fixed_lists(rt.alloc(), 1, NonNullable, MANY), memory);
+    let lists = same_lists(rt.alloc(), &[Some(7)], NonNullable, MANY);
+    expect_refused(&rt, lists, memory);
+    let texts = defaults(rt.alloc(), DType::Utf8(NonNullable), MANY);
+    expect_refused(&rt, texts, memory);
+}
+
+#[test]
+fn offsets_are_of_i32_where_it_holds_the_number_of_elements(rt: HostRuntime) {
+    expect_packed(
+        &rt,
+        list_of_nothing(rt.alloc(), 2147483647),
+        "lists [{}] 1 plain true (records {} 2147483647 plain) \
+         (numbers i32 1 plain 00000000) (numbers i32 1 plain ffffff7f)",
+    );
+    expect_packed(
+        &rt,
+        list_of_nothing(rt.alloc(), 2147483648),
+        "lists [{}] 1 plain true (records {} 2147483648 plain) \
+         (numbers i64 1 plain 0000000000000000) (numbers i64 1 plain 0000008000000000)",
+    );
+}
+
+#[test]
+fn many_lists_of_size_zero(rt: HostRuntime) {
+    expect_many(
+        &rt,
+        fixed_lists(rt.alloc(), 0, NonNullable, MANY),
+        "fixed [u8;0] 1099511627776 plain (numbers u8 0 plain)",
+    );
+    expect_many(
+        &rt,
+        fixed_lists(rt.alloc(), 0, Nullable, MANY),
+        "fixed [u8;0]? 1099511627776 none (numbers u8 0 plain)",
+    );
+}
+
+#[test]
+fn many_records_without_columns(rt: HostRuntime) {
+    expect_many(
+        &rt,
+        without_columns(rt.alloc(), MANY),
+        "records {} 1099511627776 plain",
+    );
+    expect_many(
+        &rt,
+        bare_records(rt.alloc(), NonNullable),
+        "records {} 1099511627776 plain",
+    );
+    expect_many(
+        &rt,
+        bare_records(rt.alloc(), Nullable),
+        "records {}? 1099511627776 none",
+    );
+}
