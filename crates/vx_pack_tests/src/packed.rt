@@ -20,6 +20,7 @@ mod numbers;
 mod records;
 mod texts;
 mod truths;
+mod values;
 
 // Down to how many levels the arrays of these tests are written.
 const LEVELS: usize = 8;

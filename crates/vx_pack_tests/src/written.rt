@@ -12,9 +12,9 @@ mod values;
 /// exactly where they have the same parts, byte for byte, if no name has signs of this form.
 ///
 /// An array is a word for its layout, its data type, how many rows it has, its validity, its own
-/// parts, and within brackets each array that it is made of. `numbers u8? 3 told 05 00 05 (bits bool
-/// 3 plain 0:05)` are the numbers 5, null, 5, where 0 lies below the null: bits tell which are
-/// there.
+/// parts, and within brackets each array that it is made of. The numbers 5, null, 5, where 0 lies
+/// below the null and bits tell which are there, are
+/// `numbers u8? 3 told 05 00 05 (bits bool 3 plain 0:05)`.
 ///
 /// - Data types: `bool`, `u8` and the other integer types, `text`, `bytes`, `[u8]` for lists,
 ///   `[u8;2]` for lists of size 2, `{a:u8,b:text}` for records; after that `?` where null may

@@ -1,5 +1,5 @@
-// What was cut away is in no buffer: rows 1 and 3 of four are marked, and are cut, filtered or masked
-// away, or not taken.
+// What was cut away is in no buffer: rows 1 and 3 of four are marked, and are cut, filtered or
+// masked away, or not taken.
 
 use super::{LEVELS, expect_packed};
 use crate::layouts::{LONG, counts, lists_at, null_where, one_buffer, texts, wrapped};
@@ -14,8 +14,10 @@ use vx_views::BinaryView;
 // The bytes of marked numbers and texts, as they are written.
 const MARKS: [&str; 2] = ["abababab", "c2abc2ab"];
 
-// A marked text of 14 bytes.
-const MARKED: &str = "«««««««";
+// A marked text of 14 bytes, and one of 13 bytes that stands after it.
+const MARKED: &[u8] = b"\xC2\xAB\xC2\xAB\xC2\xAB\xC2\xAB\xC2\xAB\xC2\xAB\xC2\xAB";
+
+const AFTER: &[u8] = b"\xC2\xAB\xC2\xAB\xC2\xAB\xC2\xAB\xC2\xAB\xC2\xAB\xC2\xABthirteen byte";
 
 // Whether a text has a mark.
 fn is_marked(text: &str) -> bool {
@@ -33,8 +35,8 @@ fn taken(alloc: Global, rows: &ArrayRef) -> Result<ArrayRef, VortexError> {
     rows.take(alloc, &counts(alloc, &[2, 0])?)
 }
 
-// Stops unless row 2 alone, rows 0 and 2, rows 2 and 0, and all rows with 1 and 3 null pack to these
-// parts, in which no mark is.
+// Stops unless row 2 alone, rows 0 and 2, rows 2 and 0, and all rows with 1 and 3 null pack to
+// these parts, in which no mark is.
 fn expect_cut_away(
     rt: &(impl Abort + AllocGlobal),
     made: Result<ArrayRef, VortexError>,
@@ -63,7 +65,7 @@ fn numbers(alloc: Global) -> Result<ArrayRef, VortexError> {
 
 // A long text and one of 13 bytes beside marked ones.
 fn some_texts(alloc: Global) -> Result<ArrayRef, VortexError> {
-    let marked = BinaryView::make_view(MARKED.as_bytes(), 1, 0);
+    let marked = BinaryView::make_view(MARKED, 1, 0);
     let views = [
         BinaryView::make_view(LONG, 0, 0),
         marked,
@@ -71,7 +73,7 @@ fn some_texts(alloc: Global) -> Result<ArrayRef, VortexError> {
         marked,
     ];
     let mut buffers = one_buffer(alloc, LONG)?;
-    buffers.push(ByteBuffer::copy_from(alloc, "«««««««thirteen byte".as_bytes())?)?;
+    buffers.push(ByteBuffer::copy_from(alloc, AFTER)?)?;
     texts(alloc, &views, buffers)
 }
 

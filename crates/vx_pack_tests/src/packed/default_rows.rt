@@ -2,10 +2,11 @@
 
 use super::expect_packed;
 use crate::layouts::{
-    LONG, byte_lists, counts, fixed, lists_at, null_where, one_buffer, records, texts,
+    LONG, byte_lists, counts, defaults, fixed, lists_at, null_where, one_buffer, records, texts,
+    u8s,
 };
 use std::alloc::Global;
-use vx_base::VortexError;
+use vx_base::{Nullability, VortexError};
 use vx_test_help::bools;
 use vx_tree::ArrayRef;
 use vx_views::BinaryView;
@@ -23,6 +24,10 @@ fn nullable_numbers(alloc: Global) -> Result<ArrayRef, VortexError> {
     let elements = counts(alloc, &[1, 171, 171, 171])?;
     let elements = null_where(alloc, elements, &[true, false, true, true])?;
     list_and_null(alloc, elements)
+}
+
+fn nulls(alloc: Global) -> Result<ArrayRef, VortexError> {
+    list_and_null(alloc, defaults(alloc, u8s(Nullability::Nullable), 4)?)
 }
 
 fn truths(alloc: Global) -> Result<ArrayRef, VortexError> {
@@ -91,6 +96,11 @@ fn default_numbers_are_zero_or_null(rt: HostRuntime) {
         nullable_numbers(rt.alloc()),
         "fixed [u8?;2]? 2 told (numbers u8? 4 told 01 00 00 00 (bits bool 4 plain 0:01)) \
          (bits bool 2 plain 0:01)",
+    );
+    expect_packed(
+        &rt,
+        nulls(rt.alloc()),
+        "fixed [u8?;2]? 2 told (numbers u8? 4 none 00 00 00 00) (bits bool 2 plain 0:01)",
     );
 }
 

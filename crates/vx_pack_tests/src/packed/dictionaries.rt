@@ -2,7 +2,7 @@
 
 use super::expect_packed;
 use crate::layouts::{
-    LONG, counts, named, null_where, one_buffer, out_of_order, records, same_counts, texts,
+    LONG, counts, fixed, named, null_where, one_buffer, out_of_order, records, same_counts, texts,
 };
 use std::alloc::Global;
 use vx_base::VortexError;
@@ -76,14 +76,23 @@ fn some_records(alloc: Global) -> Result<ArrayRef, VortexError> {
     named(alloc, codes, values)
 }
 
-// The numbers 6, null, 5.
+// The numbers 5, 6, null, null: one code is null at each of two levels.
 fn of_a_dictionary(alloc: Global) -> Result<ArrayRef, VortexError> {
-    let values = named(
+    let inner = null_where(alloc, counts(alloc, &[1, 171, 0])?, &[true, false, true])?;
+    let values = named(alloc, inner, counts(alloc, &[5, 6])?)?;
+    let codes = counts(alloc, &[2, 0, 171, 1])?;
+    let codes = null_where(alloc, codes, &[true, true, false, true])?;
+    named(alloc, codes, values)
+}
+
+// The lists `[3, 4]`, null, `[1, 2]` of one size.
+fn pairs(alloc: Global) -> Result<ArrayRef, VortexError> {
+    let codes = null_where(alloc, counts(alloc, &[1, 171, 0])?, &[true, false, true])?;
+    named(
         alloc,
-        counts(alloc, &[1, 171, 0])?.slice(alloc, 0..1)?,
-        counts(alloc, &[5, 6])?,
-    )?;
-    named(alloc, counts(alloc, &[0, 0])?, values)
+        codes,
+        fixed(alloc, counts(alloc, &[1, 2, 3, 4])?, 2, 2)?,
+    )
 }
 
 #[test]
@@ -103,7 +112,11 @@ fn numbers_that_codes_name(rt: HostRuntime) {
         both_null(rt.alloc()),
         "numbers u8? 3 told 00 00 05 (bits bool 3 plain 0:04)",
     );
-    expect_packed(&rt, of_a_dictionary(rt.alloc()), "numbers u8 2 plain 06 06");
+    expect_packed(
+        &rt,
+        of_a_dictionary(rt.alloc()),
+        "numbers u8? 4 told 05 06 00 00 (bits bool 4 plain 0:03)",
+    );
 }
 
 #[test]
@@ -136,6 +149,15 @@ fn lists_that_codes_name(rt: HostRuntime) {
         "lists [u8]? 3 told true (numbers u8 2 plain 01 02) \
          (numbers i32 3 plain 00000000 00000000 02000000) \
          (numbers i32 3 plain 00000000 02000000 00000000) (bits bool 3 plain 0:06)",
+    );
+}
+
+#[test]
+fn lists_of_one_size_that_codes_name(rt: HostRuntime) {
+    expect_packed(
+        &rt,
+        pairs(rt.alloc()),
+        "fixed [u8;2]? 3 told (numbers u8 6 plain 03 04 00 00 01 02) (bits bool 3 plain 0:05)",
     );
 }
 

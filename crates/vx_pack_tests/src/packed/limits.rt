@@ -8,7 +8,7 @@ use crate::layouts::{
 use std::alloc::Global;
 use std::process::Abort;
 use vx_base::Nullability::{self, NonNullable, Nullable};
-use vx_base::{DType, VortexError};
+use vx_base::{DType, Scalar, ScalarValue, ScalarValues, VortexError};
 use vx_pack::Pack;
 use vx_test_help::ints;
 use vx_tree::ArrayRef;
@@ -62,6 +62,20 @@ fn fixed_lists(
         fixed_of(alloc, u8s(NonNullable), size, nullability)?,
         len,
     )
+}
+
+// Lists of size 0 that are there, where null may stand.
+fn nullable_lists(alloc: Global) -> Result<ArrayRef, VortexError> {
+    let dtype = fixed_of(alloc, u8s(NonNullable), 0, Nullable)?;
+    let list = ScalarValue::List(ScalarValues::from_vec(alloc, Vec::new(alloc))?);
+    ArrayRef::constant(alloc, Scalar::try_new(dtype, Some(list))?, MANY)
+}
+
+// Records without columns that are there, where null may stand.
+fn nullable_records(alloc: Global) -> Result<ArrayRef, VortexError> {
+    let dtype = records_of(alloc, &[], Vec::new(alloc), Nullable)?;
+    let record = ScalarValue::Record(ScalarValues::from_vec(alloc, Vec::new(alloc))?);
+    ArrayRef::constant(alloc, Scalar::try_new(dtype, Some(record))?, MANY)
 }
 
 // So many rows of the default record without columns.
@@ -142,6 +156,11 @@ fn many_lists_of_size_zero(rt: HostRuntime) {
         fixed_lists(rt.alloc(), 0, Nullable, MANY),
         "fixed [u8;0]? 1099511627776 none (numbers u8 0 plain)",
     );
+    expect_many(
+        &rt,
+        nullable_lists(rt.alloc()),
+        "fixed [u8;0]? 1099511627776 all (numbers u8 0 plain)",
+    );
 }
 
 #[test]
@@ -160,5 +179,10 @@ fn many_records_without_columns(rt: HostRuntime) {
         &rt,
         bare_records(rt.alloc(), Nullable),
         "records {}? 1099511627776 none",
+    );
+    expect_many(
+        &rt,
+        nullable_records(rt.alloc()),
+        "records {}? 1099511627776 all",
     );
 }

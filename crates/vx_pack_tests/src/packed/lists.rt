@@ -2,10 +2,11 @@
 
 use super::expect_packed;
 use crate::layouts::{
-    LONG, counts, end_to_end, lists_at, null_where, one_buffer, out_of_order, overlapping, texts,
+    LONG, counts, defaults, end_to_end, lists_at, null_where, one_buffer, out_of_order,
+    overlapping, texts, u8s,
 };
 use std::alloc::Global;
-use vx_base::VortexError;
+use vx_base::{Nullability, PType, Scalar, VortexError};
 use vx_test_help::bools;
 use vx_tree::ArrayRef;
 use vx_views::BinaryView;
@@ -74,6 +75,25 @@ fn lists_beside_nulls(alloc: Global) -> Result<ArrayRef, VortexError> {
 // The lists `[null]`, `[null]`.
 fn lists_of_nulls_alone(alloc: Global) -> Result<ArrayRef, VortexError> {
     lists_at(alloc, some_null(alloc)?, &[1, 1], &[1, 1])
+}
+
+// The lists of a number that may be null, twice, and once, and null between them.
+fn null_beside(alloc: Global, number: ArrayRef) -> Result<ArrayRef, VortexError> {
+    let lists = lists_at(alloc, number, &[0, 0, 1], &[2, 3, 1])?;
+    null_where(alloc, lists, &[true, false, true])
+}
+
+// Three times the number 5, where null may stand.
+fn fives(alloc: Global) -> Result<ArrayRef, VortexError> {
+    ArrayRef::constant(alloc, Scalar::int(5, PType::U8, Nullability::Nullable), 3)
+}
+
+fn null_beside_fives(alloc: Global) -> Result<ArrayRef, VortexError> {
+    null_beside(alloc, fives(alloc)?)
+}
+
+fn null_beside_nulls(alloc: Global) -> Result<ArrayRef, VortexError> {
+    null_beside(alloc, defaults(alloc, u8s(Nullability::Nullable), 3)?)
 }
 
 // The lists `[[], [2, 3]]`, `[]`, `[[1, 2]]`.
@@ -162,6 +182,24 @@ fn the_elements_of_lists_tell_their_own_nulls(rt: HostRuntime) {
         lists_of_nulls_alone(rt.alloc()),
         "lists [u8?] 2 plain true (numbers u8? 2 none 00 00) \
          (numbers i32 2 plain 00000000 01000000) (numbers i32 2 plain 01000000 01000000)",
+    );
+}
+
+#[test]
+fn a_null_list_tells_nothing_of_its_elements(rt: HostRuntime) {
+    expect_packed(
+        &rt,
+        null_beside_fives(rt.alloc()),
+        "lists [u8?]? 3 told true (numbers u8? 3 all 05 05 05) \
+         (numbers i32 3 plain 00000000 02000000 02000000) \
+         (numbers i32 3 plain 02000000 00000000 01000000) (bits bool 3 plain 0:05)",
+    );
+    expect_packed(
+        &rt,
+        null_beside_nulls(rt.alloc()),
+        "lists [u8?]? 3 told true (numbers u8? 3 none 00 00 00) \
+         (numbers i32 3 plain 00000000 02000000 02000000) \
+         (numbers i32 3 plain 02000000 00000000 01000000) (bits bool 3 plain 0:05)",
     );
 }
 

@@ -44,14 +44,22 @@ fn with_bytes_after(alloc: Global) -> Result<ArrayRef, VortexError> {
     texts(alloc, &[view], Vec::new(alloc))
 }
 
-// A text of 13 bytes, null, and a short one: the bytes of a long text lie below the null.
-fn null_over_bytes(alloc: Global) -> Result<ArrayRef, VortexError> {
-    let views = [
+// The views of a value of 13 bytes, of a long one, which lies below a null, and of a short one.
+fn over_null() -> [BinaryView; 3] {
+    [
         BinaryView::make_view(THIRTEEN, 0, 0),
         BinaryView::make_view(LONG, 0, 13),
         BinaryView::make_view(b"a", 0, 0),
-    ];
-    let rows = texts(alloc, &views, one_buffer(alloc, BOTH)?)?;
+    ]
+}
+
+fn null_text(alloc: Global) -> Result<ArrayRef, VortexError> {
+    let rows = texts(alloc, &over_null(), one_buffer(alloc, BOTH)?)?;
+    null_where(alloc, rows, &[true, false, true])
+}
+
+fn null_bytes(alloc: Global) -> Result<ArrayRef, VortexError> {
+    let rows = byte_lists(alloc, &over_null(), one_buffer(alloc, BOTH)?)?;
     null_where(alloc, rows, &[true, false, true])
 }
 
@@ -117,11 +125,18 @@ fn zeroes_stand_after_a_short_text(rt: HostRuntime) {
 }
 
 #[test]
-fn null_texts_leave_their_bytes_behind(rt: HostRuntime) {
+fn null_values_leave_their_bytes_behind(rt: HostRuntime) {
     expect_packed(
         &rt,
-        null_over_bytes(rt.alloc()),
+        null_text(rt.alloc()),
         "views text? 3 told 0d000000.74686972.00000000.00000000 \
+         00000000.00000000.00000000.00000000 01000000.61000000.00000000.00000000 \
+         <746869727465656e2062797465> (bits bool 3 plain 0:05)",
+    );
+    expect_packed(
+        &rt,
+        null_bytes(rt.alloc()),
+        "views bytes? 3 told 0d000000.74686972.00000000.00000000 \
          00000000.00000000.00000000.00000000 01000000.61000000.00000000.00000000 \
          <746869727465656e2062797465> (bits bool 3 plain 0:05)",
     );
