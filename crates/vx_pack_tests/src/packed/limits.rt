@@ -2,7 +2,7 @@
 
 use super::{expect_packed, expect_parts};
 use crate::layouts::{
-    MANY, counts, defaults, fixed_of, lists_within, many_columns, many_named, records_of,
+    MANY, defaults, fixed_of, lists_within, many_columns, many_named, records, records_of,
     same_counts, same_lists, u8s, without_columns,
 };
 use std::alloc::Global;
@@ -34,20 +34,24 @@ fn expect_many(rt: &(impl Abort + AllocGlobal), made: Result<ArrayRef, VortexErr
     assert_eq!(rt; packed.len(), array.len());
 }
 
-// Lists of so many of the same elements.
-fn lists_of_one(alloc: Global, elements: ArrayRef, sizes: &[i64]) -> Result<ArrayRef, VortexError> {
+// Lists of so many elements, each from the first one on.
+fn lists_from_start(
+    alloc: Global,
+    elements: ArrayRef,
+    sizes: &[i64],
+) -> Result<ArrayRef, VortexError> {
     let offsets = same_counts(alloc, 0, sizes.len())?;
     lists_within(alloc, elements, offsets, ints::<i64>(alloc, sizes)?)
 }
 
 // Lists of so many zeroes.
 fn lists_of_zeroes(alloc: Global, sizes: &[i64]) -> Result<ArrayRef, VortexError> {
-    lists_of_one(alloc, same_counts(alloc, 0, QUARTER as usize)?, sizes)
+    lists_from_start(alloc, same_counts(alloc, 0, QUARTER as usize)?, sizes)
 }
 
-// A list of so many records without columns.
-fn list_of_nothing(alloc: Global, size: i64) -> Result<ArrayRef, VortexError> {
-    lists_of_one(alloc, without_columns(alloc, 2147483648)?, &[size])
+// Lists of so many records without columns.
+fn lists_of_nothing(alloc: Global, sizes: &[i64]) -> Result<ArrayRef, VortexError> {
+    lists_from_start(alloc, without_columns(alloc, i64::MAX as usize)?, sizes)
 }
 
 // So many rows of the default list of a size.
@@ -61,6 +65,27 @@ fn fixed_lists(
         alloc,
         fixed_of(alloc, u8s(NonNullable), size, nullability)?,
         len,
+    )
+}
+
+// 2^33 null lists of 2^31 elements each.
+fn too_large(alloc: Global) -> Result<ArrayRef, VortexError> {
+    fixed_lists(alloc, 2147483648, Nullable, 8589934592)
+}
+
+// A list of these lists.
+fn list_of_too_large(alloc: Global) -> Result<ArrayRef, VortexError> {
+    lists_from_start(alloc, too_large(alloc)?, &[8589934592])
+}
+
+// Records of these lists and of others.
+fn record_of_too_large(alloc: Global) -> Result<ArrayRef, VortexError> {
+    let first = lists_of_nothing(alloc, &[1, 2])?;
+    records(
+        alloc,
+        &["a", "b"],
+        first,
+        lists_of_nothing(alloc, &[i64::MAX, 1])?,
     )
 }
 
@@ -107,12 +132,23 @@ fn elements_that_i64_does_not_count(rt: HostRuntime) {
         lists_of_zeroes(rt.alloc(), &sizes),
         VortexError::Memory,
     );
+    let sizes = [i64::MAX, 1];
+    expect_refused(
+        &rt,
+        lists_of_nothing(rt.alloc(), &sizes),
+        VortexError::Overflow,
+    );
 }
 
 #[test]
 fn elements_of_one_size_that_usize_does_not_count(rt: HostRuntime) {
-    let made = fixed_lists(rt.alloc(), 2147483648, Nullable, 8589934592);
-    expect_refused(&rt, made, VortexError::Overflow);
+    expect_refused(&rt, too_large(rt.alloc()), VortexError::Overflow);
+}
+
+#[test]
+fn too_many_elements_at_any_depth(rt: HostRuntime) {
+    expect_refused(&rt, list_of_too_large(rt.alloc()), VortexError::Overflow);
+    expect_refused(&rt, record_of_too_large(rt.alloc()), VortexError::Overflow);
 }
 
 #[test]
@@ -132,15 +168,22 @@ fn more_rows_than_memory_holds(rt: HostRuntime) {
 fn offsets_are_of_i32_where_it_holds_the_number_of_elements(rt: HostRuntime) {
     expect_packed(
         &rt,
-        list_of_nothing(rt.alloc(), 2147483647),
-        "lists [{}] 1 plain true (records {} 2147483647 plain) \
-         (numbers i32 1 plain 00000000) (numbers i32 1 plain ffffff7f)",
+        lists_of_nothing(rt.alloc(), &[2147483646, 1]),
+        "lists [{}] 2 plain true (records {} 2147483647 plain) \
+         (numbers i32 2 plain 00000000 feffff7f) (numbers i32 2 plain feffff7f 01000000)",
     );
     expect_packed(
         &rt,
-        list_of_nothing(rt.alloc(), 2147483648),
-        "lists [{}] 1 plain true (records {} 2147483648 plain) \
-         (numbers i64 1 plain 0000000000000000) (numbers i64 1 plain 0000008000000000)",
+        lists_of_nothing(rt.alloc(), &[2147483647, 1]),
+        "lists [{}] 2 plain true (records {} 2147483648 plain) \
+         (numbers i64 2 plain 0000000000000000 ffffff7f00000000) \
+         (numbers i64 2 plain ffffff7f00000000 0100000000000000)",
+    );
+    expect_packed(
+        &rt,
+        lists_of_nothing(rt.alloc(), &[i64::MAX]),
+        "lists [{}] 1 plain true (records {} 9223372036854775807 plain) \
+         (numbers i64 1 plain 0000000000000000) (numbers i64 1 plain ffffffffffffff7f)",
     );
 }
 
