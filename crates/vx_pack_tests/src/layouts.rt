@@ -1,10 +1,12 @@
 // Arrays of each layout, made of parts that are tested first. Rows become null by `mask`.
 
-ghost use Rattle.std.specs.Prelude.{◌≡◌, false, pos, IfOk};
+ghost use Rattle.std.specs.Prelude.{◌≡◌, ◌≤◌, ◌≤ℤ◌, ◌+◌, ◌-◌, ◌^◌, ℕ, false, pos, Some, IsTrue, IfOk, IfSome};
 ghost use Rattle.vx_base.specs.declared.ptypes.PType.TheVariants.{U8};
 ghost use Rattle.vx_base.specs.Kinds.{integers};
 ghost use Rattle.vx_base.specs.Rows.{whole};
-ghost use Rattle.vx_tree.specs.Tree.{constant, primitive, non_nullable};
+ghost use Rattle.vx_tree.specs.Formed.{IsListView};
+ghost use Rattle.vx_tree.specs.Meaning.{tree_len};
+ghost use Rattle.vx_tree.specs.Tree.{Tree, constant, primitive, non_nullable};
 
 use std::alloc::Global;
 use vx_base::{
@@ -155,7 +157,9 @@ pub(crate) fn lists_within(
 
 // Whether these are counts, as many of the one as of the other, and each list ends within so many
 // elements.
-fn are_within(len: usize, offsets: &ArrayRef, sizes: &ArrayRef) -> bool {
+fn are_within(len: usize, offsets: &ArrayRef, sizes: &ArrayRef) -> bool
+    ensures { IsTrue result → (e : Tree) → tree_len e ≡ len → IsListView e offsets.now sizes.now false }
+{
     if !offsets.dtype().is_plain_int() || !sizes.dtype().is_plain_int() {
         return false;
     }
@@ -163,13 +167,23 @@ fn are_within(len: usize, offsets: &ArrayRef, sizes: &ArrayRef) -> bool {
         return false;
     }
     for i in 0..offsets.len() {
-        match (offsets.int_at(i), sizes.int_at(i)) {
-            (Some(offset), Some(size))
-                if 0 <= offset && 0 <= size && offset + size <= len as i128 => {}
-            _ => return false,
+        if !ends_within(len, offsets.int_at(i), sizes.int_at(i)) {
+            return false;
         }
     }
     true
+}
+
+// Whether a list of this offset and this size ends within so many elements.
+fn ends_within(len: usize, offset: Option<i128>, size: Option<i128>) -> bool
+    requires offset { IfSome offset (λ z. z ≤ℤ pos (2 ^ 64 - 1)) }
+    requires size { IfSome size (λ z. z ≤ℤ pos (2 ^ 64 - 1)) }
+    ensures { IsTrue result → (a : ℕ) × (b : ℕ) × (offset ≡ Some (pos a)) × (size ≡ Some (pos b)) × (a + b ≤ len) }
+{
+    let (Some(offset), Some(size)) = (offset, size) else {
+        return false;
+    };
+    0 <= offset && 0 <= size && offset + size <= len as i128
 }
 
 // The same by numbers of type u8.
@@ -186,70 +200,22 @@ pub(crate) fn lists_at(
 
 // The lists of the first two of four elements, of none, and of the last two.
 pub(crate) fn end_to_end(alloc: Global, elements: ArrayRef) -> Result<ArrayRef, VortexError> {
-    if elements.len() != 4 {
-        return Err(VortexError::MismatchedTypes);
-    }
-    let offsets = counts(alloc, &[0, 2, 2])?;
-    let sizes = counts(alloc, &[2, 0, 2])?;
-    ArrayRef::list_view(
-        alloc,
-        elements,
-        offsets,
-        sizes,
-        Validity::NonNullable,
-        false,
-    )
+    lists_at(alloc, elements, &[0, 2, 2], &[2, 0, 2])
 }
 
 // The lists of the last two of four elements, of none, and of the first two.
 pub(crate) fn out_of_order(alloc: Global, elements: ArrayRef) -> Result<ArrayRef, VortexError> {
-    if elements.len() != 4 {
-        return Err(VortexError::MismatchedTypes);
-    }
-    let offsets = counts(alloc, &[2, 4, 0])?;
-    let sizes = counts(alloc, &[2, 0, 2])?;
-    ArrayRef::list_view(
-        alloc,
-        elements,
-        offsets,
-        sizes,
-        Validity::NonNullable,
-        false,
-    )
+    lists_at(alloc, elements, &[2, 4, 0], &[2, 0, 2])
 }
 
 // The lists of the first two of four elements, of none, and of the two in the middle.
 pub(crate) fn overlapping(alloc: Global, elements: ArrayRef) -> Result<ArrayRef, VortexError> {
-    if elements.len() != 4 {
-        return Err(VortexError::MismatchedTypes);
-    }
-    let offsets = counts(alloc, &[0, 0, 1])?;
-    let sizes = counts(alloc, &[2, 0, 2])?;
-    ArrayRef::list_view(
-        alloc,
-        elements,
-        offsets,
-        sizes,
-        Validity::NonNullable,
-        false,
-    )
+    lists_at(alloc, elements, &[0, 0, 1], &[2, 0, 2])
 }
 
 // The lists of the first of four elements, of none, and of the last three.
 pub(crate) fn parted_elsewhere(alloc: Global, elements: ArrayRef) -> Result<ArrayRef, VortexError> {
-    if elements.len() != 4 {
-        return Err(VortexError::MismatchedTypes);
-    }
-    let offsets = counts(alloc, &[0, 1, 1])?;
-    let sizes = counts(alloc, &[1, 0, 3])?;
-    ArrayRef::list_view(
-        alloc,
-        elements,
-        offsets,
-        sizes,
-        Validity::NonNullable,
-        false,
-    )
+    lists_at(alloc, elements, &[0, 1, 1], &[1, 0, 3])
 }
 
 // Values of a number each, null where there is none.
