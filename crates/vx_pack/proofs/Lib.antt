@@ -9,3 +9,14 @@ pub mod SameParts
 pub mod Tests
 pub mod SameBytes
 pub mod OneRow
+pub mod BytesOfNumbers
+pub mod PackedValid
+pub mod CountsArrays
+pub mod PackedLists
+pub mod PackedLen
+pub mod BlankRows
+pub mod JoinedLists
+pub mod PackedRows
+pub mod PackedOne
+pub mod PackedLaws
+pub mod PackedParts
