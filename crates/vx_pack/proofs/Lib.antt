@@ -15,13 +15,15 @@ pub mod CountsArrays
 pub mod PackedLists
 pub mod PackedLen
 pub mod BlankRows
+pub mod JoinedLists
 pub mod PackedRows
 pub mod PackedOne
 pub mod PackedLaws
+pub mod PackedParts
 pub mod PieceRows
 pub mod FittingPieces
 pub mod PackedTexts
 pub mod ListPieces
 pub mod PackedColumns
-pub mod PackedParts
+pub mod PackedSteps
 pub mod WholeRows

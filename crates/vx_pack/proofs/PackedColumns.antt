@@ -1,17 +1,17 @@
 -- Fields that are packed one after another.
-use Rattle.std.proofs.Common.{◌≡◌, ◌∙◌, ◌+◌, ◌<◌, ℕ, zero, suc, List, [], ◌∷◌, ◌++◌, length, map, get_or, refl, sym, subst, inl, inr}
+use Rattle.std.proofs.Common.{◌≡◌, ◌∙◌, ◌+◌, ◌<◌, ℕ, zero, suc, List, [], ◌∷◌, ◌++◌, length, map, get_or, sym, subst, inl, inr}
 use Rattle.std.proofs.Common.{arith, zero-add}
 use Rattle.std.proofs.lemmas.Bool.{cases_lt}
-use Rattle.std.proofs.lemmas.List.{get_or_append_left, get_or_push, length-map, length_push}
+use Rattle.std.proofs.lemmas.List.{get_or_append_left, get_or_push, length_push}
 use Rattle.vx_base.specs.Fields.{kind_count}
 use Rattle.vx_base.specs.Kinds.{Kinds, no_kinds, kind}
 use Rattle.vx_base.specs.Rows.{Row}
-use Rattle.vx_tree.specs.Formed.{AllLen, IsStruct, column_count}
-use Rattle.vx_tree.specs.Meaning.{tree_len, trees_from}
-use Rattle.vx_tree.specs.Tree.{Tree, Trees, no_trees, tree}
+use Rattle.vx_tree.specs.Formed.{AllLen, IsStruct}
+use Rattle.vx_tree.specs.Meaning.{trees_from}
+use Rattle.vx_tree.specs.Tree.{Tree, Trees}
 use Rattle.vx_pack.specs.Packed.{ArePacked, AreTooLarge, IsPacked, IsTooLarge, field_or_default}
 use Rattle.vx_pack.specs.Records.{kind_at}
-use Rattle.vx_pack.proofs.PackedLen.{packed_len}
+use Rattle.vx_pack.proofs.PackedParts.{columns_counted, columns_len}
 
 -- the rows of the field at a place
 abbrev pub field_rows : Kinds → List Row → ℕ → List Row
@@ -78,19 +78,10 @@ one_too_large ks rs place inside large =
 
 -- ---- the records of them
 
-packed_lens : (c : ℕ) (ks : Kinds) (rs : List Row) (us : Trees) → ArePacked c ks rs us
-    → (column_count us ≡ kind_count ks) × AllLen (length rs) us
-packed_lens c no_kinds rs no_trees are = (refl, tt)
-packed_lens c no_kinds rs (tree t us) are = absurd are
-packed_lens c (kind k ks) rs no_trees are = absurd are
-packed_lens c (kind k ks) rs (tree t us) are =
-    let rest = packed_lens (suc c) ks rs us are.1 in
-    let len : tree_len t ≡ length rs = packed_len k (map (field_or_default k c) rs) t are.0 ∙ length-map rs (field_or_default k c) in
-    (omega (arith, rest.0), (len, rest.1))
-
 pub packed_struct : (names : List (List ℕ)) (ks : Kinds) (rs : List Row) (us : Trees) (len : ℕ) → length names ≡ kind_count ks
     → length rs ≡ len
     → ArePacked 0 ks rs us → IsStruct names us len
-packed_struct names ks rs us len named counted are =
-    let lens = packed_lens 0 ks rs us are in
-    record { named = named ∙ sym lens.0; lens = subst (λ n. AllLen n us) counted lens.1 }
+packed_struct names ks rs us len named counted are = record {
+  named = named ∙ sym (columns_counted 0 ks rs us are);
+  lens = subst (λ n. AllLen n us) counted (columns_len 0 ks rs us are);
+}

@@ -1,183 +1,65 @@
--- What is packed of packed parts: bits, numbers, elements and fields.
-use Rattle.std.proofs.Common.{◌≡◌, ◌∙◌, ◌*◌, ◌^◌, ◌<◌, ◌≤◌, ℕ, Bool, true, List, length, map, sum, sym, ap, subst, inl, inr, arith}
-use Rattle.std.specs.List.{flat_map}
+-- The parts of packed forms have the lengths that their layouts ask for.
+use Rattle.std.proofs.Common.{◌≡◌, ◌∙◌, ◌*◌, ◌<◌, ◌^◌, ℕ, suc, Bool, List, length, map, sum, refl, sym, ap, arith}
+use Rattle.std.specs.Prelude.{ℤ}
+use Rattle.std.specs.List.{All, flat_map}
 use Rattle.std.proofs.lemmas.List.{length-map}
 use Rattle.vx_base.specs.Fields.{kind_count}
-use Rattle.vx_base.specs.Integers.{byte_width}
-use Rattle.vx_base.specs.Kinds.{Kind, Kinds, booleans, integers, lists, fixed_lists, records, is_nullable_kind}
-use Rattle.vx_base.specs.Rows.{Row, truth_of}
-use Rattle.vx_base.specs.declared.errors.VortexError.{VortexError}
+use Rattle.vx_base.specs.Integers.{byte_width, numbers}
+use Rattle.vx_base.specs.Kinds.{Kind, fixed_lists, Kinds, no_kinds, kind, Fits}
+use Rattle.vx_base.specs.Rows.{Row}
 use Rattle.vx_base.specs.declared.ptypes.PType.{PType}
-use Rattle.vx_tree.specs.Formed.{ValidFits, WellFormed}
+use Rattle.vx_tree.specs.Formed.{AllLen, ValidFits, WellFormed, column_count}
 use Rattle.vx_tree.specs.Meaning.{tree_len}
-use Rattle.vx_tree.specs.Tree.{Tree, Trees, Valid, bools, primitive, fixed_list, list_view, structure}
-use Rattle.vx_pack.specs.Packed.{ArePacked, IsPackRefused, IsPacked, IsTooLarge, bytes_of_numbers, count_type, counts_array}
-use Rattle.vx_pack.specs.Packed.{items_or_blank, list_sizes, list_starts, number_or_zero, packed_lists, packed_valid}
-use Rattle.vx_pack.specs.Pieces.{AreElements, AreListPieces, piece_len, pieces_rows}
-use Rattle.vx_pack.specs.Records.{kind_at}
-use Rattle.vx_pack.specs.declared.pieces.Piece.{Piece}
+use Rattle.vx_tree.specs.Tree.{Tree, Trees, no_trees, tree, primitive, fixed_list, Valid}
+use Rattle.vx_pack.specs.Packed.{ArePacked, IsPacked, bytes_of_numbers, field_or_default, items_or_blank, list_sizes, packed_lists}
+use Rattle.vx_pack.specs.Packed.{packed_valid}
 use Rattle.vx_pack.proofs.BytesOfNumbers.{length-bytes_of_numbers, length-numbers_read}
-use Rattle.vx_pack.proofs.ListPieces.{list_elements, list_lens}
-use Rattle.vx_pack.proofs.PackedColumns.{field_rows, one_too_large}
+use Rattle.vx_pack.proofs.JoinedLists.{length-fixed_items, sum-list_sizes}
 use Rattle.vx_pack.proofs.PackedLen.{packed_len}
 use Rattle.vx_pack.proofs.PackedLists.{WellFormed-packed_lists}
 use Rattle.vx_pack.proofs.PackedValid.{ValidFits-packed_valid}
-use Rattle.vx_pack.proofs.PieceRows.{length-pieces_rows}
 
--- ---- validity
+-- ---- numbers
 
--- that of rows of a kind
-abbrev pub IsValidOf : Kind → List Row → Valid → Type 0
-IsValidOf k rs v = v ≡ packed_valid (is_nullable_kind k) rs
-
-pub valid_fits : (k : Kind) (rs : List Row) (v : Valid) (len : ℕ) → IsValidOf k rs v → length rs ≡ len → ValidFits v len
-valid_fits k rs v len valid counted =
-    subst (ValidFits v) counted (subst (λ x. ValidFits x (length rs)) (sym valid) (ValidFits-packed_valid (is_nullable_kind k) rs))
-
--- under a kind that is known
-valid_under : (k l : Kind) (rs : List Row) (v : Valid) → k ≡ l → IsValidOf k rs v → v ≡ packed_valid (is_nullable_kind l) rs
-valid_under k l rs v kind valid = valid ∙ ap (λ x. packed_valid (is_nullable_kind x) rs) kind
-
-packed_under : (k l : Kind) (rs : List Row) (t : Tree) → k ≡ l → IsPacked l rs t → IsPacked k rs t
-packed_under k l rs t kind is = subst (λ x. IsPacked x rs t) (sym kind) is
-
--- ---- bits and numbers
-
-pub truths_packed : (k : Kind) (n : Bool) (rs : List Row) (bits : List Bool) (v : Valid) (t : Tree) → k ≡ booleans n
-    → bits ≡ map truth_of rs → IsValidOf k rs v → t ≡ bools bits v → IsPacked k rs t
-truths_packed k n rs bits v t kind are valid is =
-    packed_under k (booleans n) rs t kind (is ∙ (λ i. bools (are i) (valid_under k (booleans n) rs v kind valid i)))
-
-pub truths_formed : (k : Kind) (rs : List Row) (bits : List Bool) (v : Valid) → bits ≡ map truth_of rs → IsValidOf k rs v
-    → ValidFits v (length bits)
-truths_formed k rs bits v are valid = valid_fits k rs v (length bits) valid (sym (ap length are ∙ length-map rs truth_of))
-
-pub numbers_packed : (k : Kind) (p : PType) (n : Bool) (rs : List Row) (bytes : List ℕ) (v : Valid) (t : Tree) → k ≡ integers p n
-    → bytes ≡ bytes_of_numbers p (map number_or_zero rs) → IsValidOf k rs v → t ≡ primitive p bytes v → IsPacked k rs t
-numbers_packed k p n rs bytes v t kind are valid is =
-    packed_under k (integers p n) rs t kind (is ∙ (λ i. primitive p (are i) (valid_under k (integers p n) rs v kind valid i)))
-
-pub numbers_formed : (k : Kind) (p : PType) (rs : List Row) (bytes : List ℕ) (v : Valid)
-    → bytes ≡ bytes_of_numbers p (map number_or_zero rs) → IsValidOf k rs v
-    → WellFormed (primitive p bytes v)
-numbers_formed k p rs bytes v are valid =
-    let zs = map number_or_zero rs in
-    let read = length-numbers_read p zs in
-    let counted : length rs ≡ tree_len (primitive p (bytes_of_numbers p zs) v) = sym (read ∙ length-map rs number_or_zero) in
-    subst (λ bs. WellFormed (primitive p bs v)) (sym are)
-    (valid_fits k rs v _ valid counted, length-bytes_of_numbers p zs ∙ ap (λ m. m * byte_width p) (sym read))
+pub WellFormed-numbers : (t : PType) (zs : List ℤ) (v : Valid) → ValidFits v (length zs)
+    → WellFormed (primitive t (bytes_of_numbers t zs) v)
+WellFormed-numbers t zs v valid =
+    let read : length (numbers t (bytes_of_numbers t zs)) ≡ length zs = length-numbers_read t zs in
+    (rw read valid, length-bytes_of_numbers t zs ∙ ap (λ n. n * byte_width t) (sym read))
 
 -- ---- lists
 
--- the elements, offsets and sizes of lists
-pub record AreListParts (item : Kind) (rs : List Row) (ps : List Piece) (total : ℕ) (e o s : Tree) : Type 0 where
-  pub lists : AreListPieces item 0 rs ps
-  pub counted : total ≡ sum (map piece_len ps)
-  pub fits : total < 2 ^ 63
-  pub elements : IsPacked item (pieces_rows item ps) e
-  pub offsets : o ≡ counts_array (count_type total) (list_starts (map piece_len ps))
-  pub sizes : s ≡ counts_array (count_type total) (map piece_len ps)
+pub elements_len : (k : Kind) (rs : List Row) (e : Tree) → IsPacked k (flat_map (items_or_blank k 0) rs) e
+    → tree_len e ≡ sum (list_sizes k rs)
+elements_len k rs e h = packed_len k (flat_map (items_or_blank k 0) rs) e h ∙ sym (sum-list_sizes k rs)
 
--- the sizes are those of the rows
-sizes_of : (item : Kind) (rs : List Row) (ps : List Piece) (total : ℕ) (e o s : Tree) → AreListParts item rs ps total e o s
-    → total ≡ sum (list_sizes item rs)
-sizes_of item rs ps total e o s h = h.counted ∙ ap sum (list_lens item 0 rs ps h.lists)
+pub lists_formed : (k : Kind) (n : Bool) (rs : List Row) (e : Tree) → sum (list_sizes k rs) < 2 ^ 63
+    → IsPacked k (flat_map (items_or_blank k 0) rs) e
+    → WellFormed (packed_lists e (list_sizes k rs) (packed_valid n rs))
+lists_formed k n rs e fits h =
+    let sizes : length (list_sizes k rs) ≡ length rs = length-map rs (λ r. length (items_or_blank k 0 r)) in
+    WellFormed-packed_lists e (list_sizes k rs) (packed_valid n rs) (elements_len k rs e h) fits (rw sizes (ValidFits-packed_valid n rs))
 
-parts_of : (item : Kind) (rs : List Row) (ps : List Piece) (total : ℕ) (e o s : Tree) (v : Valid) → AreListParts item rs ps total e o s
-    → list_view e o s v true ≡ packed_lists e (list_sizes item rs) v
-parts_of item rs ps total e o s v h =
-    let lens = list_lens item 0 rs ps h.lists in
-    let summed = sizes_of item rs ps total e o s h in
-    (λ i. list_view e (h.offsets i) (h.sizes i) v true)
-    ∙ (λ i. let p = count_type (summed i) in list_view e (counts_array p (list_starts (lens i))) (counts_array p (lens i)) v true)
+pub fixed_elements_len : (k : Kind) (size : ℕ) (n : Bool) (rs : List Row) (e : Tree) → All (Fits (fixed_lists k size n)) rs
+    → IsPacked k (flat_map (items_or_blank k size) rs) e → tree_len e ≡ length rs * size
+fixed_elements_len k size n rs e fits h =
+    packed_len k (flat_map (items_or_blank k size) rs) e h ∙ length-fixed_items k size n rs fits
 
-pub lists_formed : (k item : Kind) (rs : List Row) (ps : List Piece) (total : ℕ) (e o s : Tree) (v : Valid)
-    → AreListParts item rs ps total e o s
-    → IsValidOf k rs v → WellFormed (list_view e o s v true)
-lists_formed k item rs ps total e o s v h valid =
-    let summed = sizes_of item rs ps total e o s h in
-    let len : tree_len e ≡ sum (list_sizes item rs) =
-    packed_len item (pieces_rows item ps) e h.elements ∙ length-pieces_rows item ps ∙ sym h.counted ∙ summed in
-    let one_each : length rs ≡ length (list_sizes item rs) = sym (length-map rs (λ r. length (items_or_blank item 0 r))) in
-    subst WellFormed (sym (parts_of item rs ps total e o s v h))
-    (WellFormed-packed_lists e (list_sizes item rs) v len (omega (arith, h.fits, summed)) (valid_fits k rs v _ valid one_each))
-
-pub lists_packed : (k item : Kind) (n : Bool) (rs : List Row) (ps : List Piece) (total : ℕ) (e o s : Tree) (v : Valid) (t : Tree)
-    → k ≡ lists item n
-    → AreListParts item rs ps total e o s → IsValidOf k rs v → t ≡ list_view e o s v true → IsPacked k rs t
-lists_packed k item n rs ps total e o s v t kind h valid is =
-    packed_under k (lists item n) rs t kind (
-      omega (arith, h.fits, sizes_of item rs ps total e o s h),
-      (
-        e,
-        subst (λ xs. IsPacked item xs e) (list_elements item 0 rs ps h.lists) h.elements,
-        is ∙ parts_of item rs ps total e o s v h ∙ ap (packed_lists e (list_sizes item rs)) (valid_under k (lists item n) rs v kind valid),
-      ),
-    )
-
-pub lists_too_many : (k item : Kind) (n : Bool) (rs : List Row) (ps : List Piece) → k ≡ lists item n → AreListPieces item 0 rs ps
-    → 2 ^ 63 ≤ sum (map piece_len ps) → IsTooLarge k rs
-lists_too_many k item n rs ps kind are many =
-    subst (λ x. IsTooLarge x rs) (sym kind) (inl (omega (arith, many, ap sum (list_lens item 0 rs ps are))))
-
--- why parts are not packed is why the whole is not
-refused_too : (k l : Kind) (rs ss : List Row) (e : VortexError) → (IsTooLarge l ss → IsTooLarge k rs) → IsPackRefused l ss e
-    → IsPackRefused k rs e
-refused_too k l rs ss e large (inl memory) = inl memory
-refused_too k l rs ss e large (inr over) = inr (over.0, large over.1)
-
-pub lists_refused : (k item : Kind) (n : Bool) (rs : List Row) (ps : List Piece) (e : VortexError) → k ≡ lists item n
-    → AreListPieces item 0 rs ps
-    → IsPackRefused item (pieces_rows item ps) e → IsPackRefused k rs e
-lists_refused k item n rs ps e kind are =
-    refused_too k item rs (pieces_rows item ps) e (λ large. subst (λ x. IsTooLarge x rs) (sym kind)
-    (inr (subst (IsTooLarge item) (list_elements item 0 rs ps are) large)))
-
--- ---- lists of one size
-
--- the rows of all lists, default rows where they are null
-abbrev pub AreSizedElements : Kind → ℕ → List Row → List Piece → Type 0
-AreSizedElements item size rs ps = AreElements item (length rs * size) (flat_map (items_or_blank item size) rs) ps
-
-pub sized_formed : (k item : Kind) (size : ℕ) (rs : List Row) (ps : List Piece) (len : ℕ) (e : Tree) (v : Valid) → length rs ≡ len
-    → AreSizedElements item size rs ps → IsPacked item (pieces_rows item ps) e → IsValidOf k rs v → WellFormed (fixed_list e size v len)
-sized_formed k item size rs ps len e v counted are elements valid = (
-  valid_fits k rs v len valid counted,
-  packed_len item (pieces_rows item ps) e elements ∙ length-pieces_rows item ps ∙ are.count ∙ ap (λ m. m * size) counted,
-)
-
-pub sized_packed : (k item : Kind) (size : ℕ) (n : Bool) (rs : List Row) (ps : List Piece) (len : ℕ) (e : Tree) (v : Valid) (t : Tree)
-    → k ≡ fixed_lists item size n
-    → length rs ≡ len → len * size < 2 ^ 64 → AreSizedElements item size rs ps → IsPacked item (pieces_rows item ps) e → IsValidOf k rs v
-    → t ≡ fixed_list e size v len → IsPacked k rs t
-sized_packed k item size n rs ps len e v t kind counted fits are elements valid is =
-    let valid_is = valid_under k (fixed_lists item size n) rs v kind valid in
-    packed_under k (fixed_lists item size n) rs t kind (
-      subst (λ m. m * size < 2 ^ 64) (sym counted) fits,
-      (e, subst (λ xs. IsPacked item xs e) are.rows elements, is ∙ (λ i. fixed_list e size (valid_is i) (sym counted i))),
-    )
-
-pub sized_too_many : (k item : Kind) (size : ℕ) (n : Bool) (rs : List Row) (len : ℕ) → k ≡ fixed_lists item size n → length rs ≡ len
-    → 2 ^ 64 ≤ len * size → IsTooLarge k rs
-sized_too_many k item size n rs len kind counted many =
-    subst (λ x. IsTooLarge x rs) (sym kind) (inl (subst (λ m. 2 ^ 64 ≤ m * size) (sym counted) many))
-
-pub sized_refused : (k item : Kind) (size : ℕ) (n : Bool) (rs : List Row) (ps : List Piece) (e : VortexError) → k ≡ fixed_lists item size n
-    → AreSizedElements item size rs ps → IsPackRefused item (pieces_rows item ps) e → IsPackRefused k rs e
-sized_refused k item size n rs ps e kind are =
-    refused_too k item rs (pieces_rows item ps) e
-    (λ large. subst (λ x. IsTooLarge x rs) (sym kind) (inr (subst (IsTooLarge item) are.rows large)))
+pub fixed_lists_formed : (k : Kind) (size : ℕ) (n : Bool) (rs : List Row) (e : Tree) → All (Fits (fixed_lists k size n)) rs
+    → IsPacked k (flat_map (items_or_blank k size) rs) e → WellFormed (fixed_list e size (packed_valid n rs) (length rs))
+fixed_lists_formed k size n rs e fits h = (ValidFits-packed_valid n rs, fixed_elements_len k size n rs e fits h)
 
 -- ---- records
 
-pub records_packed : (k : Kind) (names : List (List ℕ)) (ks : Kinds) (n : Bool) (rs : List Row) (us : Trees) (v : Valid) (len : ℕ)
-    (t : Tree) → k ≡ records names ks n
-    → length rs ≡ len → ArePacked 0 ks rs us → IsValidOf k rs v → t ≡ structure names us v len → IsPacked k rs t
-records_packed k names ks n rs us v len t kind counted are valid is =
-    let valid_is = valid_under k (records names ks n) rs v kind valid in
-    packed_under k (records names ks n) rs t kind (us, are, is ∙ (λ i. structure names us (valid_is i) (sym counted i)))
+pub columns_len : (c : ℕ) (ks : Kinds) (rs : List Row) (us : Trees) → ArePacked c ks rs us → AllLen (length rs) us
+columns_len c no_kinds rs no_trees h = tt
+columns_len c no_kinds rs (tree t us) h = absurd h
+columns_len c (kind k ks) rs no_trees h = absurd h
+columns_len c (kind k ks) rs (tree t us) h =
+    (packed_len k (map (field_or_default k c) rs) t h.0 ∙ length-map rs (field_or_default k c), columns_len (suc c) ks rs us h.1)
 
-pub field_refused : (names : List (List ℕ)) (ks : Kinds) (n : Bool) (rs : List Row) (place : ℕ) (e : VortexError) → place < kind_count ks
-    → IsPackRefused (kind_at place ks) (field_rows ks rs place) e → IsPackRefused (records names ks n) rs e
-field_refused names ks n rs place e inside =
-    refused_too (records names ks n) (kind_at place ks) rs (field_rows ks rs place) e (one_too_large ks rs place inside)
+pub columns_counted : (c : ℕ) (ks : Kinds) (rs : List Row) (us : Trees) → ArePacked c ks rs us → column_count us ≡ kind_count ks
+columns_counted c no_kinds rs no_trees h = refl
+columns_counted c no_kinds rs (tree t us) h = absurd h
+columns_counted c (kind k ks) rs no_trees h = absurd h
+columns_counted c (kind k ks) rs (tree t us) h = omega (arith, columns_counted (suc c) ks rs us h.1)

@@ -3,12 +3,11 @@ use Rattle.std.proofs.Common.{◌≡◌, ◌∙◌, ◌+◌, ◌*◌, ◌<◌, �
 use Rattle.std.proofs.Common.{refl, sym, ap, subst, inl, arith, add-zero, pos, None}
 use Rattle.std.specs.Prelude.{ℤ, if◌then◌else◌}
 use Rattle.std.specs.List.{All, flat_map}
-use Rattle.std.proofs.lemmas.List.{get_or-map, length-append, length-map, length-take-le, take-map}
-use Rattle.std.proofs.lemmas.List.Concat.{get_or-flat_map, length-flat_map}
-use Rattle.std.proofs.lemmas.List.Elements.{All-append, All-head, All-map, All-nil, All-tail, All-take}
+use Rattle.std.proofs.lemmas.List.{get_or-map, length-map, length-take-le}
+use Rattle.std.proofs.lemmas.List.Concat.{get_or-flat_map}
+use Rattle.std.proofs.lemmas.List.Elements.{All-map, All-take}
 use Rattle.std.proofs.lemmas.List.Folds.{length-flat_map-take}
 use Rattle.std.proofs.lemmas.List.FromFn.{fill_by_all}
-use Rattle.std.proofs.lemmas.List.Sums.{sum-map}
 use Rattle.vx_base.proofs.Zeroes.{holds-zero}
 use Rattle.vx_base.specs.Integers.{numbers, number_nth, Holds}
 use Rattle.vx_base.specs.Kinds.{Kind, booleans, integers, texts, binaries, lists, fixed_lists, records, Kinds, no_kinds, kind, Fits}
