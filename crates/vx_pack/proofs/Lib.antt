@@ -9,3 +9,4 @@ pub mod SameParts
 pub mod Tests
 pub mod SameBytes
 pub mod OneRow
+pub mod PieceRows

@@ -66,7 +66,7 @@ fn push_lists<'a>(
     requires piece { IsPiece (dtype_meaning dtype.now) piece }
     requires blank { blank_of (dtype_meaning dtype.now) ≡ blank }
     ensures { (item : Kind) → IsItemOf item (dtype_meaning dtype.now) → Gives result (λ _. (more : List Pieces)
-        × AreListPieces item blank (piece_rows (dtype_meaning dtype.now) piece) more
+        × AreListPieces item blank (piece_rows (dtype_meaning dtype.now) piece.entry) more
         × (lists.new.items ≡ lists.old.items ++ more)) }
 {
     for i in 0..piece.len() {
