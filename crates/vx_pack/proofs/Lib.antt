@@ -9,3 +9,7 @@ pub mod SameParts
 pub mod Tests
 pub mod SameBytes
 pub mod OneRow
+pub mod BytesOfNumbers
+pub mod PackedValid
+pub mod CountsArrays
+pub mod PackedLists

@@ -4,3 +4,5 @@ pub mod Parts
 pub mod Lists
 pub mod Records
 pub mod Numbers
+pub mod Packed
+pub mod PackedLaws
