@@ -22,9 +22,11 @@ one_read t z =
     length_numbers t (bytes_of t z) ∙ ap (λ (n : ℕ). n / byte_width t) size ∙ whole t 1
 
 -- the first, and then the others
-first_read : (t : PType) (z : ℤ) (zs : List ℤ) → numbers t (bytes_of_numbers t (z ∷ zs)) ≡ numbers t (bytes_of t z) ++ numbers t (bytes_of_numbers t zs)
+first_read : (t : PType) (z : ℤ) (zs : List ℤ)
+    → numbers t (bytes_of_numbers t (z ∷ zs)) ≡ numbers t (bytes_of t z) ++ numbers t (bytes_of_numbers t zs)
 first_read t z zs =
-    numbers_append t (bytes_of t z) (bytes_of_numbers t zs) 1 (length zs) (omega (arith, length-bytes_of t z)) (length-bytes_of_numbers t zs)
+    numbers_append t (bytes_of t z) (bytes_of_numbers t zs) 1 (length zs) (omega (arith, length-bytes_of t z))
+    (length-bytes_of_numbers t zs)
 
 pub length-numbers_read : (t : PType) (zs : List ℤ) → length (numbers t (bytes_of_numbers t zs)) ≡ length zs
 length-numbers_read t zs =
@@ -42,7 +44,8 @@ pub number_read_back : (t : PType) (zs : List ℤ) (i : ℕ) (d : ℤ) → i < l
     → get_or (numbers t (bytes_of_numbers t zs)) i d ≡ get_or zs i d
 number_read_back t [] i d l h = absurd (omega arith)
 number_read_back t (z ∷ zs) zero d l h =
-    ap (λ (ys : List ℤ). get_or ys 0 d) (first_read t z zs ∙ ap (λ (ys : List ℤ). ys ++ numbers t (bytes_of_numbers t zs)) (held_read t z h))
+    ap (λ (ys : List ℤ). get_or ys 0 d) (first_read t z zs
+    ∙ ap (λ (ys : List ℤ). ys ++ numbers t (bytes_of_numbers t zs)) (held_read t z h))
 number_read_back t (z ∷ zs) (suc i) d l h =
     let place : suc i ≡ length (numbers t (bytes_of t z)) + i = omega (arith, one_read t z) in
     ap (λ (ys : List ℤ). get_or ys (suc i) d) (first_read t z zs)

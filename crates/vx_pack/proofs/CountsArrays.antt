@@ -30,13 +30,15 @@ AreHeld t ns = All (λ n. Holds t (pos n)) ns
 pub tree_len-counts_array : (t : PType) (ns : List ℕ) → tree_len (counts_array t ns) ≡ length ns
 tree_len-counts_array t ns = length-numbers_read t (map pos ns) ∙ length-map ns pos
 
-pub row_at-counts_array : (t : PType) (ns : List ℕ) (i : ℕ) → AreHeld t ns → i < length ns → row_at (counts_array t ns) i ≡ whole (pos (get_or ns i 0))
+pub row_at-counts_array : (t : PType) (ns : List ℕ) (i : ℕ) → AreHeld t ns → i < length ns
+    → row_at (counts_array t ns) i ≡ whole (pos (get_or ns i 0))
 row_at-counts_array t ns i held l =
     let inside : i < length (map pos ns) = rw length-map l in
     let here : get_or (map pos ns) i (pos 0) ≡ pos (get_or ns i 0) = get_or-map pos ns i 0 (pos 0) l in
     ap whole (number_read_back t (map pos ns) i (pos 0) inside (rw here (held i 0 l)) ∙ here)
 
-pub count_in-counts_array : (t : PType) (ns : List ℕ) (i : ℕ) → AreHeld t ns → i < length ns → count_in (row_at (counts_array t ns) i) ≡ get_or ns i 0
+pub count_in-counts_array : (t : PType) (ns : List ℕ) (i : ℕ) → AreHeld t ns → i < length ns
+    → count_in (row_at (counts_array t ns) i) ≡ get_or ns i 0
 count_in-counts_array t ns i held l = ap count_in (row_at-counts_array t ns i held l)
 
 pub IsCounts-counts_array : (t : PType) (ns : List ℕ) → AreHeld t ns → IsCounts (counts_array t ns)

@@ -13,3 +13,8 @@ pub mod BytesOfNumbers
 pub mod PackedValid
 pub mod CountsArrays
 pub mod PackedLists
+pub mod PackedLen
+pub mod BlankRows
+pub mod PackedRows
+pub mod PackedOne
+pub mod PackedLaws

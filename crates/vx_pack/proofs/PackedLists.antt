@@ -50,18 +50,26 @@ tree_len-starts_array sizes = tree_len-counts_array (count_type (sum sizes)) (li
 pub tree_len-sizes_array : (sizes : List ℕ) → tree_len (sizes_array sizes) ≡ length sizes
 tree_len-sizes_array sizes = tree_len-counts_array (count_type (sum sizes)) sizes
 
-pub start_read : (sizes : List ℕ) (i : ℕ) → sum sizes < 2 ^ 63 → i < length sizes → count_in (row_at (starts_array sizes) i) ≡ place_of sizes i
+pub start_read : (sizes : List ℕ) (i : ℕ) → sum sizes < 2 ^ 63 → i < length sizes
+    → count_in (row_at (starts_array sizes) i) ≡ place_of sizes i
 start_read sizes i fits l =
     count_in-counts_array (count_type (sum sizes)) (list_starts sizes) i (starts_held sizes fits) (omega (arith, length-list_starts sizes))
     ∙ get_or-list_starts sizes i 0 l
 
-pub size_read : (sizes : List ℕ) (i : ℕ) → sum sizes < 2 ^ 63 → i < length sizes → count_in (row_at (sizes_array sizes) i) ≡ get_or sizes i 0
+pub size_read : (sizes : List ℕ) (i : ℕ) → sum sizes < 2 ^ 63 → i < length sizes
+    → count_in (row_at (sizes_array sizes) i) ≡ get_or sizes i 0
 size_read sizes i fits l = count_in-counts_array (count_type (sum sizes)) sizes i (sizes_held sizes fits) l
 
 pub IsConsecutive-packed_lists : (sizes : List ℕ) → sum sizes < 2 ^ 63 → IsConsecutive (starts_array sizes) (sizes_array sizes)
 IsConsecutive-packed_lists sizes fits i l =
     let next : i + 1 < length sizes = omega (arith, tree_len-starts_array sizes) in
-    omega (arith, start_read sizes i fits (omega arith), size_read sizes i fits (omega arith), start_read sizes (i + 1) fits next, place_of-next sizes i (omega arith))
+    omega (
+      arith,
+      start_read sizes i fits (omega arith),
+      size_read sizes i fits (omega arith),
+      start_read sizes (i + 1) fits next,
+      place_of-next sizes i (omega arith),
+    )
 
 -- ---- the array of lists
 
@@ -80,7 +88,8 @@ IsListView-packed_lists e sizes len fits = record {
   follows = λ set. IsConsecutive-packed_lists sizes fits;
 }
 
-pub WellFormed-packed_lists : (e : Tree) (sizes : List ℕ) (v : Valid) → tree_len e ≡ sum sizes → sum sizes < 2 ^ 63 → ValidFits v (length sizes)
+pub WellFormed-packed_lists : (e : Tree) (sizes : List ℕ) (v : Valid) → tree_len e ≡ sum sizes → sum sizes < 2 ^ 63
+    → ValidFits v (length sizes)
     → WellFormed (packed_lists e sizes v)
 WellFormed-packed_lists e sizes v len fits valid =
     (rw (tree_len-starts_array sizes) valid, IsListView-packed_lists e sizes len fits)

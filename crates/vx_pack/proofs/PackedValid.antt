@@ -34,9 +34,11 @@ ValidFits-valid_from bits = elim (eqb_tells (count_by (λ b. b) bits) (length bi
   ])
 ]
 
-pub is_valid_at-valid_from : (bits : List Bool) (i : ℕ) (d : Bool) → i < length bits → is_valid_at (valid_from bits all_valid) i ≡ get_or bits i d
+pub is_valid_at-valid_from : (bits : List Bool) (i : ℕ) (d : Bool) → i < length bits
+    → is_valid_at (valid_from bits all_valid) i ≡ get_or bits i d
 is_valid_at-valid_from bits i d l =
-    sym (get_or-valid_mask (valid_from bits all_valid) (length bits) i d l) ∙ ap (λ (bs : List Bool). get_or bs i d) (valid_from-mask bits true)
+    sym (get_or-valid_mask (valid_from bits all_valid) (length bits) i d l)
+    ∙ ap (λ (bs : List Bool). get_or bs i d) (valid_from-mask bits true)
 
 -- ---- of rows
 
@@ -60,7 +62,8 @@ fits_present k (items rs) plain fits = refl
 fits_present k (record_of fs) plain fits = refl
 
 -- a row that fits is valid where it is there
-pub is_valid_at-packed_valid : (k : Kind) (n : Bool) (rs : List Row) (i : ℕ) (d : Row) → is_nullable_kind k ≡ n → i < length rs → Fits k (get_or rs i d)
+pub is_valid_at-packed_valid : (k : Kind) (n : Bool) (rs : List Row) (i : ℕ) (d : Row) → is_nullable_kind k ≡ n → i < length rs
+    → Fits k (get_or rs i d)
     → is_valid_at (packed_valid n rs) i ≡ is_present (get_or rs i d)
 is_valid_at-packed_valid k false rs i d plain l fits = sym (fits_present k (get_or rs i d) plain fits)
 is_valid_at-packed_valid k true rs i d may l fits =
