@@ -10,3 +10,12 @@ pub mod Tests
 pub mod SameBytes
 pub mod OneRow
 pub mod PieceRows
+pub mod BytesOfNumbers
+pub mod PackedValid
+pub mod CountsArrays
+pub mod PackedLists
+pub mod PackedLen
+pub mod BlankRows
+pub mod PackedRows
+pub mod PackedOne
+pub mod PackedLaws
