@@ -10,6 +10,7 @@ pub mod Tests
 pub mod SameBytes
 pub mod OneRow
 pub mod PieceRows
+pub mod ListPieces
 pub mod BytesOfNumbers
 pub mod PackedValid
 pub mod CountsArrays

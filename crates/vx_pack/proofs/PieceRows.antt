@@ -1,11 +1,11 @@
 -- The rows of pieces, one after another.
-use Rattle.std.proofs.Common.{◌≡◌, ◌∙◌, ◌+◌, ◌<◌, ℕ, zero, suc, List, [], ◌∷◌, ◌++◌, length, map, replicate, take, get_or, sum, refl, sym, ap, subst, arith}
+use Rattle.std.proofs.Common.{◌≡◌, ◌∙◌, ◌+◌, ◌<◌, ◌≤◌, ℕ, zero, suc, List, [], ◌∷◌, ◌++◌, length, map, replicate, take, get_or, sum, refl, sym, ap, subst, arith}
 use Rattle.std.specs.List.{All, flat_map, range_with_len}
 use Rattle.std.proofs.lemmas.List.{append-nil, length-append, take_more}
 use Rattle.std.proofs.lemmas.List.Concat.{flat_map-append}
 use Rattle.std.proofs.lemmas.List.Elements.{All-append, All-head, All-map, All-nil, All-tail}
-use Rattle.std.proofs.lemmas.List.FromFn.{length-map-range_with_len, map-range_with_len_more}
-use Rattle.std.proofs.lemmas.List.Sums.{sum_by-cons}
+use Rattle.std.proofs.lemmas.List.FromFn.{get_or-map-range_with_len, length-map-range_with_len, map-range_with_len_more}
+use Rattle.std.proofs.lemmas.List.Sums.{sum-map, sum_by-cons, sum_by_more_le}
 use Rattle.vx_base.specs.Kinds.{Kind}
 use Rattle.vx_base.specs.Rows.{Row}
 use Rattle.vx_pack.specs.declared.pieces.Piece.{Piece}
@@ -25,6 +25,11 @@ map-range_with_len-same f g a (suc n) same =
 pub map-range_with_len-replicate : {A : Type 0} (x : A) (a n : ℕ) → map (λ i. x) (range_with_len a n) ≡ replicate n x
 map-range_with_len-replicate x a zero = refl
 map-range_with_len-replicate x a (suc n) = ap (λ xs. x ∷ xs) (map-range_with_len-replicate x (a + 1) n)
+
+pub All-range_with_len : {A : Type 0} (P : A → Type 0) (f : ℕ → A) (n : ℕ) → ((i : ℕ) → i < n → P (f i)) → All P (map f (range_with_len 0 n))
+All-range_with_len P f n each i d l =
+    let inside : i < n = omega (arith, length-map-range_with_len f 0 n) in
+    subst P (sym (get_or-map-range_with_len f 0 n i i d inside (omega arith))) (each i inside)
 
 -- ---- the rows of a piece
 
@@ -61,3 +66,7 @@ All-pieces_rows P k [] each = All-nil P
 All-pieces_rows P k (p ∷ ps) each =
     All-append P (piece_rows k p) (pieces_rows k ps) (All-head (λ q. All P (piece_rows k q)) p ps each)
     (All-pieces_rows P k ps (All-tail (λ q. All P (piece_rows k q)) p ps each))
+
+-- the first pieces and the next one have no more rows than all
+pub piece_len_within : (ps : List Piece) (i : ℕ) (p : Piece) → i < length ps → p ≡ get_or ps i p → sum (map piece_len (take i ps)) + piece_len p ≤ sum (map piece_len ps)
+piece_len_within ps i p l at = omega (arith, sum_by_more_le piece_len ps i p l, sum-map piece_len (take i ps), sum-map piece_len ps, ap piece_len at)

@@ -23,7 +23,7 @@ pub(crate) fn field_pieces<'a>(
     requires place { place < length (field_names fields.now) }
     requires pieces { (n : Bool) × All (IsPiece (records (field_names fields.now) (field_kinds fields.now) n)) pieces.now }
     ensures { let kind = records (field_names fields.now) (field_kinds fields.now) in
-        (n : Bool) → All (IsPiece (kind n)) pieces.now → Gives result (λ column.
+        Gives result (λ column. (n : Bool) → All (IsPiece (kind n)) pieces.now →
         AreFieldPieces (kind_at place (field_kinds fields.now)) place (pieces_rows (kind n) pieces.now) column.items) }
 {
     let mut column = Vec::new(alloc);
@@ -43,7 +43,7 @@ fn push_field<'a>(
     requires place { place < length (field_names fields.now) }
     requires piece { (n : Bool) × IsPiece (records (field_names fields.now) (field_kinds fields.now) n) piece }
     ensures { let kind = records (field_names fields.now) (field_kinds fields.now) in
-        (n : Bool) → IsPiece (kind n) piece.entry → Gives result (λ _. (more : List Pieces)
+        Gives result (λ _. (n : Bool) → IsPiece (kind n) piece.entry → (more : List Pieces)
         × AreFieldPieces (kind_at place (field_kinds fields.now)) place (piece_rows (kind n) piece.entry) more
         × (column.new.items ≡ column.old.items ++ more)) }
 {
@@ -59,7 +59,7 @@ fn whole_field<'a>(fields: &StructFields, piece: Piece<'a>, place: usize) -> Opt
     requires place { place < length (field_names fields.now) }
     requires piece { (n : Bool) × IsPiece (records (field_names fields.now) (field_kinds fields.now) n) piece }
     ensures { let kind = records (field_names fields.now) (field_kinds fields.now) in
-        (n : Bool) → IsPiece (kind n) piece.entry → IfSome result (λ field.
+        IfSome result (λ field. (n : Bool) → IsPiece (kind n) piece.entry →
         AreFieldPieces (kind_at place (field_kinds fields.now)) place (piece_rows (kind n) piece.entry) (field ∷ [])) }
 {
     match piece {
@@ -78,7 +78,7 @@ fn push_each_field<'a>(
     requires place { place < length (field_names fields.now) }
     requires piece { (n : Bool) × IsPiece (records (field_names fields.now) (field_kinds fields.now) n) piece }
     ensures { let kind = records (field_names fields.now) (field_kinds fields.now) in
-        (n : Bool) → IsPiece (kind n) piece.entry → Gives result (λ _. (more : List Pieces)
+        Gives result (λ _. (n : Bool) → IsPiece (kind n) piece.entry → (more : List Pieces)
         × AreFieldPieces (kind_at place (field_kinds fields.now)) place (piece_rows (kind n) piece.entry) more
         × (column.new.items ≡ column.old.items ++ more)) }
 {
