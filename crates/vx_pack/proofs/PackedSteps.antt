@@ -14,7 +14,7 @@ use Rattle.vx_pack.specs.Packed.{items_or_blank, list_sizes, list_starts, number
 use Rattle.vx_pack.specs.Pieces.{AreElements, AreListPieces, piece_len, pieces_rows}
 use Rattle.vx_pack.specs.Records.{kind_at}
 use Rattle.vx_pack.specs.declared.pieces.Piece.{Piece}
-use Rattle.vx_pack.proofs.ListPieces.{list_elements, list_lens}
+use Rattle.vx_pack.proofs.ListPieces.{rows_of_lists, sizes_of_lists}
 use Rattle.vx_pack.proofs.PackedColumns.{field_rows, one_too_large}
 use Rattle.vx_pack.proofs.PackedLen.{packed_len}
 use Rattle.vx_pack.proofs.PackedParts.{WellFormed-numbers, lists_formed}
@@ -76,12 +76,12 @@ pub record AreListParts (item : Kind) (rs : List Row) (ps : List Piece) (total :
 -- the sizes are those of the rows
 sizes_of : (item : Kind) (rs : List Row) (ps : List Piece) (total : ℕ) (e o s : Tree) → AreListParts item rs ps total e o s
     → total ≡ sum (list_sizes item rs)
-sizes_of item rs ps total e o s h = h.counted ∙ ap sum (list_lens item 0 rs ps h.lists)
+sizes_of item rs ps total e o s h = h.counted ∙ ap sum (sizes_of_lists item rs ps h.lists)
 
 parts_of : (item : Kind) (rs : List Row) (ps : List Piece) (total : ℕ) (e o s : Tree) (v : Valid) → AreListParts item rs ps total e o s
     → list_view e o s v true ≡ packed_lists e (list_sizes item rs) v
 parts_of item rs ps total e o s v h =
-    let lens = list_lens item 0 rs ps h.lists in
+    let lens = sizes_of_lists item rs ps h.lists in
     let summed = sizes_of item rs ps total e o s h in
     (λ i. list_view e (h.offsets i) (h.sizes i) v true)
     ∙ (λ i. let p = count_type (summed i) in list_view e (counts_array p (list_starts (lens i))) (counts_array p (lens i)) v true)
@@ -90,7 +90,7 @@ pub parts_formed : (k item : Kind) (rs : List Row) (ps : List Piece) (total : �
     → AreListParts item rs ps total e o s
     → IsValidOf k rs v → WellFormed (list_view e o s v true)
 parts_formed k item rs ps total e o s v h valid =
-    let elements = subst (λ xs. IsPacked item xs e) (list_elements item 0 rs ps h.lists) h.elements in
+    let elements = subst (λ xs. IsPacked item xs e) (rows_of_lists item 0 rs ps h.lists) h.elements in
     let fits : sum (list_sizes item rs) < 2 ^ 63 = omega (arith, h.fits, sizes_of item rs ps total e o s h) in
     subst WellFormed (sym (parts_of item rs ps total e o s v h))
     (subst (λ w. WellFormed (packed_lists e (list_sizes item rs) w)) (sym valid) (lists_formed item (is_nullable_kind k) rs e fits elements))
@@ -103,7 +103,7 @@ lists_packed k item n rs ps total e o s v t kind h valid is =
       omega (arith, h.fits, sizes_of item rs ps total e o s h),
       (
         e,
-        subst (λ xs. IsPacked item xs e) (list_elements item 0 rs ps h.lists) h.elements,
+        subst (λ xs. IsPacked item xs e) (rows_of_lists item 0 rs ps h.lists) h.elements,
         is ∙ parts_of item rs ps total e o s v h ∙ ap (packed_lists e (list_sizes item rs)) (valid_under k (lists item n) rs v kind valid),
       ),
     )
@@ -111,7 +111,7 @@ lists_packed k item n rs ps total e o s v t kind h valid is =
 pub lists_too_many : (k item : Kind) (n : Bool) (rs : List Row) (ps : List Piece) → k ≡ lists item n → AreListPieces item 0 rs ps
     → 2 ^ 63 ≤ sum (map piece_len ps) → IsTooLarge k rs
 lists_too_many k item n rs ps kind are many =
-    subst (λ x. IsTooLarge x rs) (sym kind) (inl (omega (arith, many, ap sum (list_lens item 0 rs ps are))))
+    subst (λ x. IsTooLarge x rs) (sym kind) (inl (omega (arith, many, ap sum (sizes_of_lists item rs ps are))))
 
 -- why parts are not packed is why the whole is not
 refused_too : (k l : Kind) (rs ss : List Row) (e : VortexError) → (IsTooLarge l ss → IsTooLarge k rs) → IsPackRefused l ss e
@@ -124,7 +124,7 @@ pub lists_refused : (k item : Kind) (n : Bool) (rs : List Row) (ps : List Piece)
     → IsPackRefused item (pieces_rows item ps) e → IsPackRefused k rs e
 lists_refused k item n rs ps e kind are =
     refused_too k item rs (pieces_rows item ps) e (λ large. subst (λ x. IsTooLarge x rs) (sym kind)
-    (inr (subst (IsTooLarge item) (list_elements item 0 rs ps are) large)))
+    (inr (subst (IsTooLarge item) (rows_of_lists item 0 rs ps are) large)))
 
 -- ---- lists of one size
 
