@@ -10,8 +10,11 @@ pub mod Tests
 pub mod SameBytes
 pub mod OneRow
 pub mod PieceRows
+pub mod PiecesRead
+pub mod PresentRows
 pub mod ListPieces
 pub mod BytesOfNumbers
+pub mod WrittenBack
 pub mod PackedValid
 pub mod CountsArrays
 pub mod PackedLists
