@@ -9,7 +9,12 @@ pub mod SameParts
 pub mod Tests
 pub mod SameBytes
 pub mod OneRow
+pub mod PieceRows
+pub mod PiecesRead
+pub mod PresentRows
+pub mod ListPieces
 pub mod BytesOfNumbers
+pub mod WrittenBack
 pub mod PackedValid
 pub mod CountsArrays
 pub mod PackedLists
@@ -20,10 +25,8 @@ pub mod PackedRows
 pub mod PackedOne
 pub mod PackedLaws
 pub mod PackedParts
-pub mod PieceRows
 pub mod FittingPieces
 pub mod PackedTexts
-pub mod ListPieces
 pub mod PackedColumns
 pub mod PackedSteps
 pub mod WholeRows
