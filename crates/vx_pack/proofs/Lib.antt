@@ -11,6 +11,8 @@ pub mod SameBytes
 pub mod OneRow
 pub mod PieceRows
 pub mod ListPieces
+pub mod FieldPieces
+pub mod PieceCounts
 pub mod BytesOfNumbers
 pub mod PackedValid
 pub mod CountsArrays
