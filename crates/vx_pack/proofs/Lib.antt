@@ -13,6 +13,8 @@ pub mod PieceRows
 pub mod PiecesRead
 pub mod PresentRows
 pub mod ListPieces
+pub mod FieldPieces
+pub mod PieceCounts
 pub mod BytesOfNumbers
 pub mod WrittenBack
 pub mod PackedValid

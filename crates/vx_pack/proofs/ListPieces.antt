@@ -1,7 +1,7 @@
 -- Pieces that are the lists of rows, default rows where a row is null.
 use Rattle.std.proofs.Common.{◌≡◌, ◌∙◌, ◌+◌, ◌*◌, ◌<◌, ◌^◌, ℕ, zero, suc, Bool, true, false, List, [], ◌∷◌, ◌++◌, length, map, replicate, take, sum, refl, sym, ap, subst, arith, add-one, mul-zero, None, get_or, inl, inr}
 use Rattle.std.specs.List.{All, flat_map, range_with_len}
-use Rattle.std.proofs.lemmas.List.{append-nil, append_assoc, map-append, nil_from_length}
+use Rattle.std.proofs.lemmas.List.{append_assoc, map-append, nil_from_length}
 use Rattle.std.proofs.lemmas.List.Concat.{length-flat_map}
 use Rattle.std.proofs.lemmas.List.Elements.{All-append, All-cons, All-head, All-nil, All-tail}
 use Rattle.std.proofs.lemmas.List.Folds.{flat_map-map}
@@ -87,17 +87,14 @@ AreListPieces-append item blank rs ss ps qs first second = record {
 }
 
 -- lists that stand at the end of others
-abbrev pub ArePushed : Kind → ℕ → List Row → List Piece → List Piece → Type 0
-ArePushed item blank rs before after = (more : List Piece) × AreListPieces item blank rs more × (after ≡ before ++ more)
-
-pub ArePushed-nil : (item : Kind) (blank : ℕ) (ps : List Piece) → ArePushed item blank [] ps ps
-ArePushed-nil item blank ps = ([], AreListPieces-nil item blank, sym (append-nil ps))
+abbrev pub ArePushedLists : Kind → ℕ → List Row → List Piece → List Piece → Type 0
+ArePushedLists item blank rs before after = (more : List Piece) × AreListPieces item blank rs more × (after ≡ before ++ more)
 
 -- one more
-pub ArePushed-more : (item k : Kind) (blank i : ℕ) (p list : Piece) (before now after : List Piece) → ArePushed item blank (map (piece_row k p) (range_with_len 0 i)) before now
-    → IsListPiece item blank (piece_row k p i) list → after ≡ now ++ list ∷ [] → ArePushed item blank (map (piece_row k p) (range_with_len 0 (i + 1))) before after
-ArePushed-more item k blank i p list before now after h one e =
-    subst (λ rs. ArePushed item blank rs before after) (sym (piece_rows_more k p i)) (
+pub ArePushedLists-more : (item k : Kind) (blank i : ℕ) (p list : Piece) (before now after : List Piece) → ArePushedLists item blank (map (piece_row k p) (range_with_len 0 i)) before now
+    → IsListPiece item blank (piece_row k p i) list → after ≡ now ++ list ∷ [] → ArePushedLists item blank (map (piece_row k p) (range_with_len 0 (i + 1))) before after
+ArePushedLists-more item k blank i p list before now after h one e =
+    subst (λ rs. ArePushedLists item blank rs before after) (sym (piece_rows_more k p i)) (
       h.0 ++ list ∷ [],
       AreListPieces-append item blank (map (piece_row k p) (range_with_len 0 i)) (piece_row k p i ∷ []) h.0 (list ∷ []) h.1 (AreListPieces-one item blank (piece_row k p i) list one),
       e ∙ ap (λ ps. ps ++ list ∷ []) h.2 ∙ append_assoc before h.0 (list ∷ []),
@@ -105,7 +102,7 @@ ArePushed-more item k blank i p list before now after h one e =
 
 -- those of one more piece
 pub AreListPieces-more : (item k : Kind) (blank i : ℕ) (ps : List Piece) (p : Piece) (before after : List Piece) → i < length ps → p ≡ get_or ps i p
-    → AreListPieces item blank (pieces_rows k (take i ps)) before → ArePushed item blank (piece_rows k p) before after
+    → AreListPieces item blank (pieces_rows k (take i ps)) before → ArePushedLists item blank (piece_rows k p) before after
     → AreListPieces item blank (pieces_rows k (take (i + 1) ps)) after
 AreListPieces-more item k blank i ps p before after l at first more =
     subst (λ rs. AreListPieces item blank rs after) (sym (pieces_rows_more k ps i p l at))
