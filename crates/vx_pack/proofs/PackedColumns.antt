@@ -24,9 +24,9 @@ AreFirstPacked ks rs ts = (j : ℕ) (d : Tree) → j < length ts → IsPacked (k
 pub none_packed : (ks : Kinds) (rs : List Row) → AreFirstPacked ks rs []
 none_packed ks rs j d l = absurd (omega arith)
 
-pub one_more_packed : (ks : Kinds) (rs : List Row) (ts : List Tree) (place : ℕ) (t : Tree) → length ts ≡ place → AreFirstPacked ks rs ts
+pushed_packed : (ks : Kinds) (rs : List Row) (ts : List Tree) (place : ℕ) (t : Tree) → length ts ≡ place → AreFirstPacked ks rs ts
     → IsPacked (kind_at place ks) (field_rows ks rs place) t → AreFirstPacked ks rs (ts ++ t ∷ [])
-one_more_packed ks rs ts place t len before here j d l = elim (cases_lt j place) [
+pushed_packed ks rs ts place t len before here j d l = elim (cases_lt j place) [
   | inl below ↦
       let at : get_or ts j d ≡ get_or (ts ++ t ∷ []) j d = sym (get_or_append_left ts (t ∷ []) d j (omega (arith, len))) in
       subst (IsPacked (kind_at j ks) (field_rows ks rs j)) at (before j d (omega (arith, len)))
@@ -36,6 +36,11 @@ one_more_packed ks rs ts place t len before here j d l = elim (cases_lt j place)
       subst (λ i. IsPacked (kind_at i ks) (field_rows ks rs i) (get_or (ts ++ t ∷ []) j d)) same
       (subst (IsPacked (kind_at place ks) (field_rows ks rs place)) at here)
 ]
+
+pub one_more_packed : (ks : Kinds) (rs : List Row) (ts more : List Tree) (place : ℕ) (t : Tree) → length ts ≡ place → more ≡ ts ++ t ∷ []
+    → AreFirstPacked ks rs ts → IsPacked (kind_at place ks) (field_rows ks rs place) t → AreFirstPacked ks rs more
+one_more_packed ks rs ts more place t len pushed before here =
+    subst (AreFirstPacked ks rs) (sym pushed) (pushed_packed ks rs ts place t len before here)
 
 -- where all fields are packed
 pub all_packed : (ks : Kinds) (rs : List Row) (ts : List Tree) → length ts ≡ kind_count ks → AreFirstPacked ks rs ts

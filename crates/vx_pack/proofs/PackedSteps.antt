@@ -1,5 +1,5 @@
 -- What is packed of packed parts: bits, numbers, elements and fields.
-use Rattle.std.proofs.Common.{◌≡◌, ◌∙◌, ◌*◌, ◌^◌, ◌<◌, ◌≤◌, ℕ, Bool, true, List, length, map, sum, sym, ap, subst, inl, inr, arith}
+use Rattle.std.proofs.Common.{◌≡◌, ◌∙◌, ◌*◌, ◌^◌, ◌<◌, ◌≤◌, ℕ, Bool, true, List, length, map, sum, refl, sym, ap, subst, inl, inr, arith}
 use Rattle.std.specs.List.{flat_map}
 use Rattle.std.proofs.lemmas.List.{length-map}
 use Rattle.vx_base.specs.Fields.{kind_count}
@@ -10,8 +10,10 @@ use Rattle.vx_base.specs.declared.ptypes.PType.{PType}
 use Rattle.vx_tree.specs.Formed.{ValidFits, WellFormed}
 use Rattle.vx_tree.specs.Tree.{Tree, Trees, Valid, bools, primitive, fixed_list, list_view, structure}
 use Rattle.vx_pack.specs.Packed.{ArePacked, IsPackRefused, IsPacked, IsTooLarge, bytes_of_numbers, count_type, counts_array}
+use Rattle.vx_pack.specs.Packed.{field_or_default}
 use Rattle.vx_pack.specs.Packed.{items_or_blank, list_sizes, list_starts, number_or_zero, packed_lists, packed_valid}
-use Rattle.vx_pack.specs.Pieces.{AreElements, AreListPieces, piece_len, pieces_rows}
+use Rattle.vx_pack.specs.Lists.{IsItemOf}
+use Rattle.vx_pack.specs.Pieces.{AreElements, AreFieldPieces, AreListPieces, ArePieces, piece_len, pieces_rows}
 use Rattle.vx_pack.specs.Records.{kind_at}
 use Rattle.vx_pack.specs.declared.pieces.Piece.{Piece}
 use Rattle.vx_pack.proofs.ListPieces.{rows_of_lists, sizes_of_lists}
@@ -20,6 +22,17 @@ use Rattle.vx_pack.proofs.PackedLen.{packed_len}
 use Rattle.vx_pack.proofs.PackedParts.{WellFormed-numbers, lists_formed}
 use Rattle.vx_pack.proofs.PackedValid.{ValidFits-packed_valid}
 use Rattle.vx_pack.proofs.PieceRows.{length-pieces_rows}
+
+-- ---- pieces
+
+pub rows_counted : (k : Kind) (ps : List Piece) (len : ℕ) → ArePieces k ps len → length (pieces_rows k ps) ≡ len
+rows_counted k ps len are = length-pieces_rows k ps ∙ are.count
+
+-- what is true of the rows that a field has, under its kind
+pub field_told : (P : Kind → List Row → Type 0) (field k : Kind) (place : ℕ) (rs : List Row) (ps qs : List Piece) → field ≡ k
+    → AreFieldPieces field place rs ps → qs ≡ ps → P k (pieces_rows k qs) → P field (map (field_or_default field place) rs)
+field_told P field k place rs ps qs kind are same h =
+    subst (P field) are.fields (subst (λ x. P x (pieces_rows x ps)) (sym kind) (subst (λ xs. P k (pieces_rows k xs)) same h))
 
 -- ---- validity
 
@@ -49,6 +62,14 @@ pub truths_formed : (k : Kind) (rs : List Row) (bits : List Bool) (v : Valid) �
     → ValidFits v (length bits)
 truths_formed k rs bits v are valid = valid_fits k rs v (length bits) valid (sym (ap length are ∙ length-map rs truth_of))
 
+-- the numbers of rows that are read under the kind of integers
+pub numbers_read : (k : Kind) (p : PType) (n : Bool) (ps : List Piece) (len : ℕ) (bytes : List ℕ) → k ≡ integers p n → ArePieces k ps len
+    → ((m : Bool) → ArePieces (integers p m) ps len → bytes ≡ bytes_of_numbers p (map number_or_zero (pieces_rows (integers p m) ps)))
+    → bytes ≡ bytes_of_numbers p (map number_or_zero (pieces_rows k ps))
+numbers_read k p n ps len bytes kind are told =
+    subst (λ x. bytes ≡ bytes_of_numbers p (map number_or_zero (pieces_rows x ps))) (sym kind)
+    (told n (subst (λ x. ArePieces x ps len) kind are))
+
 pub numbers_packed : (k : Kind) (p : PType) (n : Bool) (rs : List Row) (bytes : List ℕ) (v : Valid) (t : Tree) → k ≡ integers p n
     → bytes ≡ bytes_of_numbers p (map number_or_zero rs) → IsValidOf k rs v → t ≡ primitive p bytes v → IsPacked k rs t
 numbers_packed k p n rs bytes v t kind are valid is =
@@ -64,6 +85,9 @@ numbers_formed k p rs bytes v are valid =
 
 -- ---- lists
 
+pub lists_items : (k item : Kind) (n : Bool) → k ≡ lists item n → IsItemOf item k
+lists_items k item n kind = subst (IsItemOf item) (sym kind) refl
+
 -- the elements, offsets and sizes of lists
 pub record AreListParts (item : Kind) (rs : List Row) (ps : List Piece) (total : ℕ) (e o s : Tree) : Type 0 where
   pub lists : AreListPieces item 0 rs ps
@@ -72,6 +96,20 @@ pub record AreListParts (item : Kind) (rs : List Row) (ps : List Piece) (total :
   pub elements : IsPacked item (pieces_rows item ps) e
   pub offsets : o ≡ counts_array (count_type total) (list_starts (map piece_len ps))
   pub sizes : s ≡ counts_array (count_type total) (map piece_len ps)
+
+-- of pieces that are read at each step
+pub list_parts : (item : Kind) (rs : List Row) (ps qs bs cs ds : List Piece) (total : ℕ) (e o s : Tree) → AreListPieces item 0 rs ps
+    → qs ≡ ps → bs ≡ ps → cs ≡ ps → ds ≡ ps → total ≡ sum (map piece_len qs) → total < 2 ^ 63 → IsPacked item (pieces_rows item bs) e
+    → o ≡ counts_array (count_type total) (list_starts (map piece_len cs)) → s ≡ counts_array (count_type total) (map piece_len ds)
+    → AreListParts item rs ps total e o s
+list_parts item rs ps qs bs cs ds total e o s are counts elements starts lens counted fits packed offsets sizes = record {
+  lists = are;
+  counted = counted ∙ ap (λ xs. sum (map piece_len xs)) counts;
+  fits = fits;
+  elements = subst (λ xs. IsPacked item (pieces_rows item xs) e) elements packed;
+  offsets = offsets ∙ ap (λ xs. counts_array (count_type total) (list_starts (map piece_len xs))) starts;
+  sizes = sizes ∙ ap (λ xs. counts_array (count_type total) (map piece_len xs)) lens;
+}
 
 -- the sizes are those of the rows
 sizes_of : (item : Kind) (rs : List Row) (ps : List Piece) (total : ℕ) (e o s : Tree) → AreListParts item rs ps total e o s
@@ -93,7 +131,8 @@ parts_formed k item rs ps total e o s v h valid =
     let elements = subst (λ xs. IsPacked item xs e) (rows_of_lists item 0 rs ps h.lists) h.elements in
     let fits : sum (list_sizes item rs) < 2 ^ 63 = omega (arith, h.fits, sizes_of item rs ps total e o s h) in
     subst WellFormed (sym (parts_of item rs ps total e o s v h))
-    (subst (λ w. WellFormed (packed_lists e (list_sizes item rs) w)) (sym valid) (lists_formed item (is_nullable_kind k) rs e fits elements))
+    (subst (λ w. WellFormed (packed_lists e (list_sizes item rs) w)) (sym valid)
+    (lists_formed item (is_nullable_kind k) rs e fits elements))
 
 pub lists_packed : (k item : Kind) (n : Bool) (rs : List Row) (ps : List Piece) (total : ℕ) (e o s : Tree) (v : Valid) (t : Tree)
     → k ≡ lists item n
@@ -129,19 +168,20 @@ lists_refused k item n rs ps e kind are =
 -- ---- lists of one size
 
 -- the rows of all lists, default rows where they are null
-abbrev pub AreSizedElements : Kind → ℕ → List Row → List Piece → Type 0
-AreSizedElements item size rs ps = AreElements item (length rs * size) (flat_map (items_or_blank item size) rs) ps
+abbrev pub AreSizedElements : Kind → ℕ → ℕ → List Row → List Piece → Type 0
+AreSizedElements item size len rs ps = AreElements item (len * size) (flat_map (items_or_blank item size) rs) ps
 
 pub sized_formed : (k item : Kind) (size : ℕ) (rs : List Row) (ps : List Piece) (len : ℕ) (e : Tree) (v : Valid) → length rs ≡ len
-    → AreSizedElements item size rs ps → IsPacked item (pieces_rows item ps) e → IsValidOf k rs v → WellFormed (fixed_list e size v len)
+    → AreSizedElements item size len rs ps → IsPacked item (pieces_rows item ps) e → IsValidOf k rs v → WellFormed (fixed_list e size v len)
 sized_formed k item size rs ps len e v counted are elements valid = (
   valid_fits k rs v len valid counted,
-  packed_len item (pieces_rows item ps) e elements ∙ length-pieces_rows item ps ∙ are.count ∙ ap (λ m. m * size) counted,
+  packed_len item (pieces_rows item ps) e elements ∙ length-pieces_rows item ps ∙ are.count,
 )
 
 pub sized_packed : (k item : Kind) (size : ℕ) (n : Bool) (rs : List Row) (ps : List Piece) (len : ℕ) (e : Tree) (v : Valid) (t : Tree)
     → k ≡ fixed_lists item size n
-    → length rs ≡ len → len * size < 2 ^ 64 → AreSizedElements item size rs ps → IsPacked item (pieces_rows item ps) e → IsValidOf k rs v
+    → length rs ≡ len → len * size < 2 ^ 64 → AreSizedElements item size len rs ps → IsPacked item (pieces_rows item ps) e
+    → IsValidOf k rs v
     → t ≡ fixed_list e size v len → IsPacked k rs t
 sized_packed k item size n rs ps len e v t kind counted fits are elements valid is =
     let valid_is = valid_under k (fixed_lists item size n) rs v kind valid in
@@ -155,9 +195,10 @@ pub sized_too_many : (k item : Kind) (size : ℕ) (n : Bool) (rs : List Row) (le
 sized_too_many k item size n rs len kind counted many =
     subst (λ x. IsTooLarge x rs) (sym kind) (inl (subst (λ m. 2 ^ 64 ≤ m * size) (sym counted) many))
 
-pub sized_refused : (k item : Kind) (size : ℕ) (n : Bool) (rs : List Row) (ps : List Piece) (e : VortexError) → k ≡ fixed_lists item size n
-    → AreSizedElements item size rs ps → IsPackRefused item (pieces_rows item ps) e → IsPackRefused k rs e
-sized_refused k item size n rs ps e kind are =
+pub sized_refused : (k item : Kind) (size len : ℕ) (n : Bool) (rs : List Row) (ps : List Piece) (e : VortexError)
+    → k ≡ fixed_lists item size n
+    → AreSizedElements item size len rs ps → IsPackRefused item (pieces_rows item ps) e → IsPackRefused k rs e
+sized_refused k item size len n rs ps e kind are =
     refused_too k item rs (pieces_rows item ps) e
     (λ large. subst (λ x. IsTooLarge x rs) (sym kind) (inr (subst (IsTooLarge item) are.rows large)))
 

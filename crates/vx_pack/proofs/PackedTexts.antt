@@ -83,8 +83,10 @@ module _ {S : Type 0} (steps : S → Option (Option (Bor (List ℕ))) → S → 
   all_given all came =
       ap (map maybe_value) (sym (map-id all) ∙ items_from_drains all (came.1.0, came.1.1, λ _. (came.0, came.1.2)) given) ∙ rows
 
-  pub collected_packed : (t : Tree) → IsCollected steps s maybe_value k t → IsPacked k rs t
-  collected_packed t made = packed_values k rs t values (subst (λ its. IsArrayOf k its t) (all_given made.all made.came) made.is)
+  pub collected_packed : (h : Kind) (t : Tree) → h ≡ k → IsCollected steps s maybe_value h t → IsPacked k rs t
+  collected_packed h t kind made =
+      packed_values k rs t values
+      (subst (λ x. IsArrayOf x (map bytes_in rs) t) kind (subst (λ its. IsArrayOf h its t) (all_given made.all made.came) made.is))
 
   -- none of the rows is faulty
   none_faulty : (e : VortexError) → All (Fits k) rs → IsFirstFaulty steps s maybe_value k e → ⊥
@@ -101,12 +103,15 @@ module _ {S : Type 0} (steps : S → Option (Option (Bor (List ℕ))) → S → 
       let named : None ≡ refusal_of e = sym none ∙ is.here.1 in
       there_is_none e named is.here.0
 
-  pub refused_packed : (e : VortexError) → All (Fits k) rs → AreRefused steps s maybe_value k e → IsPackRefused k rs e
-  refused_packed e fit (inl memory) = inl memory
-  refused_packed e fit (inr (inl (some, same))) = absurd (there_is_none e (sym (values_kind k values) ∙ same) some)
-  refused_packed e fit (inr (inr (kind, inl first))) = absurd (none_faulty e fit first)
-  refused_packed e fit (inr (inr (kind, inr many))) =
+  refused_so : (e : VortexError) → All (Fits k) rs → AreRefused steps s maybe_value k e → IsPackRefused k rs e
+  refused_so e fit (inl memory) = inl memory
+  refused_so e fit (inr (inl (some, same))) = absurd (there_is_none e (sym (values_kind k values) ∙ same) some)
+  refused_so e fit (inr (inr (kind, inl first))) = absurd (none_faulty e fit first)
+  refused_so e fit (inr (inr (kind, inr many))) =
       let past = past_numbers many.pieces e many.many in
       let counted : IsPieceCount MAX_BUFFER_LEN (heap_lens (map bytes_in rs)) many.pieces =
       subst (λ its. IsPieceCount MAX_BUFFER_LEN (heap_lens its) many.pieces) (all_given many.all many.came) many.counted in
       inr (past.0, too_many_values k rs values (many.pieces, counted, past.1))
+
+  pub refused_packed : (h : Kind) (e : VortexError) → h ≡ k → All (Fits k) rs → AreRefused steps s maybe_value h e → IsPackRefused k rs e
+  refused_packed h e kind fit refused = refused_so e fit (subst (λ x. AreRefused steps s maybe_value x e) kind refused)
