@@ -9,7 +9,14 @@ pub mod SameParts
 pub mod Tests
 pub mod SameBytes
 pub mod OneRow
+pub mod PieceRows
+pub mod PiecesRead
+pub mod PresentRows
+pub mod ListPieces
+pub mod FieldPieces
+pub mod PieceCounts
 pub mod BytesOfNumbers
+pub mod WrittenBack
 pub mod PackedValid
 pub mod CountsArrays
 pub mod PackedLists
@@ -20,3 +27,8 @@ pub mod PackedRows
 pub mod PackedOne
 pub mod PackedLaws
 pub mod PackedParts
+pub mod FittingPieces
+pub mod PackedTexts
+pub mod PackedColumns
+pub mod PackedSteps
+pub mod WholeRows
