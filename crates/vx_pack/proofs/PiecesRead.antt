@@ -40,7 +40,8 @@ rows_fit f k ps n i p xs h inside at before =
 
 -- so can one row more of a piece
 pub row_fits : {A : Type 0} (f : Row → A) (k : Kind) (p : Piece) (start xs : List A) (i : ℕ)
-    → length start + piece_len p < 2 ^ 64 → i < piece_len p → xs ≡ start ++ map f (map (piece_row k p) (range_with_len 0 i)) → length xs + 1 < 2 ^ 64
+    → length start + piece_len p < 2 ^ 64 → i < piece_len p → xs ≡ start ++ map f (map (piece_row k p) (range_with_len 0 i))
+    → length xs + 1 < 2 ^ 64
 row_fits f k p start xs i fits inside before =
     let rows = map (piece_row k p) (range_with_len 0 i) in
     omega (arith, ap length before, length-append start (map f rows), length-map rows f, length-map-range_with_len (piece_row k p) 0 i)
