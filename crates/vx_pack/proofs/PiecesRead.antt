@@ -6,7 +6,7 @@ use Rattle.std.proofs.lemmas.List.FromFn.{length-map-range_with_len}
 use Rattle.std.specs.List.{All, range_with_len}
 use Rattle.vx_base.specs.Kinds.{Kind}
 use Rattle.vx_base.specs.Rows.{Row}
-use Rattle.vx_pack.proofs.PieceRows.{length-piece_rows, length-pieces_rows, piece_len_within, piece_rows_more, pieces_rows_more}
+use Rattle.vx_pack.proofs.PieceRows.{length-pieces_rows, piece_len_within, piece_rows_more, pieces_rows_more}
 use Rattle.vx_pack.specs.declared.pieces.Piece.{Piece}
 use Rattle.vx_pack.specs.Pieces.{ArePieces, IsPiece, piece_len, piece_row, piece_rows, pieces_rows}
 

@@ -1,5 +1,5 @@
 -- Numbers that are read from bytes, and written back.
-use Rattle.std.proofs.Common.{◌≡◌, ◌+◌, ◌*◌, ◌/◌, ◌<◌, ◌≤◌, ℕ, zero, suc, List, [], ◌∷◌, ◌++◌, length, map, take, drop, get_or, refl, sym, ◌∙◌, ap, arith, zero-add}
+use Rattle.std.proofs.Common.{◌≡◌, ◌+◌, ◌*◌, ◌/◌, ◌<◌, ℕ, zero, suc, List, [], ◌∷◌, ◌++◌, length, map, take, drop, get_or, refl, sym, ◌∙◌, ap, arith}
 use Rattle.std.specs.Prelude.{ℤ, pos}
 use Rattle.std.specs.List.{range_with_len}
 use Rattle.std.proofs.lemmas.Grind.{flat_map-append}
@@ -10,7 +10,7 @@ use Rattle.vx_base.proofs.Gathered.{numbers_append}
 use Rattle.vx_base.proofs.NumberBytes.{bytes_of-number_of, holds-number_of}
 use Rattle.vx_base.proofs.NumberLists.{length_numbers, numbers_none, numbers_push, whole as whole_numbers}
 use Rattle.vx_base.specs.Bytes.{AreBytes}
-use Rattle.vx_base.specs.Integers.{byte_width, bytes_of, number_nth, number_of, numbers}
+use Rattle.vx_base.specs.Integers.{byte_width, bytes_of, number_of, numbers}
 use Rattle.vx_base.specs.Kinds.{Kind}
 use Rattle.vx_base.specs.declared.ptypes.PType.{PType}
 use Rattle.vx_views.proofs.Padding.{bytes-drop, bytes-take}
