@@ -19,6 +19,8 @@ pub mod CountsArrays
 pub mod PackedLists
 pub mod PackedLen
 pub mod BlankRows
+pub mod JoinedLists
 pub mod PackedRows
 pub mod PackedOne
 pub mod PackedLaws
+pub mod PackedParts

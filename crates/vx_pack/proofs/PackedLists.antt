@@ -1,14 +1,14 @@
 -- Lists that stand end to end: where each begins, and the array that they make.
-use Rattle.std.proofs.Common.{◌≡◌, ◌∙◌, ◌+◌, ◌^◌, ◌<◌, ◌≤◌, ℕ, true, List, length, get_or, refl, sym, arith, sum, zero-add}
+use Rattle.std.proofs.Common.{◌≡◌, ◌∙◌, ◌+◌, ◌^◌, ◌<◌, ◌≤◌, ℕ, true, List, length, get_or, refl, sym, ap, arith, sum, pos, zero-add}
 use Rattle.std.proofs.lemmas.List.FromFn.{length-map-range_with_len, get_or-map-range_with_len}
 use Rattle.std.proofs.lemmas.List.Sums.{get_or-le-sum_by, sum_by-take-le, sum_by_more, sum_by_more_le}
-use Rattle.vx_base.specs.Rows.{items, count_in}
+use Rattle.vx_base.specs.Rows.{whole, items, count_in}
 use Rattle.vx_views.specs.Places.{place_of}
 use Rattle.vx_tree.specs.Formed.{IsConsecutive, IsListView, ValidFits, WellFormed}
 use Rattle.vx_tree.specs.Meaning.{is_valid_at, row_at, rows_range, tree_len}
 use Rattle.vx_tree.specs.Tree.{Tree, Valid}
 use Rattle.vx_pack.specs.Packed.{count_type, counts_array, list_starts, packed_lists}
-use Rattle.vx_pack.proofs.CountsArrays.{AreHeld, IsCounts-counts_array, count_in-counts_array, holds-count_type, tree_len-counts_array}
+use Rattle.vx_pack.proofs.CountsArrays.{AreHeld, IsCounts-counts_array, holds-count_type, row_at-counts_array, tree_len-counts_array}
 
 -- ---- where each list begins
 
@@ -50,15 +50,23 @@ tree_len-starts_array sizes = tree_len-counts_array (count_type (sum sizes)) (li
 pub tree_len-sizes_array : (sizes : List ℕ) → tree_len (sizes_array sizes) ≡ length sizes
 tree_len-sizes_array sizes = tree_len-counts_array (count_type (sum sizes)) sizes
 
+pub start_row : (sizes : List ℕ) (i : ℕ) → sum sizes < 2 ^ 63 → i < length sizes
+    → row_at (starts_array sizes) i ≡ whole (pos (place_of sizes i))
+start_row sizes i fits l =
+    row_at-counts_array (count_type (sum sizes)) (list_starts sizes) i (starts_held sizes fits) (omega (arith, length-list_starts sizes))
+    ∙ ap (λ n. whole (pos n)) (get_or-list_starts sizes i 0 l)
+
+pub size_row : (sizes : List ℕ) (i : ℕ) → sum sizes < 2 ^ 63 → i < length sizes
+    → row_at (sizes_array sizes) i ≡ whole (pos (get_or sizes i 0))
+size_row sizes i fits l = row_at-counts_array (count_type (sum sizes)) sizes i (sizes_held sizes fits) l
+
 pub start_read : (sizes : List ℕ) (i : ℕ) → sum sizes < 2 ^ 63 → i < length sizes
     → count_in (row_at (starts_array sizes) i) ≡ place_of sizes i
-start_read sizes i fits l =
-    count_in-counts_array (count_type (sum sizes)) (list_starts sizes) i (starts_held sizes fits) (omega (arith, length-list_starts sizes))
-    ∙ get_or-list_starts sizes i 0 l
+start_read sizes i fits l = ap count_in (start_row sizes i fits l)
 
 pub size_read : (sizes : List ℕ) (i : ℕ) → sum sizes < 2 ^ 63 → i < length sizes
     → count_in (row_at (sizes_array sizes) i) ≡ get_or sizes i 0
-size_read sizes i fits l = count_in-counts_array (count_type (sum sizes)) sizes i (sizes_held sizes fits) l
+size_read sizes i fits l = ap count_in (size_row sizes i fits l)
 
 pub IsConsecutive-packed_lists : (sizes : List ℕ) → sum sizes < 2 ^ 63 → IsConsecutive (starts_array sizes) (sizes_array sizes)
 IsConsecutive-packed_lists sizes fits i l =

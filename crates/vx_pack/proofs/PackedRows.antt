@@ -3,12 +3,11 @@ use Rattle.std.proofs.Common.{◌≡◌, ◌∙◌, ◌+◌, ◌*◌, ◌<◌, �
 use Rattle.std.proofs.Common.{refl, sym, ap, subst, inl, arith, add-zero, pos, None}
 use Rattle.std.specs.Prelude.{ℤ, if◌then◌else◌}
 use Rattle.std.specs.List.{All, flat_map}
-use Rattle.std.proofs.lemmas.List.{get_or-map, length-append, length-map, length-take-le, take-map}
-use Rattle.std.proofs.lemmas.List.Concat.{get_or-flat_map, length-flat_map}
-use Rattle.std.proofs.lemmas.List.Elements.{All-append, All-head, All-map, All-nil, All-tail, All-take}
+use Rattle.std.proofs.lemmas.List.{get_or-map, length-map, length-take-le}
+use Rattle.std.proofs.lemmas.List.Concat.{get_or-flat_map}
+use Rattle.std.proofs.lemmas.List.Elements.{All-map, All-take}
 use Rattle.std.proofs.lemmas.List.Folds.{length-flat_map-take}
 use Rattle.std.proofs.lemmas.List.FromFn.{fill_by_all}
-use Rattle.std.proofs.lemmas.List.Sums.{sum-map}
 use Rattle.vx_base.proofs.Zeroes.{holds-zero}
 use Rattle.vx_base.specs.Integers.{numbers, number_nth, Holds}
 use Rattle.vx_base.specs.Kinds.{Kind, booleans, integers, texts, binaries, lists, fixed_lists, records, Kinds, no_kinds, kind, Fits}
@@ -27,6 +26,7 @@ use Rattle.vx_pack.specs.Packed.{packed_lists, packed_valid}
 use Rattle.vx_pack.proofs.BlankRows.{AllFit-list_from, FieldsFitOrBlank, FitsOrBlank, StandFrom, StandFrom-here, StandFrom-next}
 use Rattle.vx_pack.proofs.BlankRows.{fixed_lists_items_blank, length-list_from, lists_items_blank, records_fields_blank}
 use Rattle.vx_pack.proofs.BytesOfNumbers.{number_read_back}
+use Rattle.vx_pack.proofs.JoinedLists.{All-flat_map, length-flat_map-same, place_of-sizes}
 use Rattle.vx_pack.proofs.PackedLen.{packed_len}
 use Rattle.vx_pack.proofs.PackedLists.{row_at-packed_lists}
 use Rattle.vx_pack.proofs.PackedValid.{is_valid_at-packed_valid}
@@ -88,28 +88,6 @@ elements_told k f rs g i qs l same fit told = rows_told g (length (flat_map f (t
         let here : get_or (flat_map f rs) (length (flat_map f (take i rs)) + j) null ≡ get_or (list_from qs) j null =
         get_or-flat_map f rs i j null null l (omega arith) ∙ ap (λ xs. get_or xs j null) same in
         told (length (flat_map f (take i rs)) + j) within (subst (Fits k) (sym here) (AllFit-list_from k qs fit j null small)) ∙ here
-
--- the elements before a list, by the sizes of the lists
-place_of-sizes : (f : Row → List Row) (rs : List Row) (i : ℕ) → place_of (map (λ r. length (f r)) rs) i ≡ length (flat_map f (take i rs))
-place_of-sizes f rs i =
-    ap sum (take-map (λ r. length (f r)) i rs) ∙ sum-map (λ r. length (f r)) (take i rs) ∙ sym (length-flat_map f (take i rs))
-
--- the same, where all have one size
-length-flat_map-same : (f : Row → List Row) (size : ℕ) (rs : List Row) → All (λ r. length (f r) ≡ size) rs
-    → length (flat_map f rs) ≡ length rs * size
-length-flat_map-same f size [] all = omega arith
-length-flat_map-same f size (r ∷ rs) all =
-    omega (
-      arith,
-      length-append (f r) (flat_map f rs),
-      All-head (λ r. length (f r) ≡ size) r rs all,
-      length-flat_map-same f size rs (All-tail (λ r. length (f r) ≡ size) r rs all),
-    )
-
-All-flat_map : {X Y : Type 0} (P : Y → Type 0) (f : X → List Y) (xs : List X) → All (λ x. All P (f x)) xs → All P (flat_map f xs)
-All-flat_map P f [] all = All-nil P
-All-flat_map P f (x ∷ xs) all =
-    All-append P (f x) (flat_map f xs) (All-head (λ x. All P (f x)) x xs all) (All-flat_map P f xs (All-tail (λ x. All P (f x)) x xs all))
 
 lists_told : (k : Kind) (n : Bool) (rs : List Row) (e : Tree) → sum (list_sizes k rs) < 2 ^ 63
     → IsTold k (flat_map (items_or_blank k 0) rs) (row_at e)

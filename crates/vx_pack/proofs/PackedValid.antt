@@ -1,14 +1,13 @@
 -- The validity of packed rows tells which of them are there.
-use Rattle.std.proofs.Common.{◌≡◌, ◌∙◌, ◌<◌, ℕ, Bool, true, false, List, length, map, get_or, sym, ap, arith, refl, inl, inr}
+use Rattle.std.proofs.Common.{◌≡◌, ◌∙◌, ◌<◌, ℕ, Bool, true, false, List, length, map, get_or, sym, ap, arith, refl, cond, eqb}
 use Rattle.std.specs.Prelude.{count_by}
 use Rattle.std.specs.List.{All}
-use Rattle.std.proofs.lemmas.Bool.Decides.{eqb_tells}
 use Rattle.std.proofs.lemmas.List.{get_or-map, length-map, same_lists}
 use Rattle.vx_base.specs.Kinds.{Kind, is_nullable_kind, Fits}
 use Rattle.vx_base.specs.Rows.{Row, null, boolean, whole, bytes, text, items, record_of, is_present}
 use Rattle.vx_tree.specs.Formed.{ValidFits}
 use Rattle.vx_tree.specs.Meaning.{is_valid_at, nullable, valid_mask}
-use Rattle.vx_tree.specs.Tree.{all_valid}
+use Rattle.vx_tree.specs.Tree.{Valid, bools, non_nullable, all_valid, all_invalid, by_array}
 use Rattle.vx_tree.specs.Validities.{valid_from}
 use Rattle.vx_tree.proofs.RowLists.{get_or-valid_mask, length-valid_mask}
 use Rattle.vx_tree.proofs.Validities.{valid_from-mask}
@@ -16,23 +15,20 @@ use Rattle.vx_pack.specs.Packed.{packed_valid}
 
 -- ---- the validity of booleans
 
+valid_from-has : (P : Valid → Type 0) (bits : List Bool) → P all_valid → P all_invalid → P (by_array (bools bits non_nullable))
+    → P (valid_from bits all_valid)
+valid_from-has P bits full none told = by_count (eqb (count_by (λ b. b) bits) (length bits)) (eqb (count_by (λ b. b) bits) 0)
+  where
+    by_count : (a b : Bool) → P (cond a all_valid (cond b all_invalid (by_array (bools bits non_nullable))))
+    by_count true b = full
+    by_count false true = none
+    by_count false false = told
+
 pub nullable-valid_from : (bits : List Bool) → nullable (valid_from bits all_valid) ≡ true
-nullable-valid_from bits = elim (eqb_tells (count_by (λ b. b) bits) (length bits)) [
-  | inl alike ↦ rw alike.0 refl
-  | inr apart ↦ rw apart.0 (elim (eqb_tells (count_by (λ b. b) bits) 0) [
-    | inl none ↦ rw none.0 refl
-    | inr some ↦ rw some.0 refl
-  ])
-]
+nullable-valid_from bits = valid_from-has (λ v. nullable v ≡ true) bits refl refl refl
 
 pub ValidFits-valid_from : (bits : List Bool) → ValidFits (valid_from bits all_valid) (length bits)
-ValidFits-valid_from bits = elim (eqb_tells (count_by (λ b. b) bits) (length bits)) [
-  | inl alike ↦ rw alike.0 tt
-  | inr apart ↦ rw apart.0 (elim (eqb_tells (count_by (λ b. b) bits) 0) [
-    | inl none ↦ rw none.0 tt
-    | inr some ↦ rw some.0 (record { len = refl; kind = refl })
-  ])
-]
+ValidFits-valid_from bits = valid_from-has (λ v. ValidFits v (length bits)) bits tt tt (record { len = refl; kind = refl })
 
 pub is_valid_at-valid_from : (bits : List Bool) (i : ℕ) (d : Bool) → i < length bits
     → is_valid_at (valid_from bits all_valid) i ≡ get_or bits i d
