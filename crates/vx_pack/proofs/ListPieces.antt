@@ -1,12 +1,10 @@
 -- Pieces that are the lists of rows, default rows where a row is null.
 use Rattle.std.proofs.Common.{◌≡◌, ◌∙◌, ◌+◌, ◌*◌, ◌<◌, ◌^◌, ℕ, zero, suc, Bool, true, false, List, [], ◌∷◌, ◌++◌, length, map, replicate}
-use Rattle.std.proofs.Common.{take, sum, refl, sym, ap, subst, arith, add-one, mul-zero, None, get_or, inl, inr}
+use Rattle.std.proofs.Common.{take, sum, refl, sym, ap, subst, add-one, mul-zero, None, get_or, inl, inr}
 use Rattle.std.specs.List.{All, flat_map, range_with_len}
 use Rattle.std.proofs.lemmas.List.{append_assoc, map-append, nil_from_length}
-use Rattle.std.proofs.lemmas.List.Concat.{length-flat_map}
-use Rattle.std.proofs.lemmas.List.Elements.{All-append, All-cons, All-head, All-nil, All-tail}
+use Rattle.std.proofs.lemmas.List.Elements.{All-append, All-cons, All-nil}
 use Rattle.std.proofs.lemmas.List.Folds.{flat_map-map}
-use Rattle.std.proofs.lemmas.List.Sums.{sum-map, sum_by-cons}
 use Rattle.vx_base.specs.Defaults.{default_row}
 use Rattle.vx_base.specs.Kinds.{Kind, lists, fixed_lists, Fits}
 use Rattle.vx_base.specs.Rows.{Row, list_from, list_in}
@@ -20,7 +18,9 @@ use Rattle.vx_pack.specs.Parts.{part_len, part_row}
 use Rattle.vx_pack.specs.Pieces.{AreElements, AreListPieces, ArePieces, IsListPiece, IsPiece, blank_of, piece_len, piece_row, piece_rows}
 use Rattle.vx_pack.specs.Pieces.{pieces_rows}
 use Rattle.vx_pack.proofs.BlankRows.{FitsOrBlank, fixed_lists_items_blank, list_from-rows_from}
-use Rattle.vx_pack.proofs.PieceRows.{All-pieces_rows, All-range_with_len, length-piece_rows, length-pieces_rows}
+use Rattle.vx_pack.proofs.JoinedLists.{All-flat_map, length-flat_map-same}
+use Rattle.std.proofs.lemmas.Simd.{map-map}
+use Rattle.vx_pack.proofs.PieceRows.{All-range_with_len, length-piece_rows, length-pieces_rows}
 use Rattle.vx_pack.proofs.PieceRows.{map-range_with_len-replicate, piece_rows_more, pieces_rows_more}
 use Rattle.vx_pack.proofs.RowForms.{no_list}
 
@@ -137,15 +137,10 @@ lens_of : (item : Kind) (ps : List Piece) → map piece_len ps ≡ map length (m
 lens_of item [] = refl
 lens_of item (p ∷ ps) = λ i. sym (length-piece_rows item p) i ∷ lens_of item ps i
 
-lens_from : (item : Kind) (blank : ℕ) (rs : List Row)
-    → map length (map (items_or_blank item blank) rs) ≡ map (λ r. length (items_or_blank item blank r)) rs
-lens_from item blank [] = refl
-lens_from item blank (r ∷ rs) = ap (λ ns. length (items_or_blank item blank r) ∷ ns) (lens_from item blank rs)
-
 -- as many as each list has
 pub lens_of_lists : (item : Kind) (blank : ℕ) (rs : List Row) (ps : List Piece) → AreListPieces item blank rs ps
     → map piece_len ps ≡ map (λ r. length (items_or_blank item blank r)) rs
-lens_of_lists item blank rs ps h = lens_of item ps ∙ ap (map length) h.lists ∙ lens_from item blank rs
+lens_of_lists item blank rs ps h = lens_of item ps ∙ ap (map length) h.lists ∙ map-map length (items_or_blank item blank) rs
 
 pub sizes_of_lists : (item : Kind) (rs : List Row) (ps : List Piece) → AreListPieces item 0 rs ps → map piece_len ps ≡ list_sizes item rs
 sizes_of_lists item rs ps h = lens_of_lists item 0 rs ps h
@@ -167,27 +162,15 @@ rows_blank k (piece.Rows p) h = All-range_with_len (FitsOrBlank k) (part_row k p
 rows_blank k (piece.Blank n) h = All-range_with_len (FitsOrBlank k) (λ i. default_row k) n (λ i l. inr (inl refl))
 
 pub pieces_blank : (k : Kind) (ps : List Piece) → All (IsPiece k) ps → All (FitsOrBlank k) (pieces_rows k ps)
-pieces_blank k ps each = All-pieces_rows (FitsOrBlank k) k ps (λ i d l. rows_blank k (get_or ps i d) (each i d l))
-
-sized : (k : Kind) (size : ℕ) (n : Bool) (rs : List Row) → All (FitsOrBlank (fixed_lists k size n)) rs
-    → sum (map (λ r. length (items_or_blank k size r)) rs) ≡ length rs * size
-sized k size n [] blank = omega arith
-sized k size n (r ∷ rs) blank =
-    let first = fixed_lists_items_blank k size n r (All-head (FitsOrBlank (fixed_lists k size n)) r rs blank) in
-    let more = sized k size n rs (All-tail (FitsOrBlank (fixed_lists k size n)) r rs blank) in
-    omega (
-      arith,
-      first.len,
-      more,
-      sum_by-cons (λ (m : ℕ). m) (length (items_or_blank k size r))
-          (map (λ r. length (items_or_blank k size r)) rs),
-    )
+pieces_blank k ps each = All-flat_map (FitsOrBlank k) (piece_rows k) ps (λ i d l. rows_blank k (get_or ps i d) (each i d l))
 
 -- so many of them have so many elements
 elements_counted : (k item : Kind) (size : ℕ) (n : Bool) (ps : List Piece) (len : ℕ) → k ≡ fixed_lists item size n → ArePieces k ps len
-    → sum (map (λ r. length (items_or_blank item size r)) (pieces_rows k ps)) ≡ len * size
+    → length (flat_map (items_or_blank item size) (pieces_rows k ps)) ≡ len * size
 elements_counted k item size n ps len kind pieces =
-    sized item size n (pieces_rows k ps) (subst (λ x. All (FitsOrBlank x) (pieces_rows k ps)) kind (pieces_blank k ps pieces.each))
+    let blank = subst (λ x. All (FitsOrBlank x) (pieces_rows k ps)) kind (pieces_blank k ps pieces.each) in
+    length-flat_map-same (items_or_blank item size) size (pieces_rows k ps)
+    (λ i d l. (fixed_lists_items_blank item size n (get_or (pieces_rows k ps) i d) (blank i d l)).len)
     ∙ ap (λ m. m * size) (length-pieces_rows k ps ∙ pieces.count)
 
 pub AreElements-fixed_lists : (k item : Kind) (size : ℕ) (n : Bool) (ps qs : List Piece) (len : ℕ) → k ≡ fixed_lists item size n
@@ -195,7 +178,9 @@ pub AreElements-fixed_lists : (k item : Kind) (size : ℕ) (n : Bool) (ps qs : L
     → AreElements item (len * size) (flat_map (items_or_blank item size) (pieces_rows k ps)) qs
 AreElements-fixed_lists k item size n ps qs len kind pieces h = record {
   each = h.each;
-  count = ap sum (lens_of_lists item size (pieces_rows k ps) qs h) ∙ elements_counted k item size n ps len kind pieces;
+  count =
+      sym (length-pieces_rows item qs) ∙ ap length (rows_of_lists item size (pieces_rows k ps) qs h)
+      ∙ elements_counted k item size n ps len kind pieces;
   rows = rows_of_lists item size (pieces_rows k ps) qs h;
 }
 
@@ -206,9 +191,7 @@ pub AreElements-none : (k item : Kind) (size : ℕ) (n : Bool) (ps qs : List Pie
 AreElements-none k item size n ps qs len none no_pieces kind pieces =
     let rs = pieces_rows k ps in
     let scaled : len * size ≡ 0 = ap (λ m. len * m) none ∙ mul-zero len in
-    let many : length (flat_map (items_or_blank item size) rs) ≡ 0 =
-    length-flat_map (items_or_blank item size) rs ∙ sym (sum-map (λ r. length (items_or_blank item size r)) rs)
-    ∙ elements_counted k item size n ps len kind pieces ∙ scaled in
+    let many : length (flat_map (items_or_blank item size) rs) ≡ 0 = elements_counted k item size n ps len kind pieces ∙ scaled in
     rw no_pieces (record {
       each = All-nil (IsPiece item);
       count = sym scaled;

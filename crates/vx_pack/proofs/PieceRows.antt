@@ -4,11 +4,9 @@ use Rattle.std.proofs.Common.{sym, ap, subst, arith}
 use Rattle.std.specs.List.{All, range_with_len}
 use Rattle.std.proofs.lemmas.List.{append-nil, length-append, take_more}
 use Rattle.std.proofs.lemmas.List.Concat.{flat_map-append}
-use Rattle.std.proofs.lemmas.List.Elements.{All-append, All-head, All-nil, All-tail}
 use Rattle.std.proofs.lemmas.List.FromFn.{get_or-map-range_with_len, length-map-range_with_len, map-range_with_len_more}
 use Rattle.std.proofs.lemmas.List.Sums.{sum-map, sum_by-cons, sum_by_more_le}
 use Rattle.vx_base.specs.Kinds.{Kind}
-use Rattle.vx_base.specs.Rows.{Row}
 use Rattle.vx_pack.specs.declared.pieces.Piece.{Piece}
 use Rattle.vx_pack.specs.Pieces.{piece_len, piece_row, piece_rows, pieces_rows}
 
@@ -71,13 +69,6 @@ length-pieces_rows k (p ∷ ps) =
       sum_by-cons
           (λ (n : ℕ). n) (piece_len p) (map piece_len ps),
     )
-
--- what each row of each piece has, all rows have
-pub All-pieces_rows : (P : Row → Type 0) (k : Kind) (ps : List Piece) → All (λ p. All P (piece_rows k p)) ps → All P (pieces_rows k ps)
-All-pieces_rows P k [] each = All-nil P
-All-pieces_rows P k (p ∷ ps) each =
-    All-append P (piece_rows k p) (pieces_rows k ps) (All-head (λ q. All P (piece_rows k q)) p ps each)
-    (All-pieces_rows P k ps (All-tail (λ q. All P (piece_rows k q)) p ps each))
 
 -- the first pieces and the next one have no more rows than all
 pub piece_len_within : (ps : List Piece) (i : ℕ) (p : Piece) → i < length ps → p ≡ get_or ps i p
