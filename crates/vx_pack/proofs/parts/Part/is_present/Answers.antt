@@ -17,5 +17,5 @@ returns-in-Array c =
     let Tells : Bool → Type 0 = λ b. (k : Kind) → b ≡ is_present (part_row k c.args.self c.args.i) in
     within_gives c.is_valid.result (tree_len a) place Tells below
     (IfOk-weaker c.is_valid.result (λ b. b ≡ is_present (row_at a place)) Tells (λ b given k.
-     given ∙ ap (λ (p : Part). is_present (part_row k p c.args.i)) (sym c.in-Array.is)) c.is_valid.ensures.valid)
+    given ∙ ap (λ (p : Part). is_present (part_row k p c.args.i)) (sym c.in-Array.is)) c.is_valid.ensures.valid)
     c.is_valid.ensures.refuses
