@@ -13,7 +13,8 @@ loop-piece-preserved c = λ n each.
     let ks = field_kinds c.args.fields.now in
     let k = records names ks n in
     let here = subst (IsPiece k) (sym c.piece-item.is) (each c.loop-piece.piece-index c.piece-item.result c.loop-piece-test.true) in
-    AreFieldPieces-more (kind_at c.args.place ks) k c.args.place c.loop-piece.piece-index c.args.pieces.now c.piece-item.result c.loop-piece.column.items c.push_field.new.column.items
+    AreFieldPieces-more (kind_at c.args.place ks) k c.args.place c.loop-piece.piece-index c.args.pieces.now c.piece-item.result
+    c.loop-piece.column.items c.push_field.new.column.items
     c.loop-piece-test.true c.piece-item.is (c.loop-piece.invariant n each) (c.in_ok-push_field.ensures n here)
 
 pub returns : goal.returns

@@ -9,4 +9,5 @@ use Rattle.vx_pack.proofs.packed_fields.field_pieces.Given as goal
 abbrev pub invariant-loop-piece : goal.invariant-loop-piece
 invariant-loop-piece l =
     (n : Bool) → All (IsPiece (records (field_names l.fields) (field_kinds l.fields) n)) l.pieces
-    → AreFieldPieces (kind_at l.place (field_kinds l.fields)) l.place (pieces_rows (records (field_names l.fields) (field_kinds l.fields) n) (take l.piece-index l.pieces)) l.column.items
+    → AreFieldPieces (kind_at l.place (field_kinds l.fields)) l.place
+    (pieces_rows (records (field_names l.fields) (field_kinds l.fields) n) (take l.piece-index l.pieces)) l.column.items

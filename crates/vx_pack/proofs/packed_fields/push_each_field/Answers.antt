@@ -14,7 +14,8 @@ pub loop-i-preserved : goal.loop-i-preserved
 loop-i-preserved c = λ n whole.
     let names = field_names c.args.fields.now in
     let ks = field_kinds c.args.fields.now in
-    ArePushedFields-more (kind_at c.args.place ks) (records names ks n) c.args.place c.loop-i.i c.args.piece c.field_or_blank.result c.args.column.now.items c.loop-i.column.items c.push.new.self.items
+    ArePushedFields-more (kind_at c.args.place ks) (records names ks n) c.args.place c.loop-i.i c.args.piece c.field_or_blank.result
+    c.args.column.now.items c.loop-i.column.items c.push.new.self.items
     (c.loop-i.invariant n whole) (c.field_or_blank.ensures n whole) c.in_ok-push.ensures.items
 
 pub returns : goal.returns
@@ -22,5 +23,6 @@ returns c = λ n whole.
     let names = field_names c.args.fields.now in
     let ks = field_kinds c.args.fields.now in
     let all : c.loop-i.i ≡ piece_len c.args.piece = omega (arith, c.loop-i-test.false, c.loop-i.auto.i-end, c.len-i-end.ensures) in
-    subst (λ m. ArePushedFields (kind_at c.args.place ks) c.args.place (map (piece_row (records names ks n) c.args.piece) (range_with_len 0 m)) c.args.column.now.items c.loop-i.column.items) all
+    subst (λ m. ArePushedFields (kind_at c.args.place ks) c.args.place
+    (map (piece_row (records names ks n) c.args.piece) (range_with_len 0 m)) c.args.column.now.items c.loop-i.column.items) all
     (c.loop-i.invariant n whole)

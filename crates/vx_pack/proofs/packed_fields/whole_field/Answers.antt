@@ -31,7 +31,8 @@ returns-in_ok-records-in-Rows c = λ n whole.
     let k = records names ks n in
     let found = c.in_ok-records-in-Rows.ensures names ks n (subst (IsPiece k) c.in-Rows.is whole) in
     subst (λ p. AreFieldPieces (kind_at c.args.place ks) c.args.place (piece_rows k p) (Rows c.field.result ∷ [])) (sym c.in-Rows.is)
-    (column_of_records names ks n c.args.place c.in-Rows.part c.in_ok-records-in-Rows.field-0 c.field.result found (c.field.ensures names ks found.formed))
+    (column_of_records names ks n c.args.place c.in-Rows.part c.in_ok-records-in-Rows.field-0 c.field.result found
+    (c.field.ensures names ks found.formed))
 
 pub returns-in-Blank : goal.returns-in-Blank
 returns-in-Blank c = λ n whole.

@@ -7,7 +7,8 @@ use Rattle.vx_pack.proofs.packed_lists.list_pieces.Goals as goal
 
 pub loop-piece-preserved : goal.loop-piece-preserved
 loop-piece-preserved c = λ item of_item.
-    AreListPieces-more item (dtype_meaning c.args.dtype.now) c.args.blank c.loop-piece.piece-index c.args.pieces.now c.piece-item.result c.loop-piece.lists.items c.push_lists.new.lists.items
+    AreListPieces-more item (dtype_meaning c.args.dtype.now) c.args.blank c.loop-piece.piece-index c.args.pieces.now c.piece-item.result
+    c.loop-piece.lists.items c.push_lists.new.lists.items
     c.loop-piece-test.true c.piece-item.is (c.loop-piece.invariant item of_item) (c.in_ok-push_lists.ensures item of_item)
 
 pub returns : goal.returns

@@ -10,4 +10,5 @@ use Rattle.vx_pack.proofs.packed_lists.push_lists.Given as goal
 abbrev pub invariant-loop-i : goal.invariant-loop-i
 invariant-loop-i l =
     (item : Kind) → IsItemOf item (dtype_meaning l.dtype)
-    → ArePushedLists item l.blank (map (piece_row (dtype_meaning l.dtype) l.piece) (range_with_len 0 l.i)) l.initial.lists.items l.lists.items
+    → ArePushedLists item l.blank (map (piece_row (dtype_meaning l.dtype) l.piece) (range_with_len 0 l.i)) l.initial.lists.items
+    l.lists.items

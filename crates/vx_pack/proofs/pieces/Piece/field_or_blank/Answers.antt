@@ -24,7 +24,8 @@ returns-in-Some c = λ n whole.
     let k = records names ks n in
     let found = c.in-Some.ensures names ks n (subst (IsPiece k) c.in-Rows.is whole) in
     subst (λ p. IsFieldPiece (kind_at c.args.place ks) c.args.place (piece_row k p c.args.i) (Rows c.field.result)) (sym c.in-Rows.is)
-    (field_that_is_there names ks (part_row k c.in-Rows.part c.args.i) c.in-Some.record c.args.place c.field.result found (c.field.ensures names ks found.formed))
+    (field_that_is_there names ks (part_row k c.in-Rows.part c.args.i) c.in-Some.record c.args.place c.field.result found
+    (c.field.ensures names ks found.formed))
 
 pub returns-in-None : goal.returns-in-None
 returns-in-None c = λ n whole.
@@ -34,11 +35,13 @@ returns-in-None c = λ n whole.
     let part = subst (IsPiece k) c.in-Rows.is whole in
     let inside : c.args.i < part_len c.in-Rows.part = rw c.in-Rows.is at c.requires.in_bounds in
     subst (λ p. IsFieldPiece (kind_at c.args.place ks) c.args.place (piece_row k p c.args.i) (Blank 1)) (sym c.in-Rows.is)
-    (field_that_is_null names ks n (kind_at c.args.place ks) (part_row k c.in-Rows.part c.args.i) c.args.place (part.fits c.args.i inside) (c.in-None.ensures names ks n part))
+    (field_that_is_null names ks n (kind_at c.args.place ks) (part_row k c.in-Rows.part c.args.i) c.args.place (part.fits c.args.i inside)
+    (c.in-None.ensures names ks n part))
 
 pub returns-in-Blank : goal.returns-in-Blank
 returns-in-Blank c = λ n whole.
     let names = field_names c.args.fields.now in
     let ks = field_kinds c.args.fields.now in
-    subst (λ p. IsFieldPiece (kind_at c.args.place ks) c.args.place (piece_row (records names ks n) p c.args.i) (Blank 1)) (sym c.in-Blank.is)
+    subst (λ p. IsFieldPiece (kind_at c.args.place ks) c.args.place (piece_row (records names ks n) p c.args.i) (Blank 1))
+    (sym c.in-Blank.is)
     (field_of_default_row c.args.fields.now n c.args.place c.requires.place)

@@ -1,7 +1,5 @@
 use Rattle.std.proofs.Common.{◌<◌, sym, subst}
-use Rattle.vx_base.specs.Kinds.{Kind, Fits}
 use Rattle.vx_pack.proofs.ListPieces.{list_of_default, list_that_is_null, list_that_is_there}
-use Rattle.vx_pack.specs.declared.pieces.Piece.{Piece}
 use Rattle.vx_pack.specs.declared.pieces.Piece.TheVariants.{Blank, Rows}
 use Rattle.vx_pack.specs.Parts.{part_len, part_row}
 use Rattle.vx_pack.specs.Pieces.{IsListPiece, IsPiece, piece_row}
@@ -18,7 +16,8 @@ returns-in-None c = λ item k of_item size whole.
     let part = subst (IsPiece k) c.in-Rows.is whole in
     let inside : c.args.i < part_len c.in-Rows.part = rw c.in-Rows.is at c.requires.in_bounds in
     subst (λ p. IsListPiece item c.args.blank (piece_row k p c.args.i) (Blank c.args.blank)) (sym c.in-Rows.is)
-    (list_that_is_null item k c.args.blank (part_row k c.in-Rows.part c.args.i) of_item (part.fits c.args.i inside) (c.in-None.ensures item k of_item part) c.ranges.blank.fits)
+    (list_that_is_null item k c.args.blank (part_row k c.in-Rows.part c.args.i) of_item (part.fits c.args.i inside)
+    (c.in-None.ensures item k of_item part) c.ranges.blank.fits)
 
 pub returns-in-Blank : goal.returns-in-Blank
 returns-in-Blank c = λ item k of_item size whole.
