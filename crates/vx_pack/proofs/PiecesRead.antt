@@ -6,7 +6,7 @@ use Rattle.std.proofs.lemmas.List.FromFn.{length-map-range_with_len}
 use Rattle.std.specs.List.{All, range_with_len}
 use Rattle.vx_base.specs.Kinds.{Kind}
 use Rattle.vx_base.specs.Rows.{Row}
-use Rattle.vx_pack.proofs.PieceRows.{length-piece_rows, length-pieces_rows, piece_len_within, piece_rows_more, pieces_rows_more}
+use Rattle.vx_pack.proofs.PieceRows.{length-pieces_rows, piece_len_within, piece_rows_more, pieces_rows_more}
 use Rattle.vx_pack.specs.declared.pieces.Piece.{Piece}
 use Rattle.vx_pack.specs.Pieces.{ArePieces, IsPiece, piece_len, piece_row, piece_rows, pieces_rows}
 
@@ -31,14 +31,17 @@ piece_pushed f k ps i p xs ys inside at before more =
     ∙ ap (map f) (sym (pieces_rows_more k ps i p inside at))
 
 -- the rows of the first pieces and of the next one can be counted
-pub rows_fit : {A : Type 0} (f : Row → A) (k : Kind) (ps : List Piece) (n i : ℕ) (p : Piece) (xs : List A) → ArePieces k ps n → i < length ps
-    → p ≡ get_or ps i p → xs ≡ map f (pieces_rows k (take i ps)) → length xs + piece_len p < 2 ^ 64
+pub rows_fit : {A : Type 0} (f : Row → A) (k : Kind) (ps : List Piece) (n i : ℕ) (p : Piece) (xs : List A)
+    → ArePieces k ps n → i < length ps → p ≡ get_or ps i p → xs ≡ map f (pieces_rows k (take i ps)) → length xs + piece_len p < 2 ^ 64
 rows_fit f k ps n i p xs h inside at before =
-    omega (arith, ap length before, length-map (pieces_rows k (take i ps)) f, length-pieces_rows k (take i ps), piece_len_within ps i p inside at, h.count, h.fits)
+    let rows = pieces_rows k (take i ps) in
+    let within = piece_len_within ps i p inside at in
+    omega (arith, ap length before, length-map rows f, length-pieces_rows k (take i ps), within, h.count, h.fits)
 
 -- so can one row more of a piece
-pub row_fits : {A : Type 0} (f : Row → A) (k : Kind) (p : Piece) (start xs : List A) (i : ℕ) → length start + piece_len p < 2 ^ 64 → i < piece_len p
-    → xs ≡ start ++ map f (map (piece_row k p) (range_with_len 0 i)) → length xs + 1 < 2 ^ 64
+pub row_fits : {A : Type 0} (f : Row → A) (k : Kind) (p : Piece) (start xs : List A) (i : ℕ)
+    → length start + piece_len p < 2 ^ 64 → i < piece_len p → xs ≡ start ++ map f (map (piece_row k p) (range_with_len 0 i))
+    → length xs + 1 < 2 ^ 64
 row_fits f k p start xs i fits inside before =
     let rows = map (piece_row k p) (range_with_len 0 i) in
     omega (arith, ap length before, length-append start (map f rows), length-map rows f, length-map-range_with_len (piece_row k p) 0 i)

@@ -1,11 +1,10 @@
 -- Rows of which all are there, or none.
-use Rattle.std.proofs.Common.{◌≡◌, ◌<◌, ◌+◌, ◌≢◌, ℕ, Bool, true, false, cond, eqb, List, [], ◌∷◌, length, map, take, get_or, replicate, refl, sym, ◌∙◌, ap, subst, arith, inl, inr}
+use Rattle.std.proofs.Common.{◌≡◌, ◌<◌, ◌+◌, ◌≢◌, ℕ, Bool, true, false, List, [], ◌∷◌, length, map, take, get_or, replicate, refl, sym, ◌∙◌, ap, subst, arith, inl, inr}
 use Rattle.std.specs.Prelude.{count_by, if◌then◌else◌, IfOk, IfSome, None, Option, Some, Result, Ok, Err}
-use Rattle.std.specs.List.{All, range_with_len}
+use Rattle.std.specs.List.{All}
 use Rattle.std.proofs.lemmas.Bool.{eq-eqb}
 use Rattle.std.proofs.lemmas.Bool.Decides.{eqb_tells, nat_tests}
-use Rattle.std.proofs.lemmas.List.{length-map, get_or-map}
-use Rattle.std.proofs.lemmas.List.FromFn.{length-map-range_with_len, get_or-map-range_with_len, length-range_with_len}
+use Rattle.std.proofs.lemmas.List.{length-map}
 use Rattle.std.proofs.lemmas.List.Elements.{All-append, All-head, All-tail}
 use Rattle.vx_base.proofs.Refused.{memory_alone}
 use Rattle.vx_base.specs.Booleans.{count_fault}
@@ -43,7 +42,8 @@ presence_told t v (Some b) same told = λ i. same i ∙ told i
 presence_told t v None same told = tt
 
 -- a test of a row within an array fails for want of memory alone
-pub within_gives : {A : Type 0} (r : Result A VortexError) (len i : ℕ) (P : A → Type 0) → i < len → IfOk r P → Refuses r (position_fault len i) → Gives r P
+pub within_gives : {A : Type 0} (r : Result A VortexError) (len i : ℕ) (P : A → Type 0)
+    → i < len → IfOk r P → Refuses r (position_fault len i) → Gives r P
 within_gives (Ok x) len i P inside given refused = given
 within_gives (Err e) len i P inside given refused =
     let none : position_fault len i ≡ count_fault 0 = grind (arith, nat_tests) in
@@ -78,6 +78,9 @@ valid_where_none rs some all =
 -- ---- pieces
 
 pub pieces_present : (b : Bool) (k : Kind) (ps : List Piece) (i : ℕ) (p : Piece) → i < length ps → p ≡ get_or ps i p
-    → AllPresent b (pieces_rows k (take i ps)) → ((i : ℕ) → is_present (piece_row k p i) ≡ b) → AllPresent b (pieces_rows k (take (i + 1) ps))
+    → AllPresent b (pieces_rows k (take i ps)) → ((i : ℕ) → is_present (piece_row k p i) ≡ b)
+    → AllPresent b (pieces_rows k (take (i + 1) ps))
 pieces_present b k ps i p inside at before each =
-    rw (pieces_rows_more k ps i p inside at) (All-append (λ r. is_present r ≡ b) (pieces_rows k (take i ps)) (piece_rows k p) before (All-range_with_len (λ r. is_present r ≡ b) (piece_row k p) (piece_len p) (λ j l. each j)))
+    let one : AllPresent b (piece_rows k p) = All-range_with_len (λ r. is_present r ≡ b) (piece_row k p) (piece_len p) (λ j l. each j) in
+    let both = All-append (λ r. is_present r ≡ b) (pieces_rows k (take i ps)) (piece_rows k p) before one in
+    rw (pieces_rows_more k ps i p inside at) both

@@ -1,5 +1,5 @@
 -- Numbers that are read from bytes, and written back.
-use Rattle.std.proofs.Common.{◌≡◌, ◌+◌, ◌*◌, ◌/◌, ◌<◌, ◌≤◌, ℕ, zero, suc, List, [], ◌∷◌, ◌++◌, length, map, take, drop, get_or, refl, sym, ◌∙◌, ap, arith, zero-add}
+use Rattle.std.proofs.Common.{◌≡◌, ◌+◌, ◌*◌, ◌/◌, ◌<◌, ℕ, zero, suc, List, [], ◌∷◌, ◌++◌, length, map, take, drop, get_or, refl, sym, ◌∙◌, ap, arith}
 use Rattle.std.specs.Prelude.{ℤ, pos}
 use Rattle.std.specs.List.{range_with_len}
 use Rattle.std.proofs.lemmas.Grind.{flat_map-append}
@@ -10,7 +10,7 @@ use Rattle.vx_base.proofs.Gathered.{numbers_append}
 use Rattle.vx_base.proofs.NumberBytes.{bytes_of-number_of, holds-number_of}
 use Rattle.vx_base.proofs.NumberLists.{length_numbers, numbers_none, numbers_push, whole as whole_numbers}
 use Rattle.vx_base.specs.Bytes.{AreBytes}
-use Rattle.vx_base.specs.Integers.{byte_width, bytes_of, number_nth, number_of, numbers}
+use Rattle.vx_base.specs.Integers.{byte_width, bytes_of, number_of, numbers}
 use Rattle.vx_base.specs.Kinds.{Kind}
 use Rattle.vx_base.specs.declared.ptypes.PType.{PType}
 use Rattle.vx_views.proofs.Padding.{bytes-drop, bytes-take}
@@ -27,7 +27,8 @@ use Rattle.vx_pack.specs.declared.pieces.Piece.{Piece}
 
 one_number : (t : PType) (bs : List ℕ) → length bs ≡ byte_width t → AreBytes bs → numbers t bs ≡ number_of t bs ∷ []
 one_number t bs long good =
-    ap (numbers t) (sym (bytes_of-number_of t bs long good)) ∙ numbers_push t [] 0 (number_of t bs) (omega arith) (holds-number_of t bs good)
+    ap (numbers t) (sym (bytes_of-number_of t bs long good))
+    ∙ numbers_push t [] 0 (number_of t bs) (omega arith) (holds-number_of t bs good)
     ∙ ap (λ zs. zs ++ number_of t bs ∷ []) (numbers_none t)
 
 -- the bytes of so many numbers
@@ -59,25 +60,29 @@ pub bytes_of_rows : (t : PType) (k : Kind) (p : Part) (bs : List ℕ) → AreNum
 bytes_of_rows t k p bs h =
     let count : length (numbers t bs) ≡ part_len p =
     length_numbers t bs ∙ ap (λ m. m / byte_width t) h.len ∙ whole_numbers t (part_len p) in
-    let rows : numbers t bs ≡ map (λ i. number_or_zero (part_row k p i)) (range_with_len 0 (part_len p)) =
-    fill_by_all (λ i. number_or_zero (part_row k p i)) (numbers t bs) (part_len p) (pos 0) count (λ i l. sym (ap number_or_zero (h.rows k i l))) in
+    let each : ℕ → ℤ = λ i. number_or_zero (part_row k p i) in
+    let rows : numbers t bs ≡ map each (range_with_len 0 (part_len p)) =
+    fill_by_all each (numbers t bs) (part_len p) (pos 0) count (λ i l. sym (ap number_or_zero (h.rows k i l))) in
     sym (written_back t (part_len p) bs h.len h.bytes)
     ∙ ap (bytes_of_numbers t) (rows ∙ sym (map-map number_or_zero (part_row k p) (range_with_len 0 (part_len p))))
 
 -- ---- one after another
 
-pub bytes_of_numbers-append : (t : PType) (ys zs : List ℤ) → bytes_of_numbers t (ys ++ zs) ≡ bytes_of_numbers t ys ++ bytes_of_numbers t zs
+pub bytes_of_numbers-append : (t : PType) (ys zs : List ℤ)
+    → bytes_of_numbers t (ys ++ zs) ≡ bytes_of_numbers t ys ++ bytes_of_numbers t zs
 bytes_of_numbers-append t ys zs = flat_map-append (bytes_of t) ys zs
 
 -- of one row more
 pub number_pushed : (t : PType) (k : Kind) (p : Piece) (start xs ys : List ℕ) (i : ℕ) (z : ℤ)
-    → xs ≡ start ++ bytes_of_numbers t (map number_or_zero (map (piece_row k p) (range_with_len 0 i))) → z ≡ number_or_zero (piece_row k p i)
-    → ys ≡ xs ++ bytes_of t z → ys ≡ start ++ bytes_of_numbers t (map number_or_zero (map (piece_row k p) (range_with_len 0 (i + 1))))
+    → xs ≡ start ++ bytes_of_numbers t (map number_or_zero (map (piece_row k p) (range_with_len 0 i)))
+    → z ≡ number_or_zero (piece_row k p i) → ys ≡ xs ++ bytes_of t z
+    → ys ≡ start ++ bytes_of_numbers t (map number_or_zero (map (piece_row k p) (range_with_len 0 (i + 1))))
 number_pushed t k p start xs ys i z before here more =
     let rows = map (piece_row k p) (range_with_len 0 i) in
     let next = number_or_zero (piece_row k p i) in
     let old = bytes_of_numbers t (map number_or_zero rows) in
-    let bytes : bytes_of_numbers t (map number_or_zero (map (piece_row k p) (range_with_len 0 (i + 1)))) ≡ old ++ bytes_of t next =
+    let more_rows = map (piece_row k p) (range_with_len 0 (i + 1)) in
+    let bytes : bytes_of_numbers t (map number_or_zero more_rows) ≡ old ++ bytes_of t next =
     ap (λ rs. bytes_of_numbers t (map number_or_zero rs)) (piece_rows_more k p i)
     ∙ ap (bytes_of_numbers t) (map_push number_or_zero rows (piece_row k p i))
     ∙ bytes_of_numbers-append t (map number_or_zero rows) (next ∷ [])

@@ -11,6 +11,7 @@ returns-then-have_presence c =
 
 pub returns-then-have_presence-2 : goal.returns-then-have_presence-2
 returns-then-have_presence-2 c =
-    let rows = pieces_rows (dtype_meaning c.args.dtype.now) c.args.pieces.now in
-    let some : 0 < length rows = omega (arith, length-pieces_rows (dtype_meaning c.args.dtype.now) c.args.pieces.now, c.requires.pieces.count, c.if-len-gt0.true) in
+    let k = dtype_meaning c.args.dtype.now in
+    let rows = pieces_rows k c.args.pieces.now in
+    let some : 0 < length rows = omega (arith, length-pieces_rows k c.args.pieces.now, c.requires.pieces.count) in
     sym (valid_where_none rows some (c.have_presence-then-len-gt0.ensures c.if-have_presence-2.true))

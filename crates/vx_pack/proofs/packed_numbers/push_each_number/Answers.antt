@@ -19,13 +19,15 @@ loop-i-preserved c = λ n piece.
     let t = c.args.ptype in
     let z = c.number_or_zero.result in
     let read = c.number_or_zero.ensures n piece in
-    number_pushed t (integers t n) c.args.piece c.args.bytes.now.items c.loop-i.bytes.items c.push_number.new.bytes.items c.loop-i.i
-    (cast_signed w128 (cast_unsigned w128 z)) (c.loop-i.invariant n piece) (number_passed t z read.1 ∙ read.0) c.in_ok-push_number.ensures
+    number_pushed t (integers t n) c.args.piece c.args.bytes.now.items c.loop-i.bytes.items c.push_number.new.bytes.items
+    c.loop-i.i (cast_signed w128 (cast_unsigned w128 z)) (c.loop-i.invariant n piece)
+    (number_passed t z read.1 ∙ read.0) c.in_ok-push_number.ensures
 
 pub returns : goal.returns
 returns c = λ n piece.
     let t = c.args.ptype in
+    let row = piece_row (integers t n) c.args.piece in
     let done : c.loop-i.i ≡ piece_len c.args.piece = omega (arith, c.len-i-end.ensures) in
     subst (λ m. c.loop-i.bytes.items
-    ≡ c.args.bytes.now.items ++ bytes_of_numbers t (map number_or_zero (map (piece_row (integers t n) c.args.piece) (range_with_len 0 m)))) done
+    ≡ c.args.bytes.now.items ++ bytes_of_numbers t (map number_or_zero (map row (range_with_len 0 m)))) done
     (c.loop-i.invariant n piece)

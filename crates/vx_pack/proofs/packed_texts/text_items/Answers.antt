@@ -7,5 +7,7 @@ use Rattle.vx_pack.proofs.packed_texts.text_items.Goals as goal
 
 pub loop-piece-preserved : goal.loop-piece-preserved
 loop-piece-preserved c =
-    piece_pushed bytes_in (dtype_meaning c.args.dtype.now) c.args.pieces.now c.loop-piece.piece-index c.piece-item.result (map maybe_value c.loop-piece.items.items)
-    (map maybe_value c.push_items.new.items.items) c.loop-piece-test.true c.piece-item.is c.loop-piece.invariant c.in_ok-push_items.ensures
+    let k = dtype_meaning c.args.dtype.now in
+    piece_pushed bytes_in k c.args.pieces.now c.loop-piece.piece-index c.piece-item.result (map maybe_value c.loop-piece.items.items)
+    (map maybe_value c.push_items.new.items.items) c.loop-piece-test.true c.piece-item.is c.loop-piece.invariant
+    c.in_ok-push_items.ensures

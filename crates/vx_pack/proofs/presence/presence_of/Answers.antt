@@ -11,8 +11,10 @@ use Rattle.vx_pack.proofs.presence.presence_of.Goals as goal
 pub returns-in-Constant : goal.returns-in-Constant
 returns-in-Constant c = λ i.
     let s = c.in-Constant.scalar in
-    let parts : c.args.array.now ≡ constant s.kind s.row c.in-Constant.len = sym c.layout.ensures.parts ∙ ap tree_of c.in-Constant.is in
-    ap (λ (t : Tree). is_present (row_at t i)) parts ∙ ap is_present (sym c.value.ensures) ∙ sym (value_presence s.kind c.value.result.now) ∙ sym c.is_some.ensures
+    let parts : c.args.array.now ≡ constant s.kind s.row c.in-Constant.len =
+    sym c.layout.ensures.parts ∙ ap tree_of c.in-Constant.is in
+    ap (λ (t : Tree). is_present (row_at t i)) parts ∙ ap is_present (sym c.value.ensures)
+    ∙ sym (value_presence s.kind c.value.result.now) ∙ sym c.is_some.ensures
 
 pub returns-in-Bool : goal.returns-in-Bool
 returns-in-Bool c =
@@ -33,10 +35,12 @@ returns-in-Primitive c =
 pub returns-in-VarBinView : goal.returns-in-VarBinView
 returns-in-VarBinView c =
     let v = valid_of c.in-VarBinView.validity in
-    let parts : c.args.array.now ≡ view_array c.in-VarBinView.views c.in-VarBinView.buffers.items (dtype_meaning c.in-VarBinView.dtype) v =
+    let k = dtype_meaning c.in-VarBinView.dtype in
+    let parts : c.args.array.now ≡ view_array c.in-VarBinView.views c.in-VarBinView.buffers.items k v =
     sym c.layout.ensures.parts ∙ ap tree_of c.in-VarBinView.is in
     presence_told c.args.array.now v c.state_of-in-VarBinView.result
-    (λ i. ap (λ (t : Tree). is_present (row_at t i)) parts ∙ valid_where_present (is_valid_at v i) _ (value_present (is_texts (dtype_meaning c.in-VarBinView.dtype)) _)) c.state_of-in-VarBinView.ensures
+    (λ i. ap (λ (t : Tree). is_present (row_at t i)) parts
+    ∙ valid_where_present (is_valid_at v i) _ (value_present (is_texts k) _)) c.state_of-in-VarBinView.ensures
 
 pub returns-in-FixedSizeList : goal.returns-in-FixedSizeList
 returns-in-FixedSizeList c =
@@ -44,12 +48,14 @@ returns-in-FixedSizeList c =
     let parts : c.args.array.now ≡ fixed_list c.in-FixedSizeList.elements c.in-FixedSizeList.size v c.in-FixedSizeList.len =
     sym c.layout.ensures.parts ∙ ap tree_of c.in-FixedSizeList.is in
     presence_told c.args.array.now v c.state_of-in-FixedSizeList.result
-    (λ i. ap (λ (t : Tree). is_present (row_at t i)) parts ∙ valid_where_present (is_valid_at v i) _ refl) c.state_of-in-FixedSizeList.ensures
+    (λ i. ap (λ (t : Tree). is_present (row_at t i)) parts ∙ valid_where_present (is_valid_at v i) _ refl)
+    c.state_of-in-FixedSizeList.ensures
 
 pub returns-in-ListView : goal.returns-in-ListView
 returns-in-ListView c =
     let v = valid_of c.in-ListView.validity in
-    let parts : c.args.array.now ≡ list_view c.in-ListView.elements c.in-ListView.offsets c.in-ListView.sizes v c.in-ListView.flag =
+    let parts : c.args.array.now ≡
+    list_view c.in-ListView.elements c.in-ListView.offsets c.in-ListView.sizes v c.in-ListView.flag =
     sym c.layout.ensures.parts ∙ ap tree_of c.in-ListView.is in
     presence_told c.args.array.now v c.state_of-in-ListView.result
     (λ i. ap (λ (t : Tree). is_present (row_at t i)) parts ∙ valid_where_present (is_valid_at v i) _ refl) c.state_of-in-ListView.ensures
