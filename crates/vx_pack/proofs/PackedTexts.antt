@@ -1,7 +1,7 @@
 -- Texts and byte lists that are packed, by what an iterator gives of their rows.
-use Rattle.std.proofs.Common.{◌≡◌, ◌∙◌, ◌+◌, ◌<◌, ◌^◌, ℕ, true, false, List, length, map, get_or, Some, None, refl, sym, ap, subst, inl}
+use Rattle.std.proofs.Common.{◌≡◌, ◌∙◌, ◌+◌, ◌<◌, ◌≤◌, ◌^◌, ℕ, Bool, true, false, le-leb, List, length, map, get_or, Some, None, refl, sym, ap, subst, inl}
 use Rattle.std.proofs.Common.{inr, arith}
-use Rattle.std.specs.Prelude.{Option, IsSome}
+use Rattle.std.specs.Prelude.{Option, IsSome, if◌then◌else◌, nat_le}
 use Rattle.std.specs.Borrow.{Bor}
 use Rattle.std.specs.Iterator.{Drains}
 use Rattle.std.specs.List.{All}
@@ -10,12 +10,14 @@ use Rattle.std.proofs.lemmas.Iterator.{YieldsList, items_from_drains}
 use Rattle.std.proofs.lemmas.Iterator.Consumers.{YieldsList-turn}
 use Rattle.std.proofs.lemmas.List.{get_or-map, length-map, map-id}
 use Rattle.vx_base.specs.Kinds.{Kind, texts, binaries, is_nullable_kind, Fits}
-use Rattle.vx_base.specs.Refusals.{Names, Refusal, overflow, refusal_of}
+use Rattle.vx_base.specs.Refusals.{Names, Refusal, overflow, refusal_of, value_too_long}
+use Rattle.vx_base.proofs.FirstFaults.{or_else-second}
 use Rattle.vx_base.specs.Rows.{Row, null, bytes, text}
 use Rattle.vx_base.specs.declared.errors.VortexError.{VortexError}
 use Rattle.vx_base.specs.declared.errors.VortexError.TheVariants.{Overflow}
 use Rattle.vx_views.proofs.FaultyViews.{text_fault_none}
 use Rattle.vx_views.specs.BuildFaults.{IsPieceCount, numbering_fault}
+use Rattle.vx_views.specs.Faulty.{text_fault}
 use Rattle.vx_views.specs.declared.view.TheConstants.{MAX_BUFFER_LEN}
 use Rattle.vx_tree.specs.Meaning.{is_texts}
 use Rattle.vx_tree.specs.Tree.{Tree}
@@ -23,7 +25,6 @@ use Rattle.vx_tree.specs.Values.{bytes_in}
 use Rattle.vx_text.specs.Collected.{maybe_value, AreRefused, IsCollected, IsFirstFaulty}
 use Rattle.vx_text.specs.Items.{IsArrayOf, heap_lens, item_at, item_fault}
 use Rattle.vx_text.specs.TextFaults.{value_type_fault}
-use Rattle.vx_text.proofs.ItemFaults.{fault_of_text}
 use Rattle.vx_pack.specs.Packed.{HasTooManyBuffers, IsPackRefused, IsPacked, IsTooLarge, has_bytes}
 
 -- ---- by their kind
@@ -43,18 +44,26 @@ values_kind (texts n) values = refl
 values_kind (binaries n) values = refl
 values_kind _ values = absurd (cc)
 
--- what a row that fits has no fault
+-- a value short enough for a view, which is text where that is asked
+value_faultless : (u n : Bool) (row : ℕ) (value : List ℕ) → length value ≤ MAX_BUFFER_LEN → text_fault u value row ≡ None
+    → item_fault u n row (Some value) ≡ None
+value_faultless u n row value short text =
+    let none : (if nat_le (length value) MAX_BUFFER_LEN then None else Some (value_too_long row)) ≡ None =
+    ap (λ (b : Bool). if b then None else Some (value_too_long row)) (le-leb (length value) MAX_BUFFER_LEN short) in
+    or_else-second _ (text_fault u value row) None none text
+
+-- a row that fits has no fault
 row_faultless : (k : Kind) (r : Row) (i : ℕ) → has_bytes k ≡ true → Fits k r
     → item_fault (is_texts k) (is_nullable_kind k) i (bytes_in r) ≡ None
 row_faultless (texts true) null i values fits = refl
 row_faultless (texts false) null i values fits = absurd (cc)
 row_faultless (texts n) (text bs) i values fits =
-    fault_of_text true n i (Some bs) bs None refl fits.1 (text_fault_none true bs i (inr fits.0))
+    value_faultless true n i bs fits.1 (text_fault_none true bs i (inr fits.0))
 row_faultless (texts n) _ i values fits = absurd fits
 row_faultless (binaries true) null i values fits = refl
 row_faultless (binaries false) null i values fits = absurd (cc)
 row_faultless (binaries n) (bytes bs) i values fits =
-    fault_of_text false n i (Some bs) bs None refl fits.1 (text_fault_none false bs i (inl refl))
+    value_faultless false n i bs fits.1 (text_fault_none false bs i (inl refl))
 row_faultless (binaries n) _ i values fits = absurd fits
 row_faultless _ r i values fits = absurd (cc)
 
