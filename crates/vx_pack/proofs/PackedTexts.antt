@@ -1,6 +1,6 @@
 -- Texts and byte lists that are packed, by what an iterator gives of their rows.
-use Rattle.std.proofs.Common.{◌≡◌, ◌∙◌, ◌+◌, ◌<◌, ◌≤◌, ◌^◌, ℕ, Bool, true, false, le-leb, List, length, map, get_or, Some, None, refl, sym, ap, subst, inl}
-use Rattle.std.proofs.Common.{inr, arith}
+use Rattle.std.proofs.Common.{◌≡◌, ◌∙◌, ◌+◌, ◌<◌, ◌≤◌, ◌^◌, ℕ, Bool, true, false, List, length, map, get_or, Some, None, refl}
+use Rattle.std.proofs.Common.{sym, ap, subst, inl, inr, le-leb, arith}
 use Rattle.std.specs.Prelude.{Option, IsSome, if◌then◌else◌, nat_le}
 use Rattle.std.specs.Borrow.{Bor}
 use Rattle.std.specs.Iterator.{Drains}
