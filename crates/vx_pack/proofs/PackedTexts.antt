@@ -47,10 +47,10 @@ values_kind _ values = absurd (cc)
 -- a value short enough for a view, which is text where that is asked
 value_faultless : (u n : Bool) (row : ℕ) (value : List ℕ) → length value ≤ MAX_BUFFER_LEN → text_fault u value row ≡ None
     → item_fault u n row (Some value) ≡ None
-value_faultless u n row value short text =
+value_faultless u n row value short none_of_text =
     let none : (if nat_le (length value) MAX_BUFFER_LEN then None else Some (value_too_long row)) ≡ None =
     ap (λ (b : Bool). if b then None else Some (value_too_long row)) (le-leb (length value) MAX_BUFFER_LEN short) in
-    or_else-second _ (text_fault u value row) None none text
+    or_else-second _ (text_fault u value row) None none none_of_text
 
 -- a row that fits has no fault
 row_faultless : (k : Kind) (r : Row) (i : ℕ) → has_bytes k ≡ true → Fits k r

@@ -19,7 +19,7 @@ use Rattle.vx_pack.proofs.ListPieces.{ArePieces-elements, ArePieces-lists}
 use Rattle.vx_pack.proofs.PackedColumns.{all_packed, one_more_packed, packed_struct}
 use Rattle.vx_pack.proofs.PackedSteps.{field_refused, field_told, list_parts, lists_items, lists_packed, lists_refused, lists_too_many}
 use Rattle.vx_pack.proofs.PackedSteps.{parts_formed, records_packed, rows_counted, sized_formed, sized_packed, sized_refused}
-use Rattle.vx_pack.proofs.PackedSteps.{sized_too_many}
+use Rattle.vx_pack.proofs.PackedSteps.{sized_too_many, valid_fits}
 use Rattle.vx_pack.proofs.SameParts.{dtype_at}
 use Rattle.vx_pack.proofs.pack_rows.+pack.Goals as goal
 
@@ -180,6 +180,12 @@ pack_records-returns-in_err-columns-clause-err t c =
     let pieces = subst (λ h. ArePieces h c.args.pieces.now c.args.len) kind c.requires.pieces in
     let p = err_from_is_err_and c.from_residual.result c.from_residual.ensures.1 in
     rw (p.1, p.2) (subst (λ h. IsPackRefused h (pieces_rows h c.args.pieces.now) e) (sym kind) (c.in_err-columns.ensures.err n pieces))
+
+pub pack_records-structure-requires-clause-fits : goal.pack_records-structure-requires-clause-fits
+pack_records-structure-requires-clause-fits t c =
+    let k = dtype_meaning c.args.dtype.now in
+    valid_fits k (pieces_rows k c.args.pieces.now) (valid_of c.in_ok-validity.validity) c.args.len c.in_ok-validity.ensures
+    (rows_counted k c.args.pieces.now c.args.len c.requires.pieces)
 
 pub pack_records-structure-requires-clause-columns : goal.pack_records-structure-requires-clause-columns
 pack_records-structure-requires-clause-columns t c =
