@@ -1,10 +1,12 @@
 -- What a row is: under a kind's names, where it may be null, and by what it fits.
-use Rattle.std.proofs.Common.{◌≡◌, ℕ, List, Bool, true, false, refl}
-use Rattle.std.specs.Prelude.{None, if◌then◌else◌}
+use Rattle.std.proofs.Common.{◌≡◌, ℕ, List, Bool, true, false, refl, sym, ◌∙◌}
+use Rattle.std.specs.Prelude.{None, if◌then◌else◌, is_some, Option, Some}
 use Rattle.vx_base.specs.declared.ptypes.PType.{PType}
 use Rattle.vx_base.specs.Kinds.{Kind, booleans, integers, texts, binaries, lists, fixed_lists, records, Kinds, Fits}
-use Rattle.vx_base.specs.Rows.{Row, null, boolean, whole, bytes, text, items, record_of, list_in, number_in}
-use Rattle.vx_base.specs.ValueRows.{named}
+use Rattle.vx_base.specs.Rows.{Row, null, boolean, whole, bytes, text, items, record_of, is_present, list_in, number_in}
+use Rattle.vx_base.specs.ValueRows.{named, row_under, value_row}
+use Rattle.vx_base.specs.declared.scalar_value.ScalarValue.{ScalarValue}
+use Rattle.vx_base.specs.declared.scalar_value.ScalarValue.TheVariants as value
 use Rattle.vx_tree.specs.Values.{bytes_in}
 use Rattle.vx_pack.specs.Lists.{is_lists}
 use Rattle.vx_pack.specs.RowForms.{record_in, truth_in}
@@ -47,6 +49,18 @@ named_bytes (fixed_lists k size n) _ = refl
 named_bytes (records names ks n) (record_of fs) = refl
 named_bytes (records names ks n) _ = refl
 
+pub named_presence : (k : Kind) (r : Row) → is_present (named k r) ≡ is_present r
+named_presence (booleans n) r = refl
+named_presence (integers t n) r = refl
+named_presence (texts n) r = refl
+named_presence (binaries n) r = refl
+named_presence (lists k n) (items rs) = refl
+named_presence (lists k n) _ = refl
+named_presence (fixed_lists k size n) (items rs) = refl
+named_presence (fixed_lists k size n) _ = refl
+named_presence (records names ks n) (record_of fs) = refl
+named_presence (records names ks n) _ = refl
+
 pub named_no_list : (k : Kind) (r : Row) → list_in r ≡ None → list_in (named k r) ≡ None
 named_no_list (booleans n) r h = h
 named_no_list (integers t n) r h = h
@@ -70,6 +84,19 @@ named_no_record (fixed_lists k size n) (items rs) h = refl
 named_no_record (fixed_lists k size n) _ h = h
 named_no_record (records names ks n) (record_of fs) h = cc
 named_no_record (records names ks n) _ h = h
+
+-- a value is there
+pub value_presence : (k : Kind) (v : Option ScalarValue) → is_some v ≡ is_present (row_under k v)
+value_presence k None = sym (named_presence k null)
+value_presence k (Some v) = sym (named_presence k (value_row v) ∙ there v)
+  where
+    there : (v : ScalarValue) → is_present (value_row v) ≡ true
+    there (value.Bool b) = refl
+    there (value.Int z) = refl
+    there (value.Bytes bs) = refl
+    there (value.Text bs) = refl
+    there (value.List rs) = refl
+    there (value.Record rs) = refl
 
 -- ---- rows that may be null
 

@@ -1,5 +1,5 @@
 -- The packed form of rows: one tree for a kind and its rows, at every depth, and nothing in it but them.
-use Rattle.std.specs.Prelude.{◌≡◌, ◌⊎◌, ◌<◌, ◌≤◌, ◌-◌, ◌*◌, ◌^◌, ℕ, ℤ, zero, suc, pos, Bool, true, false, List, length, map, sum, replicate, nat_le, if◌then◌else◌}
+use Rattle.std.specs.Prelude.{◌≡◌, ◌⊎◌, ◌<◌, ◌≤◌, ◌-◌, ◌*◌, ◌^◌, ℕ, ℤ, suc, pos, Bool, true, false, List, length, map, sum, replicate, nat_le, if◌then◌else◌}
 use Rattle.std.specs.Prelude.{unwrap_or}
 use Rattle.std.specs.List.{flat_map, range_with_len}
 use Rattle.vx_base.specs.Defaults.{default_row}

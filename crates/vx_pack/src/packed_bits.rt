@@ -38,7 +38,7 @@ pub(crate) fn truth_bits(
 fn push_truths(bits: &mut BitBufferMut, dtype: &DType, piece: Piece) -> Result<(), VortexError>
     requires piece { IsPiece (dtype_meaning dtype.now) piece }
     requires fits { length bits.old + piece_len piece < 2 ^ 64 }
-    ensures { Gives result (λ _. bits.new ≡ bits.old ++ map truth_of (piece_rows (dtype_meaning dtype.now) piece)) }
+    ensures { Gives result (λ _. bits.new ≡ bits.old ++ map truth_of (piece_rows (dtype_meaning dtype.now) piece.entry)) }
 {
     for i in 0..piece.len() {
         push_bit(bits, piece.truth_or_false(i))?;
@@ -89,7 +89,6 @@ fn nullable_validity(
 // Whether the layouts tell that all rows are there, or that all are null, as is asked.
 fn have_presence(dtype: &DType, pieces: &[Piece], wanted: bool) -> bool
     requires nullable { is_nullable_kind (dtype_meaning dtype.now) ≡ true }
-    requires pieces { All (IsPiece (dtype_meaning dtype.now)) pieces.now }
     ensures { IsTrue result →
         All (λ r. is_present r ≡ wanted) (pieces_rows (dtype_meaning dtype.now) pieces.now) }
 {
@@ -129,7 +128,7 @@ fn push_present(
     requires nullable { is_nullable_kind (dtype_meaning dtype.now) ≡ true }
     requires piece { IsPiece (dtype_meaning dtype.now) piece }
     requires fits { length bits.old + piece_len piece < 2 ^ 64 }
-    ensures { Gives result (λ _. bits.new ≡ bits.old ++ map is_present (piece_rows (dtype_meaning dtype.now) piece)) }
+    ensures { Gives result (λ _. bits.new ≡ bits.old ++ map is_present (piece_rows (dtype_meaning dtype.now) piece.entry)) }
 {
     for i in 0..piece.len() {
         push_bit(bits, piece.is_present(alloc, i)?)?;

@@ -23,7 +23,7 @@ pub(crate) fn field_pieces<'a>(
     requires place { place < length (field_names fields.now) }
     requires pieces { (n : Bool) × All (IsPiece (records (field_names fields.now) (field_kinds fields.now) n)) pieces.now }
     ensures { let kind = records (field_names fields.now) (field_kinds fields.now) in
-        (n : Bool) → All (IsPiece (kind n)) pieces.now → Gives result (λ column.
+        Gives result (λ column. (n : Bool) → All (IsPiece (kind n)) pieces.now →
         AreFieldPieces (kind_at place (field_kinds fields.now)) place (pieces_rows (kind n) pieces.now) column.items) }
 {
     let mut column = Vec::new(alloc);
@@ -43,8 +43,8 @@ fn push_field<'a>(
     requires place { place < length (field_names fields.now) }
     requires piece { (n : Bool) × IsPiece (records (field_names fields.now) (field_kinds fields.now) n) piece }
     ensures { let kind = records (field_names fields.now) (field_kinds fields.now) in
-        (n : Bool) → IsPiece (kind n) piece → Gives result (λ _. (more : List Pieces)
-        × AreFieldPieces (kind_at place (field_kinds fields.now)) place (piece_rows (kind n) piece) more
+        Gives result (λ _. (n : Bool) → IsPiece (kind n) piece.entry → (more : List Pieces)
+        × AreFieldPieces (kind_at place (field_kinds fields.now)) place (piece_rows (kind n) piece.entry) more
         × (column.new.items ≡ column.old.items ++ more)) }
 {
     match whole_field(fields, piece, place) {
@@ -59,8 +59,8 @@ fn whole_field<'a>(fields: &StructFields, piece: Piece<'a>, place: usize) -> Opt
     requires place { place < length (field_names fields.now) }
     requires piece { (n : Bool) × IsPiece (records (field_names fields.now) (field_kinds fields.now) n) piece }
     ensures { let kind = records (field_names fields.now) (field_kinds fields.now) in
-        (n : Bool) → IsPiece (kind n) piece → IfSome result (λ field.
-        AreFieldPieces (kind_at place (field_kinds fields.now)) place (piece_rows (kind n) piece) (field ∷ [])) }
+        IfSome result (λ field. (n : Bool) → IsPiece (kind n) piece.entry →
+        AreFieldPieces (kind_at place (field_kinds fields.now)) place (piece_rows (kind n) piece.entry) (field ∷ [])) }
 {
     match piece {
         Piece::Rows(part) => Some(Piece::Rows(part.records()?.field(place))),
@@ -78,8 +78,8 @@ fn push_each_field<'a>(
     requires place { place < length (field_names fields.now) }
     requires piece { (n : Bool) × IsPiece (records (field_names fields.now) (field_kinds fields.now) n) piece }
     ensures { let kind = records (field_names fields.now) (field_kinds fields.now) in
-        (n : Bool) → IsPiece (kind n) piece → Gives result (λ _. (more : List Pieces)
-        × AreFieldPieces (kind_at place (field_kinds fields.now)) place (piece_rows (kind n) piece) more
+        Gives result (λ _. (n : Bool) → IsPiece (kind n) piece.entry → (more : List Pieces)
+        × AreFieldPieces (kind_at place (field_kinds fields.now)) place (piece_rows (kind n) piece.entry) more
         × (column.new.items ≡ column.old.items ++ more)) }
 {
     for i in 0..piece.len() {

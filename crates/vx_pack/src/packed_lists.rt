@@ -27,7 +27,7 @@ pub(crate) fn list_pieces<'a>(
 ) -> Result<Vec<Piece<'a>>, VortexError>
     requires pieces { ArePieces (dtype_meaning dtype.now) pieces.now len }
     requires blank { blank_of (dtype_meaning dtype.now) ≡ blank }
-    ensures { (item : Kind) → IsItemOf item (dtype_meaning dtype.now) → Gives result (λ lists.
+    ensures { Gives result (λ lists. (item : Kind) → IsItemOf item (dtype_meaning dtype.now) →
         AreListPieces item blank (pieces_rows (dtype_meaning dtype.now) pieces.now) lists.items) }
 {
     let mut lists = Vec::with_capacity(alloc, len)?;
@@ -46,7 +46,8 @@ pub(crate) fn fixed_list_pieces<'a>(
     len: usize,
 ) -> Result<Vec<Piece<'a>>, VortexError>
     requires pieces { ArePieces (dtype_meaning dtype.now) pieces.now len }
-    ensures { (item : Kind) (n : Bool) → dtype_meaning dtype.now ≡ fixed_lists item size n → Gives result (λ lists.
+    requires size { blank_of (dtype_meaning dtype.now) ≡ size }
+    ensures { Gives result (λ lists. (item : Kind) (n : Bool) → dtype_meaning dtype.now ≡ fixed_lists item size n →
         AreElements item (len * size) (flat_map (items_or_blank item size) (pieces_rows (dtype_meaning dtype.now) pieces.now))
         lists.items) }
 {
@@ -65,8 +66,8 @@ fn push_lists<'a>(
 ) -> Result<(), VortexError>
     requires piece { IsPiece (dtype_meaning dtype.now) piece }
     requires blank { blank_of (dtype_meaning dtype.now) ≡ blank }
-    ensures { (item : Kind) → IsItemOf item (dtype_meaning dtype.now) → Gives result (λ _. (more : List Pieces)
-        × AreListPieces item blank (piece_rows (dtype_meaning dtype.now) piece) more
+    ensures { Gives result (λ _. (item : Kind) → IsItemOf item (dtype_meaning dtype.now) → (more : List Pieces)
+        × AreListPieces item blank (piece_rows (dtype_meaning dtype.now) piece.entry) more
         × (lists.new.items ≡ lists.old.items ++ more)) }
 {
     for i in 0..piece.len() {

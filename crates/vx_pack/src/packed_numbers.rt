@@ -23,8 +23,8 @@ pub(crate) fn number_bytes(
     len: usize,
 ) -> Result<ByteBuffer, VortexError>
     requires { (n : Bool) × ArePieces (integers ptype n) pieces.now len }
-    ensures { (n : Bool) → ArePieces (integers ptype n) pieces.now len → Gives result (λ b. b
-        ≡ bytes_of_numbers ptype (map number_or_zero (pieces_rows (integers ptype n) pieces.now))) }
+    ensures { Gives result (λ b. (n : Bool) → ArePieces (integers ptype n) pieces.now len →
+        b ≡ bytes_of_numbers ptype (map number_or_zero (pieces_rows (integers ptype n) pieces.now))) }
 {
     let mut bytes = Vec::with_capacity(alloc, len.saturating_mul(ptype.byte_width()))?;
     for piece in pieces {
@@ -36,8 +36,8 @@ pub(crate) fn number_bytes(
 // Those of a piece, at the end of the bytes: as they stand, where they stand so.
 fn push_numbers(bytes: &mut Vec<u8>, ptype: PType, piece: Piece) -> Result<(), VortexError>
     requires { (n : Bool) × IsPiece (integers ptype n) piece }
-    ensures { (n : Bool) → IsPiece (integers ptype n) piece → Gives result (λ _. bytes.new.items
-        ≡ bytes.old.items ++ bytes_of_numbers ptype (map number_or_zero (piece_rows (integers ptype n) piece))) }
+    ensures { Gives result (λ _. (n : Bool) → IsPiece (integers ptype n) piece.entry → bytes.new.items
+        ≡ bytes.old.items ++ bytes_of_numbers ptype (map number_or_zero (piece_rows (integers ptype n) piece.entry))) }
 {
     let Some(stored) = piece.number_bytes(ptype) else {
         return push_each_number(bytes, ptype, piece);
@@ -49,8 +49,8 @@ fn push_numbers(bytes: &mut Vec<u8>, ptype: PType, piece: Piece) -> Result<(), V
 // The same, each number read by itself.
 fn push_each_number(bytes: &mut Vec<u8>, ptype: PType, piece: Piece) -> Result<(), VortexError>
     requires { (n : Bool) × IsPiece (integers ptype n) piece }
-    ensures { (n : Bool) → IsPiece (integers ptype n) piece → Gives result (λ _. bytes.new.items
-        ≡ bytes.old.items ++ bytes_of_numbers ptype (map number_or_zero (piece_rows (integers ptype n) piece))) }
+    ensures { Gives result (λ _. (n : Bool) → IsPiece (integers ptype n) piece.entry → bytes.new.items
+        ≡ bytes.old.items ++ bytes_of_numbers ptype (map number_or_zero (piece_rows (integers ptype n) piece.entry))) }
 {
     for i in 0..piece.len() {
         push_number(bytes, ptype, piece.number_or_zero(ptype, i))?;

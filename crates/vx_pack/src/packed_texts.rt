@@ -61,7 +61,7 @@ fn push_items<'a>(
     requires values { has_bytes (dtype_meaning dtype.now) ≡ true }
     requires piece { IsPiece (dtype_meaning dtype.now) piece }
     ensures { Gives result (λ _. map maybe_value items.new.items
-        ≡ map maybe_value items.old.items ++ map bytes_in (piece_rows (dtype_meaning dtype.now) piece)) }
+        ≡ map maybe_value items.old.items ++ map bytes_in (piece_rows (dtype_meaning dtype.now) piece.entry)) }
 {
     let is_nullable = dtype.is_nullable();
     for i in 0..piece.len() {
