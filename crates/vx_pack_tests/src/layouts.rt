@@ -49,6 +49,16 @@ pub(crate) fn same_counts(alloc: Global, number: u8, len: usize) -> Result<Array
     ArrayRef::constant(alloc, scalar, len)
 }
 
+// The same where null may stand.
+pub(crate) fn same_nullable(
+    alloc: Global,
+    number: u8,
+    len: usize,
+) -> Result<ArrayRef, VortexError> {
+    let scalar = Scalar::int(i128::from(number), PType::U8, Nullability::Nullable);
+    ArrayRef::constant(alloc, scalar, len)
+}
+
 // The values that codes name.
 pub(crate) fn named(
     alloc: Global,

@@ -1,19 +1,16 @@
 // Constants.
 
 use super::expect_packed;
-use crate::layouts::{LONG, end_to_end, same_counts, same_lists, same_records, text};
+use crate::layouts::{
+    LONG, end_to_end, same_counts, same_lists, same_nullable, same_records, text,
+};
 use std::alloc::Global;
-use vx_base::{Nullability, PType, Scalar, VortexError};
+use vx_base::{Nullability, Scalar, VortexError};
 use vx_tree::ArrayRef;
 
 // So many times true.
 fn truths(alloc: Global, nullability: Nullability, len: usize) -> Result<ArrayRef, VortexError> {
     ArrayRef::constant(alloc, Scalar::bool(true, nullability), len)
-}
-
-// Twice the number 5, where null may stand.
-fn nullable_numbers(alloc: Global) -> Result<ArrayRef, VortexError> {
-    ArrayRef::constant(alloc, Scalar::int(5, PType::I16, Nullability::Nullable), 2)
 }
 
 // Twice a long text.
@@ -43,8 +40,8 @@ fn constant_numbers(rt: HostRuntime) {
     );
     expect_packed(
         &rt,
-        nullable_numbers(rt.alloc()),
-        "numbers i16? 2 all 0500 0500",
+        same_nullable(rt.alloc(), 5, 2),
+        "numbers u8? 2 all 05 05",
     );
 }
 

@@ -2,8 +2,8 @@
 
 use super::expect_packed;
 use crate::layouts::{
-    LONG, byte_lists, counts, defaults, fixed, lists_at, null_where, one_buffer, records, texts,
-    u8s,
+    LONG, byte_lists, counts, defaults, fixed, lists_at, null_where, one_buffer, records,
+    same_nullable, texts, u8s,
 };
 use std::alloc::Global;
 use vx_base::{Nullability, VortexError};
@@ -26,6 +26,12 @@ fn nullable_numbers(alloc: Global) -> Result<ArrayRef, VortexError> {
     list_and_null(alloc, elements)
 }
 
+// Numbers that the state says are all there.
+fn all_there(alloc: Global) -> Result<ArrayRef, VortexError> {
+    list_and_null(alloc, same_nullable(alloc, 5, 4)?)
+}
+
+// Numbers that the state says are all null.
 fn nulls(alloc: Global) -> Result<ArrayRef, VortexError> {
     list_and_null(alloc, defaults(alloc, u8s(Nullability::Nullable), 4)?)
 }
@@ -95,6 +101,12 @@ fn default_numbers_are_zero_or_null(rt: HostRuntime) {
         &rt,
         nullable_numbers(rt.alloc()),
         "fixed [u8?;2]? 2 told (numbers u8? 4 told 01 00 00 00 (bits bool 4 plain 0:01)) \
+         (bits bool 2 plain 0:01)",
+    );
+    expect_packed(
+        &rt,
+        all_there(rt.alloc()),
+        "fixed [u8?;2]? 2 told (numbers u8? 4 told 05 05 00 00 (bits bool 4 plain 0:03)) \
          (bits bool 2 plain 0:01)",
     );
     expect_packed(

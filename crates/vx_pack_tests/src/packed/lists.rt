@@ -3,10 +3,10 @@
 use super::expect_packed;
 use crate::layouts::{
     LONG, counts, defaults, end_to_end, lists_at, null_where, one_buffer, out_of_order,
-    overlapping, texts, u8s,
+    overlapping, same_nullable, texts, u8s,
 };
 use std::alloc::Global;
-use vx_base::{Nullability, PType, Scalar, VortexError};
+use vx_base::{Nullability, VortexError};
 use vx_test_help::bools;
 use vx_tree::ArrayRef;
 use vx_views::BinaryView;
@@ -83,13 +83,8 @@ fn null_beside(alloc: Global, number: ArrayRef) -> Result<ArrayRef, VortexError>
     null_where(alloc, lists, &[true, false, true])
 }
 
-// Three times the number 5, where null may stand.
-fn fives(alloc: Global) -> Result<ArrayRef, VortexError> {
-    ArrayRef::constant(alloc, Scalar::int(5, PType::U8, Nullability::Nullable), 3)
-}
-
 fn null_beside_fives(alloc: Global) -> Result<ArrayRef, VortexError> {
-    null_beside(alloc, fives(alloc)?)
+    null_beside(alloc, same_nullable(alloc, 5, 3)?)
 }
 
 fn null_beside_nulls(alloc: Global) -> Result<ArrayRef, VortexError> {

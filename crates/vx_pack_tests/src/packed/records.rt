@@ -2,7 +2,8 @@
 
 use super::expect_packed;
 use crate::layouts::{
-    LONG, counts, fixed, lists_at, null_where, one_buffer, records, texts, without_columns, wrapped,
+    LONG, counts, fixed, lists_at, null_where, one_buffer, records, same_nullable, texts,
+    without_columns, wrapped,
 };
 use std::alloc::Global;
 use vx_base::VortexError;
@@ -34,6 +35,14 @@ fn numbers_and_texts(alloc: Global) -> Result<ArrayRef, VortexError> {
 fn truths_and_nullable_numbers(alloc: Global) -> Result<ArrayRef, VortexError> {
     let second = null_where(alloc, counts(alloc, &[5, 171, 7])?, &[true, true, true])?;
     null_between(alloc, bools(alloc, &[true, true, true])?, second)
+}
+
+fn numbers_that_are_all_there(alloc: Global) -> Result<ArrayRef, VortexError> {
+    null_between(
+        alloc,
+        counts(alloc, &[1, 171, 3])?,
+        same_nullable(alloc, 5, 3)?,
+    )
 }
 
 fn lists_and_pairs(alloc: Global) -> Result<ArrayRef, VortexError> {
@@ -91,6 +100,12 @@ fn null_records_have_default_rows_in_each_column(rt: HostRuntime) {
         truths_and_nullable_numbers(rt.alloc()),
         "records {a:bool,b:u8?}? 3 told .a .b (bits bool 3 plain 0:05) \
          (numbers u8? 3 told 05 00 07 (bits bool 3 plain 0:05)) (bits bool 3 plain 0:05)",
+    );
+    expect_packed(
+        &rt,
+        numbers_that_are_all_there(rt.alloc()),
+        "records {a:u8,b:u8?}? 3 told .a .b (numbers u8 3 plain 01 00 03) \
+         (numbers u8? 3 told 05 00 05 (bits bool 3 plain 0:05)) (bits bool 3 plain 0:05)",
     );
     expect_packed(
         &rt,
