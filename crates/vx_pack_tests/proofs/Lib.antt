@@ -1,1 +1,2 @@
 pub mod ByteNumbers
+pub mod ListsWithin

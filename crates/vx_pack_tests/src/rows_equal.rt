@@ -1,5 +1,6 @@
 // Arrays of the same rows in all layouts, and others that differ from them in one place.
 
+use crate::packed::{expect_packed_alike, expect_packed_otherwise};
 use std::process::Abort;
 use vx_pack::RowsEqual;
 use vx_pack::laws::{
@@ -8,7 +9,6 @@ use vx_pack::laws::{
 use vx_test_help::samples::{dictionary, lists, records};
 use vx_tree::ArrayRef;
 
-mod layouts;
 mod lists;
 mod many_rows;
 mod numbers;
@@ -16,8 +16,20 @@ mod records;
 mod texts;
 mod truths;
 
+// Stops unless all arrays have the same rows and pack to the same parts.
+fn expect_equal(rt: &(impl Abort + AllocGlobal), arrays: &[ArrayRef]) {
+    expect_equal_rows(rt, arrays);
+    expect_packed_alike(rt, arrays);
+}
+
+// Stops unless no array has the rows of one of the others, or packs to the same parts.
+fn expect_others(rt: &(impl Abort + AllocGlobal), arrays: &[ArrayRef], others: &[ArrayRef]) {
+    expect_other_rows(rt, arrays, others);
+    expect_packed_otherwise(rt, arrays, others);
+}
+
 // Stops unless all arrays have the same rows, each of them beside itself and every other one.
-fn expect_equal(rt: &impl Abort, arrays: &[ArrayRef]) {
+fn expect_equal_rows(rt: &impl Abort, arrays: &[ArrayRef]) {
     for (i, array) in arrays.iter().enumerate() {
         for (j, other) in arrays.iter().enumerate() {
             assert!(rt; array.rows_equal(other), "{i} beside {j}");
@@ -26,7 +38,7 @@ fn expect_equal(rt: &impl Abort, arrays: &[ArrayRef]) {
 }
 
 // Stops unless no array has the rows of one of the others, from either side.
-fn expect_others(rt: &impl Abort, arrays: &[ArrayRef], others: &[ArrayRef]) {
+fn expect_other_rows(rt: &impl Abort, arrays: &[ArrayRef], others: &[ArrayRef]) {
     for (i, array) in arrays.iter().enumerate() {
         for (j, other) in others.iter().enumerate() {
             assert!(rt; !array.rows_equal(other), "{i} beside {j}");

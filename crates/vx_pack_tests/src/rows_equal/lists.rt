@@ -1,10 +1,10 @@
 // Lists, wherever they lie among their elements.
 
-use super::layouts::{
+use super::{expect_equal, expect_others};
+use crate::layouts::{
     counts, end_to_end, named, out_of_order, overlapping, pairs, parted_elsewhere, same_counts,
     same_lists,
 };
-use super::{expect_equal, expect_others};
 use std::alloc::Global;
 use vx_base::{Nullability, VortexError};
 use vx_test_help::{bools, ints};

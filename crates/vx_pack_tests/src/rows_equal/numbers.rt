@@ -1,7 +1,7 @@
 // Numbers.
 
-use super::layouts::{counts, named, same_counts};
 use super::{expect_equal, expect_others};
+use crate::layouts::{counts, named, same_counts};
 use std::alloc::Global;
 use vx_base::VortexError;
 use vx_test_help::{bools, ints};

@@ -1,9 +1,9 @@
 // Records.
 
-use super::layouts::{
+use super::{expect_equal, expect_others};
+use crate::layouts::{
     counts, end_to_end, named, overlapping, pairs, records, same_counts, same_records,
 };
-use super::{expect_equal, expect_others};
 use std::alloc::Global;
 use vx_base::{DType, Nullability, PType, Scalar, VortexError};
 use vx_test_help::bools;

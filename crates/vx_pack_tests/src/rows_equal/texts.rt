@@ -1,68 +1,20 @@
 // Texts and byte lists.
 
-ghost use Rattle.std.specs.Prelude.{◌≡◌, length, IfOk};
-ghost use Rattle.vx_tree.specs.Meaning.{tree_len};
-
-use super::layouts::{counts, named};
 use super::{expect_equal, expect_others};
+use crate::layouts::{LONG, byte_lists, counts, named, one_buffer, text, texts};
 use std::alloc::Global;
-use vx_base::{Buffer, ByteBuffer, DType, Mask, Nullability, Scalar, ScalarValue, VortexError};
+use vx_base::{ByteBuffer, DType, Nullability, Scalar, ScalarValue, VortexError};
 use vx_test_help::bools;
-use vx_tree::{ArrayRef, Validity};
-use vx_views::{BinaryView, check_views};
-
-const LONG: &[u8] = b"this value is definitely long";
+use vx_tree::ArrayRef;
+use vx_views::BinaryView;
 
 const LOST: &[u8] = b"this value is definitely lost";
 
-// Texts by their views over these buffers.
-fn texts(
-    alloc: Global,
-    views: &[BinaryView],
-    buffers: Vec<ByteBuffer>,
-) -> Result<ArrayRef, VortexError>
-    ensures { IfOk result (λ a. tree_len a ≡ length views.now) }
-{
-    let mask = Mask::new_true(views.len());
-    check_views(alloc, views, &mask, &buffers, true, 0)?;
-    let views = Buffer::copy_from(alloc, views)?;
-    let dtype = DType::Utf8(Nullability::NonNullable);
-    ArrayRef::var_bin_view(alloc, views, buffers, dtype, Validity::NonNullable)
-}
-
-// Byte lists by their views over these buffers.
-fn byte_lists(
-    alloc: Global,
-    views: &[BinaryView],
-    buffers: Vec<ByteBuffer>,
-) -> Result<ArrayRef, VortexError>
-    ensures { IfOk result (λ a. tree_len a ≡ length views.now) }
-{
-    let mask = Mask::new_true(views.len());
-    check_views(alloc, views, &mask, &buffers, false, 0)?;
-    let views = Buffer::copy_from(alloc, views)?;
-    let dtype = DType::Binary(Nullability::NonNullable);
-    ArrayRef::var_bin_view(alloc, views, buffers, dtype, Validity::NonNullable)
-}
-
-// One buffer.
-fn one(alloc: Global, bytes: &[u8]) -> Result<Vec<ByteBuffer>, VortexError> {
-    let mut buffers = Vec::new(alloc);
-    buffers.push(ByteBuffer::copy_from(alloc, bytes)?)?;
-    Ok(buffers)
-}
-
 // Two buffers, of which the second one holds the long text from its second byte on.
 fn two(alloc: Global) -> Result<Vec<ByteBuffer>, VortexError> {
-    let mut buffers = one(alloc, LOST)?;
+    let mut buffers = one_buffer(alloc, LOST)?;
     buffers.push(ByteBuffer::copy_from(alloc, b"-this value is definitely long-")?)?;
     Ok(buffers)
-}
-
-// One text.
-fn text(alloc: Global, bytes: &[u8], nullability: Nullability) -> Result<Scalar, VortexError> {
-    let value = ScalarValue::Text(ByteBuffer::copy_from(alloc, bytes)?);
-    Scalar::try_new(DType::Utf8(nullability), Some(value))
 }
 
 // The texts `hi`, null, and a long one.
@@ -73,7 +25,7 @@ fn some_texts(alloc: Global) -> Result<Vec<ArrayRef>, VortexError> {
     let long = BinaryView::make_view(LONG, 0, 0);
     let moved = BinaryView::make_view(LONG, 1, 1);
     let no = BinaryView::make_view(b"no", 0, 0);
-    made.push(texts(alloc, &[hi, hi, long], one(alloc, LONG)?)?.mask(alloc, &mask)?)?;
+    made.push(texts(alloc, &[hi, hi, long], one_buffer(alloc, LONG)?)?.mask(alloc, &mask)?)?;
     // Another value lay there, and the long text lies elsewhere.
     made.push(texts(alloc, &[hi, moved, moved], two(alloc)?)?.mask(alloc, &mask)?)?;
     let longer = texts(alloc, &[no, hi, no, moved, no], two(alloc)?)?;
@@ -83,10 +35,10 @@ fn some_texts(alloc: Global) -> Result<Vec<ArrayRef>, VortexError> {
     made.push(named(
         alloc,
         codes,
-        texts(alloc, &[no, hi, long], one(alloc, LONG)?)?,
+        texts(alloc, &[no, hi, long], one_buffer(alloc, LONG)?)?,
     )?)?;
     // A null value.
-    let values = texts(alloc, &[hi, hi, long], one(alloc, LONG)?)?.mask(alloc, &mask)?;
+    let values = texts(alloc, &[hi, hi, long], one_buffer(alloc, LONG)?)?.mask(alloc, &mask)?;
     made.push(named(alloc, counts(alloc, &[0, 1, 2])?, values)?)?;
     Ok(made)
 }
@@ -102,19 +54,19 @@ fn other_texts(alloc: Global) -> Result<Vec<ArrayRef>, VortexError> {
     let long = BinaryView::make_view(LONG, 0, 0);
     // The last byte of a long text.
     let lost = BinaryView::make_view(LOST, 0, 0);
-    made.push(texts(alloc, &[hi, hi, lost], one(alloc, LOST)?)?.mask(alloc, &mask)?)?;
+    made.push(texts(alloc, &[hi, hi, lost], one_buffer(alloc, LOST)?)?.mask(alloc, &mask)?)?;
     // A shorter text, which begins as the long one.
     let part = BinaryView::make_view(b"this value is definitely", 0, 0);
-    made.push(texts(alloc, &[hi, hi, part], one(alloc, LONG)?)?.mask(alloc, &mask)?)?;
-    made.push(texts(alloc, &[ho, hi, long], one(alloc, LONG)?)?.mask(alloc, &mask)?)?;
+    made.push(texts(alloc, &[hi, hi, part], one_buffer(alloc, LONG)?)?.mask(alloc, &mask)?)?;
+    made.push(texts(alloc, &[ho, hi, long], one_buffer(alloc, LONG)?)?.mask(alloc, &mask)?)?;
     // An empty text in place of null, and null in place of a text.
-    made.push(texts(alloc, &[hi, none, long], one(alloc, LONG)?)?.mask(alloc, &all)?)?;
+    made.push(texts(alloc, &[hi, none, long], one_buffer(alloc, LONG)?)?.mask(alloc, &all)?)?;
     let fewer = bools(alloc, &[true, false, false])?;
-    made.push(texts(alloc, &[hi, hi, long], one(alloc, LONG)?)?.mask(alloc, &fewer)?)?;
+    made.push(texts(alloc, &[hi, hi, long], one_buffer(alloc, LONG)?)?.mask(alloc, &fewer)?)?;
     // Null may not stand.
-    made.push(texts(alloc, &[hi, none, long], one(alloc, LONG)?)?)?;
+    made.push(texts(alloc, &[hi, none, long], one_buffer(alloc, LONG)?)?)?;
     // Byte lists.
-    made.push(byte_lists(alloc, &[hi, hi, long], one(alloc, LONG)?)?.mask(alloc, &mask)?)?;
+    made.push(byte_lists(alloc, &[hi, hi, long], one_buffer(alloc, LONG)?)?.mask(alloc, &mask)?)?;
     Ok(made)
 }
 
@@ -133,7 +85,7 @@ fn same_texts(alloc: Global) -> Result<Vec<ArrayRef>, VortexError> {
     let long = BinaryView::make_view(LONG, 0, 0);
     let moved = BinaryView::make_view(LONG, 1, 1);
     made.push(ArrayRef::constant(alloc, text(alloc, LONG, plain)?, 2)?)?;
-    made.push(texts(alloc, &[long, long], one(alloc, LONG)?)?)?;
+    made.push(texts(alloc, &[long, long], one_buffer(alloc, LONG)?)?)?;
     made.push(texts(alloc, &[moved, moved], two(alloc)?)?)?;
     // The values are a constant.
     let values = ArrayRef::constant(alloc, text(alloc, LONG, plain)?, 7)?;
@@ -152,9 +104,9 @@ fn other_same_texts(alloc: Global) -> Result<Vec<ArrayRef>, VortexError> {
     made.push(texts(
         alloc,
         &[long, BinaryView::make_view(b"hi", 0, 0)],
-        one(alloc, LONG)?,
+        one_buffer(alloc, LONG)?,
     )?)?;
-    made.push(byte_lists(alloc, &[long, long], one(alloc, LONG)?)?)?;
+    made.push(byte_lists(alloc, &[long, long], one_buffer(alloc, LONG)?)?)?;
     let bytes = ScalarValue::Bytes(ByteBuffer::copy_from(alloc, LONG)?);
     let bytes = Scalar::try_new(DType::Binary(plain), Some(bytes))?;
     made.push(ArrayRef::constant(alloc, bytes, 2)?)?;

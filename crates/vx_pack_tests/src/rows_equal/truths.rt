@@ -1,7 +1,7 @@
 // Truth values.
 
-use super::layouts::{counts, named};
 use super::{expect_equal, expect_others};
+use crate::layouts::{counts, named};
 use std::alloc::Global;
 use vx_base::{Nullability, Scalar, VortexError};
 use vx_test_help::bools;

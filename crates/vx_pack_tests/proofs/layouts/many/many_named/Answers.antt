@@ -1,6 +1,6 @@
 use Rattle.std.proofs.Common.{◌<◌, refl, arith}
 use Rattle.vx_base.specs.Integers.{numbers}
-use Rattle.vx_pack_tests.proofs.rows_equal.many_rows.many_named.Goals as goal
+use Rattle.vx_pack_tests.proofs.layouts.many.many_named.Goals as goal
 
 pub dictionary-requires : goal.dictionary-requires
 unfolding numbers

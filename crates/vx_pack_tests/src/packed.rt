@@ -1,0 +1,86 @@
+// What arrays pack to: each wanted text was written by hand, of the rows alone.
+
+use crate::written::written;
+use std::alloc::Global;
+use std::process::Abort;
+use vx_base::VortexError;
+use vx_pack::{Pack, RowsEqual};
+use vx_tree::ArrayRef;
+
+mod constants;
+mod cut_away;
+mod default_rows;
+mod dictionaries;
+mod empty;
+mod fixed_lists;
+mod limits;
+mod lists;
+mod nests;
+mod numbers;
+mod records;
+mod texts;
+mod truths;
+mod values;
+
+// Down to how many levels the arrays of these tests are written.
+const LEVELS: usize = 8;
+
+// The packed form of an array, as text.
+fn packed_text(alloc: Global, array: &ArrayRef) -> Result<String, VortexError> {
+    written(alloc, &array.pack(alloc)?, LEVELS)
+}
+
+// Stops unless what was made packs to these parts.
+fn expect_packed(
+    rt: &(impl Abort + AllocGlobal),
+    made: Result<ArrayRef, VortexError>,
+    wanted: &str,
+) {
+    let array = made.expect(rt, "made");
+    expect_packs_to(rt, &array, wanted);
+}
+
+// Stops unless an array packs to these parts, they do too, and have its rows.
+fn expect_packs_to(rt: &(impl Abort + AllocGlobal), array: &ArrayRef, wanted: &str) {
+    let packed = expect_parts(rt, array, wanted);
+    assert!(rt; packed.rows_equal(array));
+}
+
+// The packed form: stops unless it has these parts, and packs to them.
+fn expect_parts(rt: &(impl Abort + AllocGlobal), array: &ArrayRef, wanted: &str) -> ArrayRef {
+    let packed = array.pack(rt.alloc()).expect(rt, "packed");
+    let text = written(rt.alloc(), &packed, LEVELS).expect(rt, "written");
+    assert_eq!(rt; text.as_str(), wanted);
+    let again = packed_text(rt.alloc(), &packed).expect(rt, "packed again");
+    assert_eq!(rt; again.as_str(), wanted);
+    packed
+}
+
+// Stops unless all arrays pack to the same parts.
+pub(crate) fn expect_packed_alike(rt: &(impl Abort + AllocGlobal), arrays: &[ArrayRef]) {
+    let Some(first) = arrays.first() else {
+        return;
+    };
+    let wanted = packed_text(rt.alloc(), first).expect(rt, "packed");
+    for array in arrays {
+        expect_packs_to(rt, array, wanted.as_str());
+    }
+}
+
+// Stops unless no array packs to the parts of one of the others.
+pub(crate) fn expect_packed_otherwise(
+    rt: &(impl Abort + AllocGlobal),
+    arrays: &[ArrayRef],
+    others: &[ArrayRef],
+) {
+    for array in arrays {
+        let text = packed_text(rt.alloc(), array).expect(rt, "packed");
+        for (j, other) in others.iter().enumerate() {
+            let otherwise = packed_text(rt.alloc(), other).expect(rt, "packed");
+            assert!(rt;
+                text.as_str() != otherwise.as_str(),
+                "the other {j}: {otherwise}"
+            );
+        }
+    }
+}

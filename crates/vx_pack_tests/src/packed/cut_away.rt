@@ -1,0 +1,187 @@
+// What was cut away is in no buffer: rows 1 and 3 of four are marked, and are cut, filtered or
+// masked away, or not taken.
+
+use super::{LEVELS, expect_packed};
+use crate::layouts::{LONG, counts, lists_at, null_where, one_buffer, texts, wrapped};
+use crate::written::written;
+use std::alloc::Global;
+use std::process::Abort;
+use vx_base::{BitBuffer, ByteBuffer, Mask, VortexError};
+use vx_test_help::ints;
+use vx_tree::ArrayRef;
+use vx_views::BinaryView;
+
+// The bytes of marked numbers and texts, as they are written.
+const MARKS: [&str; 2] = ["abababab", "c2abc2ab"];
+
+// A marked text of 14 bytes, and one of 13 bytes that stands after it.
+const MARKED: &[u8] = b"\xC2\xAB\xC2\xAB\xC2\xAB\xC2\xAB\xC2\xAB\xC2\xAB\xC2\xAB";
+
+const AFTER: &[u8] = b"\xC2\xAB\xC2\xAB\xC2\xAB\xC2\xAB\xC2\xAB\xC2\xAB\xC2\xABthirteen byte";
+
+// Whether a text has a mark.
+fn is_marked(text: &str) -> bool {
+    text.contains(MARKS[0]) || text.contains(MARKS[1])
+}
+
+// Rows 0 and 2 of four.
+fn filtered(alloc: Global, rows: &ArrayRef) -> Result<ArrayRef, VortexError> {
+    let bits = BitBuffer::from_bools(alloc, &[true, false, true, false])?;
+    rows.filter(alloc, &Mask::from_buffer(alloc, bits)?)
+}
+
+// Rows 2 and 0.
+fn taken(alloc: Global, rows: &ArrayRef) -> Result<ArrayRef, VortexError> {
+    rows.take(alloc, &counts(alloc, &[2, 0])?)
+}
+
+// Stops unless row 2 alone, rows 0 and 2, rows 2 and 0, and all rows with 1 and 3 null pack to
+// these parts, in which no mark is.
+fn expect_cut_away(
+    rt: &(impl Abort + AllocGlobal),
+    made: Result<ArrayRef, VortexError>,
+    wanted: &[&str; 4],
+) {
+    let rows = made.expect(rt, "made");
+    let text = written(rt.alloc(), &rows, LEVELS).expect(rt, "written");
+    assert!(rt; is_marked(text.as_str()));
+    for text in wanted {
+        assert!(rt; !is_marked(text));
+    }
+    expect_packed(rt, rows.slice(rt.alloc(), 2..3), wanted[0]);
+    expect_packed(rt, filtered(rt.alloc(), &rows), wanted[1]);
+    expect_packed(rt, taken(rt.alloc(), &rows), wanted[2]);
+    expect_packed(
+        rt,
+        null_where(rt.alloc(), rows, &[true, false, true, false]),
+        wanted[3],
+    );
+}
+
+// The numbers 1 and 3 beside two marked ones.
+fn numbers(alloc: Global) -> Result<ArrayRef, VortexError> {
+    ints::<u32>(alloc, &[1, 2880154539, 3, 2880154539])
+}
+
+// A long text and one of 13 bytes beside marked ones.
+fn some_texts(alloc: Global) -> Result<ArrayRef, VortexError> {
+    let marked = BinaryView::make_view(MARKED, 1, 0);
+    let views = [
+        BinaryView::make_view(LONG, 0, 0),
+        marked,
+        BinaryView::make_view(b"thirteen byte", 1, 14),
+        marked,
+    ];
+    let mut buffers = one_buffer(alloc, LONG)?;
+    buffers.push(ByteBuffer::copy_from(alloc, AFTER)?)?;
+    texts(alloc, &views, buffers)
+}
+
+// The lists of a long text, and of one of 13 bytes and an empty one, beside marked ones.
+fn lists_of_texts(alloc: Global) -> Result<ArrayRef, VortexError> {
+    lists_at(alloc, some_texts(alloc)?, &[0, 1, 2, 3], &[1, 1, 1, 1])
+}
+
+// The records `{a:[1, 3]}`, `{a:[3]}` beside marked ones.
+fn records_of_lists(alloc: Global) -> Result<ArrayRef, VortexError> {
+    let elements = ints::<u32>(alloc, &[2880154539, 1, 3, 2880154539])?;
+    wrapped(
+        alloc,
+        "a",
+        lists_at(alloc, elements, &[1, 0, 2, 3], &[2, 1, 1, 1])?,
+    )
+}
+
+#[test]
+fn numbers_that_are_cut_away(rt: HostRuntime) {
+    expect_cut_away(
+        &rt,
+        numbers(rt.alloc()),
+        &[
+            "numbers u32 1 plain 03000000",
+            "numbers u32 2 plain 01000000 03000000",
+            "numbers u32 2 plain 03000000 01000000",
+            "numbers u32? 4 told 01000000 00000000 03000000 00000000 (bits bool 4 plain 0:05)",
+        ],
+    );
+}
+
+#[test]
+fn texts_that_are_cut_away(rt: HostRuntime) {
+    expect_cut_away(
+        &rt,
+        some_texts(rt.alloc()),
+        &[
+            "views text 1 plain 0d000000.74686972.00000000.00000000 <746869727465656e2062797465>",
+            "views text 2 plain 1d000000.74686973.00000000.00000000 \
+             0d000000.74686972.00000000.1d000000 \
+             <746869732076616c756520697320646566696e6974656c79206c6f6e67\
+             746869727465656e2062797465>",
+            "views text 2 plain 0d000000.74686972.00000000.00000000 \
+             1d000000.74686973.00000000.0d000000 \
+             <746869727465656e2062797465\
+             746869732076616c756520697320646566696e6974656c79206c6f6e67>",
+            "views text? 4 told 1d000000.74686973.00000000.00000000 \
+             00000000.00000000.00000000.00000000 0d000000.74686972.00000000.1d000000 \
+             00000000.00000000.00000000.00000000 \
+             <746869732076616c756520697320646566696e6974656c79206c6f6e67\
+             746869727465656e2062797465> (bits bool 4 plain 0:05)",
+        ],
+    );
+}
+
+#[test]
+fn lists_of_texts_that_are_cut_away(rt: HostRuntime) {
+    expect_cut_away(
+        &rt,
+        lists_of_texts(rt.alloc()),
+        &[
+            "lists [text] 1 plain true \
+             (views text 1 plain 0d000000.74686972.00000000.00000000 \
+             <746869727465656e2062797465>) \
+             (numbers i32 1 plain 00000000) (numbers i32 1 plain 01000000)",
+            "lists [text] 2 plain true \
+             (views text 2 plain 1d000000.74686973.00000000.00000000 \
+             0d000000.74686972.00000000.1d000000 \
+             <746869732076616c756520697320646566696e6974656c79206c6f6e67\
+             746869727465656e2062797465>) \
+             (numbers i32 2 plain 00000000 01000000) (numbers i32 2 plain 01000000 01000000)",
+            "lists [text] 2 plain true \
+             (views text 2 plain 0d000000.74686972.00000000.00000000 \
+             1d000000.74686973.00000000.0d000000 \
+             <746869727465656e2062797465\
+             746869732076616c756520697320646566696e6974656c79206c6f6e67>) \
+             (numbers i32 2 plain 00000000 01000000) (numbers i32 2 plain 01000000 01000000)",
+            "lists [text]? 4 told true \
+             (views text 2 plain 1d000000.74686973.00000000.00000000 \
+             0d000000.74686972.00000000.1d000000 \
+             <746869732076616c756520697320646566696e6974656c79206c6f6e67\
+             746869727465656e2062797465>) \
+             (numbers i32 4 plain 00000000 01000000 01000000 02000000) \
+             (numbers i32 4 plain 01000000 00000000 01000000 00000000) (bits bool 4 plain 0:05)",
+        ],
+    );
+}
+
+#[test]
+fn records_of_lists_that_are_cut_away(rt: HostRuntime) {
+    expect_cut_away(
+        &rt,
+        records_of_lists(rt.alloc()),
+        &[
+            "records {a:[u32]} 1 plain .a \
+             (lists [u32] 1 plain true (numbers u32 1 plain 03000000) \
+             (numbers i32 1 plain 00000000) (numbers i32 1 plain 01000000))",
+            "records {a:[u32]} 2 plain .a \
+             (lists [u32] 2 plain true (numbers u32 3 plain 01000000 03000000 03000000) \
+             (numbers i32 2 plain 00000000 02000000) (numbers i32 2 plain 02000000 01000000))",
+            "records {a:[u32]} 2 plain .a \
+             (lists [u32] 2 plain true (numbers u32 3 plain 03000000 01000000 03000000) \
+             (numbers i32 2 plain 00000000 01000000) (numbers i32 2 plain 01000000 02000000))",
+            "records {a:[u32]}? 4 told .a \
+             (lists [u32] 4 plain true (numbers u32 3 plain 01000000 03000000 03000000) \
+             (numbers i32 4 plain 00000000 02000000 02000000 03000000) \
+             (numbers i32 4 plain 02000000 00000000 01000000 00000000)) (bits bool 4 plain 0:05)",
+        ],
+    );
+}
