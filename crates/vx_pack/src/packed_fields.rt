@@ -26,11 +26,24 @@ pub(crate) fn field_pieces<'a>(
         Gives result (λ column. (n : Bool) → All (IsPiece (kind n)) pieces.now →
         AreFieldPieces (kind_at place (field_kinds fields.now)) place (pieces_rows (kind n) pieces.now) column.items) }
 {
-    let mut column = Vec::new(alloc);
+    let mut column = Vec::with_capacity(alloc, pieces_of_field(pieces))?;
     for piece in pieces {
         push_field(&mut column, fields, *piece, place)?;
     }
     Ok(column)
+}
+
+// How many pieces a field has: one for a piece of which it is a column, or which is default rows,
+// and else one for each record.
+fn pieces_of_field(pieces: &[Piece]) -> usize {
+    let mut count: usize = 0;
+    for piece in pieces {
+        count = count.saturating_add(match piece {
+            Piece::Rows(part) if part.records().is_none() => part.len(),
+            _ => 1,
+        });
+    }
+    count
 }
 
 // That of a piece, at the end of the column: whole, where the field is a column.

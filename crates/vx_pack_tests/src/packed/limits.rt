@@ -151,6 +151,14 @@ fn too_many_elements_at_any_depth(rt: HostRuntime) {
     expect_refused(&rt, record_of_too_large(rt.alloc()), VortexError::Overflow);
 }
 
+// The record `{a:0}`, so many times.
+fn many_records(alloc: Global) -> Result<ArrayRef, VortexError> {
+    let mut dtypes = Vec::new(alloc);
+    dtypes.push(u8s(NonNullable))?;
+    let dtype = records_of(alloc, &["a"], dtypes, NonNullable)?;
+    defaults(alloc, dtype, MANY)
+}
+
 #[test]
 fn more_rows_than_memory_holds(rt: HostRuntime) {
     let memory = VortexError::Memory;
@@ -162,6 +170,7 @@ fn more_rows_than_memory_holds(rt: HostRuntime) {
     expect_refused(&rt, lists, memory);
     let texts = defaults(rt.alloc(), DType::Utf8(NonNullable), MANY);
     expect_refused(&rt, texts, memory);
+    expect_refused(&rt, many_records(rt.alloc()), memory);
 }
 
 #[test]
