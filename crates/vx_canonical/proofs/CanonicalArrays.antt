@@ -15,7 +15,8 @@ use Rattle.vx_tree.specs.Shapes.{state_of, is_nullable_state}
 use Rattle.vx_tree.specs.Formed.{ValidFits, IsMask, IsListView, AllLen}
 use Rattle.vx_tree.specs.Plain.{IsPlain, ArePlain}
 use Rattle.vx_tree.specs.Extents.{extent_of, extents_of, extent, list_extent, fixed_list_extent}
-use Rattle.vx_canonical.specs.Canonical.{HasRowsOf, IsCanonical, AreCanonical, IsCanonicalValid, canonical_fault, columns_fault}
+use Rattle.vx_canonical.specs.Canonical.{HasRowsOf, IsCanonical, AreCanonical, IsCanonicalValid}
+use Rattle.vx_tree.specs.CanonicalFaults.{canonical_fault, columns_fault}
 use Rattle.vx_tree.proofs.RowLists.{rows_by_place}
 use Rattle.vx_tree.proofs.Selected.{nullable-state}
 use Rattle.vx_tree.proofs.FixedLists.{rows_range-same, place_within}

@@ -11,7 +11,8 @@ use Rattle.vx_tree.specs.Flags.{is_flagged, kept_flag}
 use Rattle.vx_tree.specs.Formed.{IsListView}
 use Rattle.vx_tree.specs.Extents.{extent_of, list_extent, fixed_list_extent, struct_extent}
 use Rattle.vx_tree.specs.Operations.{IsSelected, IsValidSelected, AreBelow}
-use Rattle.vx_canonical.specs.Canonical.{IsCanonical, IsCanonicalAt, AreCanonicalAt, IsCanonicalValid, plain_overflow}
+use Rattle.vx_canonical.specs.Canonical.{IsCanonical, IsCanonicalAt, AreCanonicalAt, IsCanonicalValid}
+use Rattle.vx_tree.specs.CanonicalFaults.{plain_overflow}
 use Rattle.vx_base.proofs.SizedLists.{lists_long}
 use Rattle.vx_tree.proofs.FixedLists.{rows_range-same, fixed_rows, lists_below}
 use Rattle.vx_canonical.proofs.PlainKinds.{lists_countable}

@@ -34,7 +34,7 @@ named_at c v s r ps x w codes h are made nulled =
       };
       plain = nulled.plain made.plain h.plain;
       state = state_of_nulled s r w nulled ∙ (λ i. taken_state (made.state i) ((h.state ∙ codes.state) i));
-      extent = nulled.extent made.plain ∙ made.extent;
+      extent = nulled.extent ∙ made.extent;
       flag = flag_of_nulled s r w nulled made.flag;
       kept = tt;
     }
@@ -47,7 +47,7 @@ named_values c v s r ps x w plain codes h are selected nulled =
       kind = selected.kind;
       plain = selected.plain plain;
       state = state_of_selected v s ps selected;
-      extent = selected.extent plain;
+      extent = selected.needs.extent;
       flag = flag_of_selected v s ps selected;
       rows = selected.rows;
     } in

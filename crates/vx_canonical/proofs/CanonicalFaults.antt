@@ -10,8 +10,9 @@ use Rattle.vx_base.specs.Kinds.{Kind, booleans, integers, texts, binaries, lists
 use Rattle.vx_base.specs.ValueRows.{option_row, row_under}
 use Rattle.vx_tree.specs.Tree.{Tree, constant, dictionary}
 use Rattle.vx_tree.specs.Meaning.{tree_len, kind_of}
-use Rattle.vx_canonical.specs.PlainValues.{FitsIfThere, kept_fault, rows_fault}
-use Rattle.vx_canonical.specs.Canonical.{plain_overflow, constant_fault, canonical_fault}
+use Rattle.vx_canonical.specs.PlainValues.{FitsIfThere}
+use Rattle.vx_tree.specs.CanonicalFaults.{kept_fault, rows_fault}
+use Rattle.vx_tree.specs.CanonicalFaults.{plain_overflow, constant_fault, canonical_fault}
 use Rattle.vx_canonical.proofs.Kept.{kept_fault-nulls, values_fault}
 use Rattle.vx_canonical.proofs.Overflows.{plain_only, or_later}
 use Rattle.vx_canonical.proofs.PlainKinds.{plain_overflow-fewer}

@@ -16,7 +16,8 @@ use Rattle.vx_tree.specs.Meaning.{tree_len, kind_of, row_at, rows, trees_from}
 use Rattle.vx_tree.specs.Shapes.{tree_state}
 use Rattle.vx_tree.specs.Plain.{IsPlain}
 use Rattle.vx_tree.specs.Fitting.{AllFormed}
-use Rattle.vx_canonical.specs.Canonical.{IsCanonical, plain_overflow, columns_fault}
+use Rattle.vx_canonical.specs.Canonical.{IsCanonical}
+use Rattle.vx_tree.specs.CanonicalFaults.{plain_overflow, columns_fault}
 use Rattle.vx_tree.specs.Flags.{is_flagged}
 use Rattle.vx_canonical.specs.Joined.{joined_len, joined_state, joined_states, joined_row, parts_join_fault, join_fault, IsJoined, AreJoinable}
 use Rattle.vx_tree.specs.Extents.{extent_of, joined_extent}

@@ -10,8 +10,8 @@ use Rattle.vx_base.specs.Refusals.{Refusal, differing_dtypes, or_else}
 use Rattle.vx_base.specs.SameKind.{kind_eq, kind_eq-Decides}
 use Rattle.vx_tree.specs.Tree.{Tree}
 use Rattle.vx_tree.specs.Meaning.{tree_len, kind_of, rows, trees_from}
-use Rattle.vx_canonical.specs.Canonical.{canonical_fault, columns_fault}
-use Rattle.vx_canonical.specs.PlainValues.{buffers_overflow}
+use Rattle.vx_tree.specs.CanonicalFaults.{canonical_fault, columns_fault}
+use Rattle.vx_tree.specs.CanonicalFaults.{buffers_overflow}
 use Rattle.vx_tree.specs.Extents.{Extent, Extents, extent, view_extent, list_extent, fixed_list_extent, struct_extent, extent_of, buffer_count, element_count, elements_extent, extent_at, column_extent, joined_extent, joined_extents}
 use Rattle.vx_canonical.specs.Joined.{joined_len}
 use Rattle.vx_canonical.specs.Concatenated.{are_alike, extents_fault, fields_extents_fault, plain_fault, concat_fault}

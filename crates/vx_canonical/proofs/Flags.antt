@@ -10,7 +10,7 @@ use Rattle.vx_tree.specs.Operations.{IsSelected, IsNulled}
 -- the flag that a shape tells
 abbrev shape_flag : Shape → Bool
 shape_flag (dictionary_shape v s f) = f
-shape_flag (list_view_shape e s f) = f
+shape_flag (list_view_shape e o z s f) = f
 shape_flag _ = false
 
 flag_told : (t : Tree) → is_flagged t ≡ shape_flag (shape_of t)
@@ -29,7 +29,7 @@ selected_flag (primitive_shape s) = refl
 selected_flag (constant_shape k r) = refl
 selected_flag (dictionary_shape v s f) = refl
 selected_flag (fixed_list_shape s) = refl
-selected_flag (list_view_shape e s f) = refl
+selected_flag (list_view_shape e o z s f) = refl
 selected_flag (struct_shape s) = refl
 selected_flag (view_shape bs s) = refl
 
@@ -45,7 +45,7 @@ nulled_flag (primitive_shape s) index h = refl
 nulled_flag (constant_shape k r) index h = nulled_constant_flag k r index
 nulled_flag (dictionary_shape v s f) index h = refl
 nulled_flag (fixed_list_shape s) index h = refl
-nulled_flag (list_view_shape e s f) index h = h
+nulled_flag (list_view_shape e o z s f) index h = h
 nulled_flag (struct_shape s) index h = refl
 nulled_flag (view_shape bs s) index h = refl
 

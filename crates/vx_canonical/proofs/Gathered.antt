@@ -17,9 +17,10 @@ use Rattle.vx_tree.specs.Shapes.{told, state_of}
 use Rattle.vx_tree.specs.Faults.{take_overflow}
 use Rattle.vx_tree.specs.Fitting.{AllFormed}
 use Rattle.vx_tree.specs.Operations.{IsSelected}
-use Rattle.vx_canonical.specs.PlainValues.{AreGathered, ArePlainValues, FitsIfThere, kept_fault, rows_fault, values_valid}
+use Rattle.vx_canonical.specs.PlainValues.{AreGathered, ArePlainValues, FitsIfThere, values_valid}
+use Rattle.vx_tree.specs.CanonicalFaults.{kept_fault, rows_fault}
 use Rattle.vx_tree.specs.Extents.{rows_extent}
-use Rattle.vx_canonical.specs.Canonical.{plain_overflow}
+use Rattle.vx_tree.specs.CanonicalFaults.{plain_overflow}
 use Rattle.vx_tree.proofs.Dictionaries.{state_of_selected}
 use Rattle.vx_canonical.proofs.Flags.{flag_of_selected}
 use Rattle.vx_canonical.proofs.PlainKinds.{plain_overflow-fewer, take_overflow-plain}
@@ -145,7 +146,7 @@ gathered_made k vs ws ps t r x some few made taken =
       kind = taken.kind ∙ made.kind;
       plain = taken.plain made.plain;
       state = state_of_selected t r ps taken ∙ made.state ∙ gathered_state (is_nullable_kind k) vs ws ps x some few;
-      extent = taken.extent made.plain ∙ made.extent ∙ gathered_extent k vs ws ps x;
+      extent = taken.needs.extent ∙ made.extent ∙ gathered_extent k vs ws ps x;
       flag = flag_of_selected t r ps taken;
       rows = λ i l fits.
           let inside : i < length ps = rw (gathered_length vs ws ps x) l in

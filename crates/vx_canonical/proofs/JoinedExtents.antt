@@ -9,7 +9,7 @@ use Rattle.vx_tree.specs.Tree.{Tree, constant, Trees, no_trees, tree}
 use Rattle.vx_tree.specs.Layouts.{is_struct}
 use Rattle.vx_tree.specs.Meaning.{kind_of, kinds_of, trees_from}
 use Rattle.vx_tree.specs.Formed.{column_count}
-use Rattle.vx_canonical.specs.PlainValues.{buffers_overflow}
+use Rattle.vx_tree.specs.CanonicalFaults.{buffers_overflow}
 use Rattle.vx_tree.specs.Extents.{extent_of, elements_extent, column_extent}
 use Rattle.vx_canonical.specs.Joined.{joined_len, elements_in, columns_in, column_of, AreJoinable, AreRecords, parts_join_fault, columns_join_fault}
 use Rattle.vx_canonical.specs.Concatenated.{extents_fault, fields_extents_fault}

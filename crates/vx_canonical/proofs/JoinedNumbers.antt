@@ -18,7 +18,8 @@ use Rattle.vx_tree.specs.Tree.{Tree, bools, primitive, constant, dictionary, fix
 use Rattle.vx_tree.specs.Meaning.{tree_len, kind_of, row_at, is_valid_at, picked, trees_from}
 use Rattle.vx_tree.specs.Formed.{IsCode, IsDictionary, WellFormed}
 use Rattle.vx_tree.specs.Named.{AreIndices}
-use Rattle.vx_canonical.specs.Canonical.{HasRowsOf, IsCanonicalAt, plain_overflow, constant_fault, canonical_fault, columns_fault}
+use Rattle.vx_canonical.specs.Canonical.{HasRowsOf, IsCanonicalAt}
+use Rattle.vx_tree.specs.CanonicalFaults.{plain_overflow, constant_fault, canonical_fault, columns_fault}
 use Rattle.vx_canonical.specs.Joined.{joined_len, joined_row, bytes_in, AreNumbers, IsJoined, IsValidJoined}
 use Rattle.vx_canonical.specs.JoinedNumbers.{AreOfType, HoldNumbers, ArePicked, AreRepeated, AreAppended}
 use Rattle.vx_canonical.proofs.JoinedRows.{joined-here, joined-later}

@@ -11,7 +11,7 @@ use Rattle.vx_tree.specs.Meaning.{kind_of, kinds_of, trees_from, is_texts}
 use Rattle.vx_tree.specs.Formed.{value_kind}
 use Rattle.vx_tree.specs.Fitting.{AllFormed, ColumnsFormed}
 use Rattle.vx_tree.specs.Plain.{IsPlain, ArePlain}
-use Rattle.vx_canonical.specs.PlainValues.{buffers_overflow}
+use Rattle.vx_tree.specs.CanonicalFaults.{buffers_overflow}
 use Rattle.vx_canonical.specs.Joined.{IsJoined, AreFixedLists, AreLists, AreRecords, AreValues, joined_buffers, AreJoinable, AreColumnsJoinable, AreColumnsJoined, elements_in, columns_in, column_of, column_at, parts_join_fault, columns_join_fault, join_fault}
 use Rattle.vx_canonical.proofs.JoinedKinds.{fixed_lists_of_kind, lists_of_kind, records_of_kind}
 use Rattle.vx_canonical.proofs.JoinedRecords.{count_of_list}

@@ -19,7 +19,7 @@ use Rattle.vx_tree.specs.Formed.{WellFormed, value_kind}
 use Rattle.vx_tree.specs.Layouts.{is_view_array}
 use Rattle.vx_tree.specs.Fitting.{AllFormed}
 use Rattle.vx_tree.specs.Plain.{IsPlain}
-use Rattle.vx_canonical.specs.PlainValues.{buffers_overflow}
+use Rattle.vx_tree.specs.CanonicalFaults.{buffers_overflow}
 use Rattle.vx_canonical.specs.Joined.{joined_len, joined_at, joined_row, IsJoined, IsValidJoined, views_in, buffers_in, joined_buffers, shifted_view, views_from, AreResolved, AreValues}
 use Rattle.vx_tree.specs.Extents.{extent_of, view_extent, buffer_count, joined_extent}
 use Rattle.vx_canonical.proofs.ExtentParts.{buffers_of_each}

@@ -12,8 +12,9 @@ use Rattle.vx_base.specs.Rows.{Row, null, boolean, whole, bytes, text, items, re
 use Rattle.vx_base.specs.ValueRows.{option_row}
 use Rattle.vx_tree.specs.RowParts.{field_in, is_long_row, items_in, items_or_nulls}
 use Rattle.vx_tree.specs.Extents.{rows_extent, fields_extents, extent, view_extent, list_extent, fixed_list_extent, struct_extent}
-use Rattle.vx_canonical.specs.PlainValues.{FitsIfThere, FitsNamed, buffers_overflow, fields_fault, kept_fault, kept_fields_fault, rows_fault}
-use Rattle.vx_canonical.specs.Canonical.{plain_overflow, fields_overflow}
+use Rattle.vx_canonical.specs.PlainValues.{FitsIfThere, FitsNamed}
+use Rattle.vx_tree.specs.CanonicalFaults.{buffers_overflow, fields_fault, kept_fault, kept_fields_fault, rows_fault}
+use Rattle.vx_tree.specs.CanonicalFaults.{plain_overflow, fields_overflow}
 use Rattle.vx_canonical.proofs.CanonicalArrays.{or_none}
 use Rattle.vx_canonical.proofs.Overflows.{IsOverflow, fields_only, kept_only}
 use Rattle.vx_canonical.proofs.PlainParts.{all_named_rows, fit_each, fixed_items_fit, sized_length, field_fits}

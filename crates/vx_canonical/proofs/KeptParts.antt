@@ -21,7 +21,8 @@ use Rattle.vx_tree.specs.Plain.{ArePlain}
 use Rattle.vx_tree.specs.Shapes.{state_of, row_state}
 use Rattle.vx_tree.specs.RowParts.{field_in, items_in, items_or_nulls}
 use Rattle.vx_tree.specs.Extents.{extent_of, extents_of, rows_extent, fields_extents, extent, fixed_list_extent, struct_extent}
-use Rattle.vx_canonical.specs.PlainValues.{ArePlainValues, FitsIfThere, FitsNamed, kept_fault, kept_fields_fault, rows_fault}
+use Rattle.vx_canonical.specs.PlainValues.{ArePlainValues, FitsIfThere, FitsNamed}
+use Rattle.vx_tree.specs.CanonicalFaults.{kept_fault, kept_fields_fault, rows_fault}
 use Rattle.vx_canonical.specs.Canonical.{AreKeptFields, IsBlank, IsBlankPart, IsCanonical}
 use Rattle.vx_canonical.proofs.Blanks.{missing_plain, nullable-missing, or_nullable-own}
 use Rattle.vx_canonical.proofs.Kept.{no_rows_countable, rows_extent-there, sized_there}

@@ -10,8 +10,8 @@ use Rattle.vx_base.proofs.FirstFaults.{or_else-second}
 use Rattle.vx_tree.specs.Tree.{Tree, bools, primitive, constant, dictionary, fixed_list, list_view, structure, view_array, Trees, no_trees, tree}
 use Rattle.vx_tree.specs.Meaning.{tree_len, kind_of}
 use Rattle.vx_tree.specs.RowParts.{is_long_row, items_in, items_or_nulls, field_in}
-use Rattle.vx_canonical.specs.PlainValues.{buffers_overflow, rows_fault, fields_fault, kept_fault, kept_fields_fault}
-use Rattle.vx_canonical.specs.Canonical.{plain_overflow, fields_overflow, canonical_fault, columns_fault}
+use Rattle.vx_tree.specs.CanonicalFaults.{buffers_overflow, rows_fault, fields_fault, kept_fault, kept_fields_fault}
+use Rattle.vx_tree.specs.CanonicalFaults.{plain_overflow, fields_overflow, canonical_fault, columns_fault}
 use Rattle.vx_tree.specs.Extents.{Extent, buffer_count, element_count, elements_extent, column_extent}
 use Rattle.vx_canonical.specs.Concatenated.{extents_fault, fields_extents_fault}
 

@@ -17,7 +17,7 @@ use Rattle.vx_tree.specs.Formed.{value_kind}
 use Rattle.vx_tree.specs.Fitting.{AllFormed, ColumnsFormed}
 use Rattle.vx_tree.specs.Faults.{take_overflow, columns_overflow}
 use Rattle.vx_tree.specs.Plain.{IsPlain, ArePlain}
-use Rattle.vx_canonical.specs.Canonical.{plain_overflow, fields_overflow}
+use Rattle.vx_tree.specs.CanonicalFaults.{plain_overflow, fields_overflow}
 
 All-cons : {A : Type 0} (P : A → Type 0) (x : A) (xs : List A) → P x → All P xs → All P (x ∷ xs)
 All-cons P x xs here rest zero d l = here

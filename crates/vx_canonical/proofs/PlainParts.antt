@@ -25,7 +25,8 @@ use Rattle.vx_tree.specs.Plain.{ArePlain}
 use Rattle.vx_canonical.specs.Joined.{IsCountsOf}
 use Rattle.vx_tree.specs.RowParts.{field_at, field_in, items_in, items_or_nulls}
 use Rattle.vx_tree.specs.Extents.{extents_of, rows_extent, fields_extents, extent, list_extent, fixed_list_extent, struct_extent}
-use Rattle.vx_canonical.specs.PlainValues.{ArePlainValues, ArePlainRows, ArePlainFields, AreSpread, FieldsFitNamed, FitsNamed, FitsIfThere, fields_fault, list_places, list_sizes, rows_fault, values_valid, long_values, buffers_overflow}
+use Rattle.vx_canonical.specs.PlainValues.{ArePlainValues, ArePlainRows, ArePlainFields, AreSpread, FieldsFitNamed, FitsNamed, FitsIfThere, list_places, list_sizes, values_valid, long_values}
+use Rattle.vx_tree.specs.CanonicalFaults.{fields_fault, rows_fault, buffers_overflow}
 use Rattle.vx_canonical.proofs.JoinedListViews.{counts_of-are}
 use Rattle.vx_canonical.proofs.RowNames.{from_field}
 use Rattle.vx_canonical.proofs.PlainTexts.{long_rows}

@@ -1,12 +1,14 @@
 -- An array that is plain already is the plain layout of itself, and has no fault.
 use Rattle.std.proofs.Common.{ℕ, zero, suc, ◌+◌, ◌<◌, ◌≤◌, ◌≡◌, ◌++◌, Bool, true, false, List, [], ◌∷◌, length, take, get_or, None, refl, arith}
-use Rattle.std.specs.Prelude.{◌&&◌}
+use Rattle.std.specs.Prelude.{◌&&◌, Result, IfOk}
 use Rattle.std.proofs.lemmas.List.{take_more, take_all}
+use Rattle.vx_base.specs.declared.errors.VortexError.{VortexError}
 use Rattle.vx_tree.specs.Tree.{Tree, bools, primitive, constant, dictionary, fixed_list, list_view, structure, view_array, Trees, no_trees, tree, Valid, non_nullable, all_valid, all_invalid, by_array}
 use Rattle.vx_tree.specs.Meaning.{trees_from}
 use Rattle.vx_tree.specs.Plain.{IsPlain, ArePlain, IsPlainValid}
 use Rattle.vx_canonical.specs.PlainTests.{is_plain, are_plain, is_plain_valid}
-use Rattle.vx_canonical.specs.Canonical.{HasRowsOf, IsCanonical, canonical_fault, columns_fault}
+use Rattle.vx_canonical.specs.Canonical.{HasRowsOf, IsCanonical}
+use Rattle.vx_tree.specs.CanonicalFaults.{canonical_fault, columns_fault}
 use Rattle.vx_canonical.proofs.CanonicalArrays.{rows_canonical}
 
 both_true : (a b : Bool) → (a && b) ≡ true → (a ≡ true) × (b ≡ true)
@@ -60,6 +62,37 @@ itself (list_view e o s v f) h =
 itself (structure ns ts v n) h = record { same = rows_same (structure ns ts v n); plain = h; state = refl; extent = refl; flag = refl; kept = tt }
 itself (view_array vs bs k v) h = record { same = rows_same (view_array vs bs k v); plain = h; state = refl; extent = refl; flag = refl; kept = (refl, refl) }
 
+-- and none that is plain is told as another
+both_told : (a b : Bool) → a ≡ true → b ≡ true → (a && b) ≡ true
+both_told a b first second = rw (first, second) refl
+
+mutual
+  plain_tested : (t : Tree) → IsPlain t → is_plain t ≡ true
+  plain_tested (bools bits v) h = plain_valid_tested v h
+  plain_tested (primitive t bs v) h = plain_valid_tested v h
+  plain_tested (constant k r n) h = absurd h
+  plain_tested (dictionary c v f) h = absurd h
+  plain_tested (fixed_list e k v n) h = both_told (is_plain e) (is_plain_valid v) (plain_tested e h.0) (plain_valid_tested v h.1)
+  plain_tested (list_view e o s v f) h =
+      both_told (is_plain e) (is_plain o && (is_plain s && is_plain_valid v)) (plain_tested e h.0)
+      (both_told (is_plain o) (is_plain s && is_plain_valid v) (plain_tested o h.1)
+      (both_told (is_plain s) (is_plain_valid v) (plain_tested s h.2) (plain_valid_tested v h.3)))
+  plain_tested (structure ns ts v n) h = both_told (are_plain ts) (is_plain_valid v) (all_plain_tested ts h.0) (plain_valid_tested v h.1)
+  plain_tested (view_array vs bs k v) h = plain_valid_tested v h
+
+  all_plain_tested : (ts : Trees) → ArePlain ts → are_plain ts ≡ true
+  all_plain_tested no_trees h = refl
+  all_plain_tested (tree t ts) h = both_told (is_plain t) (are_plain ts) (plain_tested t h.0) (all_plain_tested ts h.1)
+
+  plain_valid_tested : (v : Valid) → IsPlainValid v → is_plain_valid v ≡ true
+  plain_valid_tested non_nullable h = refl
+  plain_valid_tested all_valid h = refl
+  plain_valid_tested all_invalid h = refl
+  plain_valid_tested (by_array t) h = plain_tested t h
+
+pub not_plain : (t : Tree) (made : Result Tree VortexError) → is_plain t ≡ false → IsPlain t → IfOk made (λ a. a ≡ t)
+not_plain t made told plain = let tested = plain_tested t plain in absurd (cc)
+
 pub plain_itself : (t a : Tree) → is_plain t ≡ true → a ≡ t → IsCanonical t a
 plain_itself t a h e = rw e (itself t (plain_told t h))
 
@@ -83,7 +116,7 @@ mutual
 pub plain_faultless : (t : Tree) → is_plain t ≡ true → canonical_fault t ≡ None
 plain_faultless t h = no_fault t (plain_told t h)
 
-pub ruleset plain_tests = (rows_canonical, plain_faultless)
+pub ruleset plain_tests = (rows_canonical, plain_faultless, not_plain)
 
 -- ---- columns, one after another
 

@@ -23,7 +23,8 @@ use Rattle.vx_tree.specs.Shapes.{state_of}
 use Rattle.vx_tree.specs.Formed.{WellFormed, value_kind}
 use Rattle.vx_tree.specs.RowParts.{is_long, is_long_row}
 use Rattle.vx_tree.specs.Extents.{rows_extent, view_extent}
-use Rattle.vx_canonical.specs.PlainValues.{FitsIfThere, values_valid, value_bytes, long_values, values_views, buffers_overflow, AreTexts, ArePlainValues}
+use Rattle.vx_canonical.specs.PlainValues.{FitsIfThere, values_valid, value_bytes, long_values, values_views, AreTexts, ArePlainValues}
+use Rattle.vx_tree.specs.CanonicalFaults.{buffers_overflow}
 use Rattle.vx_canonical.proofs.PlainValues.{values_valid-nullable, values_valid-plain, values_valid-fits, there_valid, row_of_value}
 use Rattle.vx_tree.proofs.ViewArrays.{empty_is_zeroes}
 use Rattle.vx_tree.proofs.Dictionaries.{memory_only}

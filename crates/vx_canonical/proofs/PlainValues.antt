@@ -27,7 +27,7 @@ use Rattle.vx_tree.proofs.Validities.{valid_from-mask}
 -- ---- the validity
 
 -- of booleans, whatever it is
-valid_from-has : (P : Valid → Type 0) (bits : List Bool) → P all_valid → P all_invalid → P (by_array (bools bits non_nullable)) → P (valid_from bits all_valid)
+pub valid_from-has : (P : Valid → Type 0) (bits : List Bool) → P all_valid → P all_invalid → P (by_array (bools bits non_nullable)) → P (valid_from bits all_valid)
 valid_from-has P bits full none told = by_count (eqb (count_by (λ b. b) bits) (length bits)) (eqb (count_by (λ b. b) bits) 0)
   where
     by_count : (a b : Bool) → P (if a then all_valid else (if b then all_invalid else by_array (bools bits non_nullable)))

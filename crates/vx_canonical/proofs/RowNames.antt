@@ -10,7 +10,7 @@ use Rattle.vx_base.specs.Rows.{Row, null, boolean, whole, bytes, text, items, re
 use Rattle.vx_base.specs.ValueRows.{named, all_named, fields_named}
 use Rattle.vx_tree.specs.RowParts.{field_at, field_in, items_in, items_or_nulls}
 use Rattle.vx_tree.specs.Extents.{rows_extent, fields_extents, extent, list_extent, fixed_list_extent, struct_extent}
-use Rattle.vx_canonical.specs.PlainValues.{fields_fault, kept_fault, kept_fields_fault, rows_fault}
+use Rattle.vx_tree.specs.CanonicalFaults.{fields_fault, kept_fault, kept_fields_fault, rows_fault}
 
 both_true : (a b : Bool) → (a && b) ≡ true → (a ≡ true) × (b ≡ true)
 both_true true b h = (refl, h)

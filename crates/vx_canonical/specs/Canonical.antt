@@ -15,7 +15,6 @@ use Rattle.vx_tree.specs.Flags.{is_flagged, kept_flag}
 use Rattle.vx_tree.specs.Formed.{ValidFits}
 use Rattle.vx_tree.specs.Plain.{IsPlain, ArePlain, IsPlainValid}
 use Rattle.vx_tree.specs.Columns.{AreRowsAt}
-use Rattle.vx_canonical.specs.PlainValues.{kept_fault}
 use Rattle.vx_tree.specs.Extents.{Extent, extent_of, extents_of, rows_extent}
 use Rattle.vx_tree.specs.RowParts.{field_in}
 
@@ -70,37 +69,6 @@ pub record IsCanonicalValid (v : Valid) (n : ℕ) (w : Valid) : Type 0 where
   pub state : state_of w ≡ state_of v
   pub plain : IsPlainValid w
   pub bits : (i : ℕ) → i < n → is_valid_at w i ≡ is_valid_at v i
-
--- n rows of a kind need more elements in plain layout than can be counted
-abbrev mutual
-  pub plain_overflow : Kind → ℕ → Option Refusal
-  plain_overflow (fixed_lists k size m) n = if nat_lt (n * size) (2 ^ 64) then plain_overflow k (n * size) else Some overflow
-  plain_overflow (records names ks m) n = fields_overflow ks n
-  plain_overflow _ n = None
-
-  pub fields_overflow : Kinds → ℕ → Option Refusal
-  fields_overflow no_kinds n = None
-  fields_overflow (kind k ks) n = or_else (plain_overflow k n) (fields_overflow ks n)
-
--- a row, n times: the elements of n rows cannot be counted, or what the row keeps, once
-abbrev pub constant_fault : Kind → Row → ℕ → Option Refusal
-constant_fault k r n = or_else (plain_overflow k n) (kept_fault k (r ∷ []))
-
--- the first fault of the parts; taking the values of a dictionary by its codes needs elements for each code
-abbrev mutual
-  pub canonical_fault : Tree → Option Refusal
-  canonical_fault (bools bits v) = None
-  canonical_fault (primitive t bs v) = None
-  canonical_fault (constant k r n) = constant_fault k r n
-  canonical_fault (dictionary c v f) = or_else (canonical_fault v) (plain_overflow (kind_of v) (tree_len c))
-  canonical_fault (fixed_list e k v n) = canonical_fault e
-  canonical_fault (list_view e o s v f) = or_else (canonical_fault e) (or_else (canonical_fault o) (canonical_fault s))
-  canonical_fault (structure ns ts v n) = columns_fault ts
-  canonical_fault (view_array vs bs k v) = None
-
-  pub columns_fault : Trees → Option Refusal
-  columns_fault no_trees = None
-  columns_fault (tree t ts) = or_else (canonical_fault t) (columns_fault ts)
 
 -- n rows in plain layout, of a kind and an extent, of which a validity is known: no flag is set
 pub record IsBlank (k : Kind) (x : Extent) (n : ℕ) (v : Valid) (r : Tree) : Type 0 where

@@ -8,8 +8,8 @@ use Rattle.vx_base.specs.Refusals.{Refusal, empty_input, differing_dtypes, or_el
 use Rattle.vx_tree.specs.Tree.{Tree}
 use Rattle.vx_tree.specs.Meaning.{kind_of, rows, trees_from}
 use Rattle.vx_tree.specs.Plain.{IsPlain}
-use Rattle.vx_canonical.specs.Canonical.{columns_fault}
-use Rattle.vx_canonical.specs.PlainValues.{buffers_overflow}
+use Rattle.vx_tree.specs.CanonicalFaults.{columns_fault}
+use Rattle.vx_tree.specs.CanonicalFaults.{buffers_overflow}
 use Rattle.vx_tree.specs.Extents.{Extent, extent_of, buffer_count, element_count, elements_extent, column_extent, joined_extent}
 use Rattle.vx_canonical.specs.Joined.{joined_len}
 

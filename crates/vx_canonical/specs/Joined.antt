@@ -20,7 +20,7 @@ use Rattle.vx_tree.specs.Layouts.{is_primitive, is_fixed_list, is_list_view, is_
 use Rattle.vx_tree.specs.Flags.{is_flagged}
 use Rattle.vx_tree.specs.Extents.{extent_of, joined_extent}
 use Rattle.vx_tree.specs.Fitting.{AllFormed, AreViews}
-use Rattle.vx_canonical.specs.PlainValues.{buffers_overflow}
+use Rattle.vx_tree.specs.CanonicalFaults.{buffers_overflow}
 use Rattle.vx_tree.specs.Plain.{IsPlain, IsPlainValid}
 use Rattle.vx_tree.specs.declared.array.Validity.{Validity}
 use Rattle.vx_tree.specs.Parts.{valid_of}

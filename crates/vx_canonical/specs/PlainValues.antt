@@ -55,10 +55,6 @@ abbrev pub values_views : ℕ → List (Option ScalarValue) → List (List ℕ)
 values_views n [] = []
 values_views n (v ∷ vs) = view_of (value_bytes v) n 0 ∷ values_views (if is_long (value_bytes v) then n + 1 else n) vs
 
--- so many buffers cannot be numbered
-abbrev pub buffers_overflow : ℕ → Option Refusal
-buffers_overflow count = if nat_lt (2 ^ 32) count then Some overflow else None
-
 -- the views and the buffers of values
 pub record AreTexts (vs : List (Option ScalarValue)) (ws bs : List (List ℕ)) : Type 0 where
   pub views : ws ≡ values_views 0 vs
@@ -77,38 +73,6 @@ pub record ArePlainValues (k : Kind) (vs : List (Option ScalarValue)) (r : Tree)
       → row_at r i ≡ row_under k (slice_index_or vs i None)
 
 -- ---- rows
-
--- rows of a kind, made plain: the elements of lists of one size cannot be counted, or the long texts cannot be numbered
-abbrev mutual
-  pub rows_fault : Kind → List Row → Option Refusal
-  rows_fault (texts m) rs = buffers_overflow (count_by is_long_row rs)
-  rows_fault (binaries m) rs = buffers_overflow (count_by is_long_row rs)
-  rows_fault (lists k m) rs = rows_fault k (flat_map items_in rs)
-  rows_fault (fixed_lists k size m) rs =
-      if nat_lt (length rs * size) (2 ^ 64) then rows_fault k (flat_map (items_or_nulls size) rs) else Some overflow
-  rows_fault (records names ks m) rs = fields_fault ks 0 rs
-  rows_fault _ rs = None
-
-  -- of the fields from place c on
-  pub fields_fault : Kinds → ℕ → List Row → Option Refusal
-  fields_fault no_kinds c rs = None
-  fields_fault (kind k ks) c rs = or_else (rows_fault k (map (field_in c) rs)) (fields_fault ks (suc c) rs)
-
--- what rows of a kind keep in plain layout, however often they stand: the elements of their lists cannot be made plain, or their long
--- texts cannot be numbered
-abbrev mutual
-  pub kept_fault : Kind → List Row → Option Refusal
-  kept_fault (texts m) rs = buffers_overflow (count_by is_long_row rs)
-  kept_fault (binaries m) rs = buffers_overflow (count_by is_long_row rs)
-  kept_fault (lists k m) rs = rows_fault k (flat_map items_in rs)
-  kept_fault (fixed_lists k size m) rs = kept_fault k (flat_map items_in rs)
-  kept_fault (records names ks m) rs = kept_fields_fault ks 0 rs
-  kept_fault _ rs = None
-
-  -- of the fields from place c on
-  pub kept_fields_fault : Kinds → ℕ → List Row → Option Refusal
-  kept_fields_fault no_kinds c rs = None
-  kept_fields_fault (kind k ks) c rs = or_else (kept_fault k (map (field_in c) rs)) (kept_fields_fault ks (suc c) rs)
 
 -- where each list begins among the rows of all of them
 abbrev pub list_places : List Row → List ℕ

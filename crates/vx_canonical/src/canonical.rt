@@ -13,7 +13,7 @@ ghost use Rattle.vx_tree.specs.Plain.{IsPlain};
 ghost use Rattle.vx_tree.specs.Columns.{AllHave};
 ghost use Rattle.vx_tree.specs.Operations.{AreBelow};
 ghost use Rattle.vx_canonical.specs.Canonical.{IsCanonical, IsCanonicalAt, IsCanonicalValid, AreCanonical, AreCanonicalAt};
-ghost use Rattle.vx_canonical.specs.Canonical.{canonical_fault, columns_fault, plain_overflow};
+ghost use Rattle.vx_tree.specs.CanonicalFaults.{canonical_fault, columns_fault, plain_overflow};
 
 use crate::canonical_zeroes::{is_countable, plain_nulls};
 use crate::layouts::constant::{canonical_constant, canonical_constant_at};

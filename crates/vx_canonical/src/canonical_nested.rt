@@ -8,9 +8,9 @@ ghost use Rattle.vx_base.specs.Refusals.{Gives, Refuses};
 ghost use Rattle.vx_base.specs.Rows.{null};
 ghost use Rattle.vx_base.specs.ValueRows.{option_row};
 ghost use Rattle.vx_tree.specs.RowParts.{field_in, items_in, items_or_nulls};
-ghost use Rattle.vx_canonical.specs.Canonical.{plain_overflow};
+ghost use Rattle.vx_tree.specs.CanonicalFaults.{plain_overflow};
 ghost use Rattle.vx_canonical.specs.PlainValues.{AreGathered, ArePlainFields, ArePlainValues, AreSpread, FieldsFitNamed, FitsIfThere};
-ghost use Rattle.vx_canonical.specs.PlainValues.{fields_fault, rows_fault};
+ghost use Rattle.vx_tree.specs.CanonicalFaults.{fields_fault, rows_fault};
 
 use crate::canonical_values::{plain_numbers, plain_texts, plain_truths, validity_of_values};
 use crate::canonical_zeroes::{is_countable, missing_rows};

@@ -11,7 +11,8 @@ ghost use Rattle.vx_tree.specs.Meaning.{is_texts};
 ghost use Rattle.vx_tree.specs.Formed.{value_kind};
 ghost use Rattle.vx_tree.specs.Parts.{valid_of};
 ghost use Rattle.vx_tree.specs.RowParts.{is_long};
-ghost use Rattle.vx_canonical.specs.PlainValues.{AreTexts, ArePlainValues, FitsIfThere, buffers_overflow, long_values};
+ghost use Rattle.vx_canonical.specs.PlainValues.{AreTexts, ArePlainValues, FitsIfThere, long_values};
+ghost use Rattle.vx_tree.specs.CanonicalFaults.{buffers_overflow};
 ghost use Rattle.vx_canonical.specs.PlainValues.{number_or_zero, truth_in, value_bytes, values_valid};
 
 use std::alloc::Global;

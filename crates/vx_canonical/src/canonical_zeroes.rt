@@ -13,7 +13,8 @@ ghost use Rattle.vx_tree.specs.Plain.{IsPlain, ArePlain, IsPlainValid};
 ghost use Rattle.vx_tree.specs.Parts.{valid_of};
 ghost use Rattle.vx_canonical.specs.PlainValues.{ArePlainValues};
 ghost use Rattle.vx_tree.specs.Extents.{extent_of, rows_extent};
-ghost use Rattle.vx_canonical.specs.Canonical.{IsBlank, IsBlankPart, AreBlankParts, IsPlainNulls, plain_overflow, fields_overflow};
+ghost use Rattle.vx_canonical.specs.Canonical.{IsBlank, IsBlankPart, AreBlankParts, IsPlainNulls};
+ghost use Rattle.vx_tree.specs.CanonicalFaults.{plain_overflow, fields_overflow};
 
 use crate::canonical::canonical_validity;
 use crate::canonical_nested::plain_values;

@@ -10,7 +10,8 @@ ghost use Rattle.vx_tree.specs.Plain.{IsPlain};
 ghost use Rattle.vx_tree.specs.Extents.{extent_of, joined_extent};
 ghost use Rattle.vx_canonical.specs.Joined.{joined_state};
 ghost use Rattle.vx_tree.specs.Flags.{is_flagged};
-ghost use Rattle.vx_canonical.specs.Canonical.{IsCanonical, columns_fault};
+ghost use Rattle.vx_canonical.specs.Canonical.{IsCanonical};
+ghost use Rattle.vx_tree.specs.CanonicalFaults.{columns_fault};
 ghost use Rattle.vx_canonical.specs.Concatenated.{are_alike, concat_fault};
 
 mod numbers;

@@ -9,7 +9,8 @@ ghost use Rattle.vx_base.specs.Refusals.{Gives, Refuses};
 ghost use Rattle.vx_base.specs.ValueRows.{option_row};
 ghost use Rattle.vx_canonical.specs.Canonical.{AreKeptFields, IsBlankPart};
 ghost use Rattle.vx_tree.specs.Extents.{rows_extent};
-ghost use Rattle.vx_canonical.specs.PlainValues.{FieldsFitNamed, FitsIfThere, kept_fault, kept_fields_fault, rows_fault};
+ghost use Rattle.vx_canonical.specs.PlainValues.{FieldsFitNamed, FitsIfThere};
+ghost use Rattle.vx_tree.specs.CanonicalFaults.{kept_fault, kept_fields_fault, rows_fault};
 
 use crate::canonical_nested::{fields_at, items_of, plain_values};
 use crate::canonical_zeroes::{blank_part, missing_validity};

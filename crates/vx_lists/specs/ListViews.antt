@@ -14,7 +14,8 @@ use Rattle.vx_tree.specs.Tree.{Tree, fixed_list, list_view}
 pub use Rattle.vx_tree.specs.Layouts.{is_list_view}
 pub use Rattle.vx_tree.specs.Slots.{validity_of}
 use Rattle.vx_tree.specs.Meaning.{tree_len, kind_of, rows, valid_mask}
-use Rattle.vx_tree.specs.Shapes.{state_of}
+use Rattle.vx_tree.specs.Needs.{HasNeedsOf}
+use Rattle.vx_tree.specs.Shapes.{state_of, shape_of, selected_shape}
 use Rattle.vx_tree.specs.Formed.{IsCounts}
 use Rattle.vx_lists.specs.ListViews.CountBytes.{HoldCounts}
 use Rattle.vx_lists.specs.ListViews.Layout.{ListLayout, layout, canonical, valid_sizes, valid_total, joined_positions}
@@ -108,7 +109,7 @@ pub record IsRebuildPlan (t : Tree) (offset_type : PType) (offsets : List ℕ) (
   pub count_is : count ≡ total_of t
 
 -- a flagged list view in the canonical layout of the rows of another, under the same kind and state, with offsets and sizes
--- of the rebuilt types
+-- of the rebuilt types; its elements are in the layout of selected ones, and need no more
 pub record IsRebuilt (t r : Tree) : Type 0 where
   pub is_view : is_list_view r ≡ true
   pub canonical_layout : list_layout_of r ≡ canonical (list_rows t)
@@ -117,6 +118,8 @@ pub record IsRebuilt (t r : Tree) : Type 0 where
   pub sizes_kind : kind_of (sizes_of r) ≡ integers (rebuilt_ptype (integer_type (kind_of (sizes_of t)))) false
   pub kind : kind_of r ≡ kind_of t
   pub state : state_of (validity_of r) ≡ state_of (validity_of t)
+  pub elements_shape : shape_of (elements_of r) ≡ selected_shape (shape_of (elements_of t))
+  pub elements_need : HasNeedsOf (elements_of t) (elements_of r)
   pub same_rows : rows r ≡ rows t
 
 -- two list views of equal offsets and sizes as numbers, equal masks and equal element rows

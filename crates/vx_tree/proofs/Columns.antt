@@ -22,9 +22,9 @@ use Rattle.vx_tree.specs.Fitting.{AllFormed, ColumnsFormed}
 use Rattle.vx_tree.specs.Faults.{take_overflow, columns_overflow}
 use Rattle.vx_tree.specs.Operations.{IsSlice, IsSelected, IsValidSelected, AreBelow, IsValidSlice}
 use Rattle.vx_tree.specs.Plain.{ArePlain}
-use Rattle.vx_tree.specs.Extents.{struct_extent, extent, extents_of}
 use Rattle.vx_tree.specs.DefaultRows.{AreDefaults}
 use Rattle.vx_tree.specs.Columns.{AllReach, AllHave, AreAlike, AreRowsAt, AreSelected, AreSlices, AreFields}
+use Rattle.vx_tree.proofs.Needs.{columns_need, records_need}
 
 -- ---- one of the columns
 
@@ -152,12 +152,6 @@ selected_plain ps [] (u ∷ us) h p = absurd h
 selected_plain ps (t ∷ ts) [] h p = absurd h
 selected_plain ps (t ∷ ts) (u ∷ us) h p = (h.0.plain p.0, selected_plain ps ts us h.1 p.1)
 
-selected_extents : (ps : List ℕ) (ts us : List Tree) → AllZip (λ t u. IsSelected t ps u) ts us → ArePlain (trees_from ts) → extents_of (trees_from us) ≡ extents_of (trees_from ts)
-selected_extents ps [] [] h p = refl
-selected_extents ps [] (u ∷ us) h p = absurd h
-selected_extents ps (t ∷ ts) [] h p = absurd h
-selected_extents ps (t ∷ ts) (u ∷ us) h p = λ i. extent (h.0.extent p.0 i) (selected_extents ps ts us h.1 p.1 i)
-
 selected_rows : (ps : List ℕ) (ts us : List Tree) → AllZip (λ t u. IsSelected t ps u) ts us → AllZip (λ t u. IsRowsAt t (slice_index ps) (length ps) u) ts us
 selected_rows ps [] [] h = tt
 selected_rows ps [] (u ∷ us) h = absurd h
@@ -171,7 +165,7 @@ AreSelected-from_each ps ts us i h l =
     record {
       rows_at = record { alike = alike_each (length ps) ts us (alike_of_rows (slice_index ps) (length ps) ts us rows); rows = fields_each (slice_index ps) (length ps) ts us rows };
       plain = selected_plain ps ts us each;
-      extents = selected_extents ps ts us each;
+      needs = columns_need (λ t u. IsSelected t ps u) (λ t u h. h.needs) ts us each;
     }
 
 sliced_plain : (start n : ℕ) (ts us : List Tree) → AllZip (λ t u. IsSlice t start n u) ts us → ArePlain (trees_from ts) → ArePlain (trees_from us)
@@ -179,12 +173,6 @@ sliced_plain start n [] [] h p = tt
 sliced_plain start n [] (u ∷ us) h p = absurd h
 sliced_plain start n (t ∷ ts) [] h p = absurd h
 sliced_plain start n (t ∷ ts) (u ∷ us) h p = (h.0.plain p.0, sliced_plain start n ts us h.1 p.1)
-
-sliced_extents : (start n : ℕ) (ts us : List Tree) → AllZip (λ t u. IsSlice t start n u) ts us → ArePlain (trees_from ts) → extents_of (trees_from us) ≡ extents_of (trees_from ts)
-sliced_extents start n [] [] h p = refl
-sliced_extents start n [] (u ∷ us) h p = absurd h
-sliced_extents start n (t ∷ ts) [] h p = absurd h
-sliced_extents start n (t ∷ ts) (u ∷ us) h p = λ i. extent (h.0.extent p.0 i) (sliced_extents start n ts us h.1 p.1 i)
 
 sliced_rows : (start n : ℕ) (ts us : List Tree) → AllZip (λ t u. IsSlice t start n u) ts us → AllZip (λ t u. IsRowsAt t (λ i. start + i) n u) ts us
 sliced_rows start n [] [] h = tt
@@ -199,7 +187,7 @@ AreSlices-from_each start n ts us i h l =
     record {
       rows_at = record { alike = alike_each n ts us (alike_of_rows (λ i. start + i) n ts us rows); rows = fields_each (λ i. start + i) n ts us rows };
       plain = sliced_plain start n ts us each;
-      extents = sliced_extents start n ts us each;
+      needs = columns_need (λ t u. IsSlice t start n u) (λ t u h. h.needs) ts us each;
     }
 
 -- ---- what is known of columns, one after another
@@ -280,7 +268,7 @@ struct_selected t u ns ts us v w m ps a b h s =
       kind = λ i. records ns (h.rows_at.alike.kinds i) (s.kind i);
       shape = ap struct_shape s.state;
       plain = λ p. (h.plain p.0, s.plain p.1);
-      extent = λ p. ap struct_extent (h.extents p.0);
+      needs = records_need ns ts us v w m (length ps) h.needs;
       rows = λ i l. record_row ns ts us v w m (length ps) i (slice_index ps i) (s.bits i l) (h.rows_at.rows ns i l);
     })
 
@@ -292,6 +280,6 @@ struct_sliced t u ns ts us v w m start n a b h s =
       kind = λ i. records ns (h.rows_at.alike.kinds i) (s.kind i);
       shape = ap struct_shape s.state;
       plain = λ p. (h.plain p.0, s.plain p.1);
-      extent = λ p. ap struct_extent (h.extents p.0);
+      needs = records_need ns ts us v w m n h.needs;
       rows = λ i l. record_row ns ts us v w m n i (start + i) (s.bits i l) (h.rows_at.rows ns i l);
     })

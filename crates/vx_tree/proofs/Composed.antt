@@ -7,6 +7,7 @@ use Rattle.vx_tree.specs.Tree.{Tree, bools, primitive, constant, dictionary, fix
 use Rattle.vx_tree.specs.Layouts.{is_dictionary, values_in}
 use Rattle.vx_tree.specs.Shapes.{State, taken_state, tree_state, nulled_shape, taken_shape, Shape, bool_shape, primitive_shape, constant_shape, dictionary_shape, fixed_list_shape, list_view_shape, struct_shape, view_shape, sliced_shape, selected_shape, shape_of}
 use Rattle.vx_tree.specs.Composed.{SlicesCompose, SelectionsCompose, KeepsValues}
+use Rattle.vx_tree.proofs.Needs.{needs_of_needs}
 
 sliced_twice : (x : Shape) → sliced_shape (sliced_shape x) ≡ sliced_shape x
 sliced_twice (bool_shape s) = refl
@@ -14,7 +15,7 @@ sliced_twice (primitive_shape s) = refl
 sliced_twice (constant_shape k r) = refl
 sliced_twice (dictionary_shape v s f) = refl
 sliced_twice (fixed_list_shape s) = refl
-sliced_twice (list_view_shape e s f) = refl
+sliced_twice (list_view_shape e o z s f) = refl
 sliced_twice (struct_shape s) = refl
 sliced_twice (view_shape bs s) = refl
 
@@ -24,7 +25,7 @@ selected_twice (primitive_shape s) = refl
 selected_twice (constant_shape k r) = refl
 selected_twice (dictionary_shape v s f) = refl
 selected_twice (fixed_list_shape s) = refl
-selected_twice (list_view_shape e s f) = refl
+selected_twice (list_view_shape e o z s f) = refl
 selected_twice (struct_shape s) = refl
 selected_twice (view_shape bs s) = refl
 
@@ -35,7 +36,7 @@ slices_compose t r s start n from m h k l =
       kind = k.kind ∙ h.kind;
       shape = k.shape ∙ ap sliced_shape h.shape ∙ sliced_twice (shape_of t);
       plain = λ p. k.plain (h.plain p);
-      extent = λ p. k.extent (h.plain p) ∙ h.extent p;
+      needs = needs_of_needs t r s h.needs k.needs;
       rows = λ i small.
           let place : start + (from + i) ≡ start + from + i = omega arith in
           k.rows i small ∙ h.rows (from + i) (omega arith) ∙ ap (row_at t) place;
@@ -48,7 +49,7 @@ selections_compose t r s ps qs h k below =
       kind = k.kind ∙ h.kind;
       shape = k.shape ∙ ap selected_shape h.shape ∙ selected_twice (shape_of t);
       plain = λ p. k.plain (h.plain p);
-      extent = λ p. k.extent (h.plain p) ∙ h.extent p;
+      needs = needs_of_needs t r s h.needs k.needs;
       rows = λ i small.
           let inside : i < length qs = rw (length-map qs (slice_index ps)) at small in
           k.rows i inside ∙ h.rows (slice_index qs i) (below i 0 inside) ∙ ap (row_at t) (sym (get_or-map (slice_index ps) qs i 0 0 inside));

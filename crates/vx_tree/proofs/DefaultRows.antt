@@ -121,11 +121,12 @@ null_lists_formed e o s p q v w f n formed a b fits =
       },
     )
 
-pub lists_null : (t r e o s p q : Tree) (v u w : Valid) (f : Bool) (n : ℕ) → t ≡ list_view e o s v f → r ≡ list_view e p q w false → tree_len p ≡ n → IsValidNulls v u n w → IsNulls t n u r
-lists_null t r e o s p q v u w f n a b long h =
+pub lists_null : (t r e o s p q : Tree) (v u w : Valid) (f : Bool) (n : ℕ) → t ≡ list_view e o s v f → r ≡ list_view e p q w false → AreDefaults (kind_of o) n p → AreDefaults (kind_of s) n q → IsValidNulls v u n w
+    → IsNulls t n u r
+lists_null t r e o s p q v u w f n a b x y h =
     rw (a, b) (record {
-      len = long;
+      len = x.len;
       kind = ap (lists (kind_of e)) (nullable_nulled v u w h.state);
-      shape = ap (λ st. list_view_shape e st false) h.state;
+      shape = λ i. list_view_shape e (x.kind i) (y.kind i) (h.state i) false;
       rows = λ i l. null_row (is_valid_at w i) _ (h.bits i l);
     })

@@ -16,6 +16,7 @@ use Rattle.vx_tree.specs.Formed.{IsCode, IsDictionary, ValidFits}
 use Rattle.vx_tree.specs.Named.{IsRepeated, IsValidNamed, AreIndices}
 use Rattle.vx_tree.specs.Faults.{index_fault, indices_fault, take_overflow}
 use Rattle.vx_tree.specs.Operations.{IsSlice, IsSelected, IsNulled, IsNulls, IsZeroCodes, IsValidityOf, IsValidSelected, IsValidNulled, AreBelow}
+use Rattle.vx_tree.proofs.Needs.{dictionaries_need}
 use Rattle.vx_tree.proofs.Nulled.{nullable_nulled}
 
 -- ---- kinds
@@ -79,7 +80,7 @@ shape_state (primitive_shape s) = s
 shape_state (constant_shape k r) = row_state k r
 shape_state (dictionary_shape v s f) = s
 shape_state (fixed_list_shape s) = s
-shape_state (list_view_shape e s f) = s
+shape_state (list_view_shape e o z s f) = s
 shape_state (struct_shape s) = s
 shape_state (view_shape bs s) = s
 
@@ -101,7 +102,7 @@ sliced_state (primitive_shape s) = refl
 sliced_state (constant_shape k r) = refl
 sliced_state (dictionary_shape v s f) = refl
 sliced_state (fixed_list_shape s) = refl
-sliced_state (list_view_shape e s f) = refl
+sliced_state (list_view_shape e o z s f) = refl
 sliced_state (struct_shape s) = refl
 sliced_state (view_shape bs s) = refl
 
@@ -112,7 +113,7 @@ selected_state (primitive_shape s) = refl
 selected_state (constant_shape k r) = refl
 selected_state (dictionary_shape v s f) = refl
 selected_state (fixed_list_shape s) = refl
-selected_state (list_view_shape e s f) = refl
+selected_state (list_view_shape e o z s f) = refl
 selected_state (struct_shape s) = refl
 selected_state (view_shape bs s) = refl
 
@@ -130,7 +131,7 @@ nulled_state (primitive_shape s) index = refl
 nulled_state (constant_shape k r) index = nulled_constant_state k r index
 nulled_state (dictionary_shape v s f) index = refl
 nulled_state (fixed_list_shape s) index = refl
-nulled_state (list_view_shape e s f) index = refl
+nulled_state (list_view_shape e o z s f) index = refl
 nulled_state (struct_shape s) index = refl
 nulled_state (view_shape bs s) index = refl
 
@@ -179,7 +180,7 @@ dictionary_sliced t r c v d f start n a b h =
       kind = ap (λ k. or_nullable (is_nullable_kind k) (kind_of v)) h.kind;
       shape = ap (λ s. dictionary_shape v (taken_state (tree_state v) s) false) (state_by_shape c d (sliced_shape (shape_of c)) (tree_state c) h.shape (sliced_state (shape_of c) ∙ sym (state_told c)));
       plain = λ p. absurd p;
-      extent = λ p. absurd p;
+      needs = dictionaries_need c d v f false;
       rows = λ i l. ap (λ x. picked (row_at v) (position_in x)) (h.rows i l);
     })
 
@@ -208,7 +209,7 @@ dictionary_selected t r c v d f ps a b h =
       kind = ap (λ k. or_nullable (is_nullable_kind k) (kind_of v)) h.kind;
       shape = ap (λ s. dictionary_shape v (taken_state (tree_state v) s) false) (state_by_shape c d (selected_shape (shape_of c)) (tree_state c) h.shape (selected_state (shape_of c) ∙ sym (state_told c)));
       plain = λ p. absurd p;
-      extent = λ p. absurd p;
+      needs = dictionaries_need c d v f false;
       rows = λ i l. ap (λ x. picked (row_at v) (position_in x)) (h.rows i l);
     })
 
@@ -230,7 +231,8 @@ dictionary_nulled t r c v d f u a b h =
       kind = nulled_kind (kind_of c) (kind_of d) (kind_of v) (nullable u) h.kind;
       shape = ap (λ s. dictionary_shape v s false) (ap (taken_state (tree_state v)) (state_nulled c d (shape_of c) (state_of u) h.shape (sym (state_told c))) ∙ taken_twice (tree_state v) (tree_state c) (state_of u));
       plain = λ p q. absurd p;
-      extent = λ p. absurd p;
+      extent = refl;
+      needs = λ p. dictionaries_need c d v f false;
       rows = λ i l. ap (λ x. picked (row_at v) (position_in x)) (h.rows i l) ∙ picked_or_null (row_at v) (is_valid_at u i) (row_at c i);
     })
 
@@ -271,12 +273,13 @@ constant_with_nulls t c v k r n u e a b h =
       kind = ap (λ x. or_nullable (is_nullable_kind x) k) h.kind;
       shape = ap (λ s. dictionary_shape (constant k r 1) (taken_state (row_state k r) s) false) h.state ∙ nulled_constant-dictionary k r u e;
       plain = λ p q. absurd p;
-      extent = λ p. absurd p;
+      extent = refl;
+      needs = λ p. absurd (cc);
       rows = λ i l. ap (λ x. picked (λ j. r) (position_in x)) (h.rows i l) ∙ picked_or_null (λ j. r) (is_valid_at u i) (whole (pos 0));
     })
 
 pub constant_without_nulls : (t : Tree) (k : Kind) (r : Row) (n : ℕ) (u : Valid) → nullable u ≡ false → t ≡ constant k r n → IsNulled (constant k r n) u t
-constant_without_nulls t k r n non_nullable e a = rw a (record { len = refl; kind = sym (same_kind k); shape = refl; plain = λ p q. absurd p; extent = λ p. absurd p; rows = λ i l. refl })
+constant_without_nulls t k r n non_nullable e a = rw a (record { len = refl; kind = sym (same_kind k); shape = refl; plain = λ p q. absurd p; extent = refl; needs = λ p. absurd (cc); rows = λ i l. refl })
 constant_without_nulls t k r n all_valid e a = absurd (cc)
 constant_without_nulls t k r n all_invalid e a = absurd (cc)
 constant_without_nulls t k r n (by_array m) e a = absurd (cc)

@@ -52,7 +52,7 @@ constant_filtered t r k x n m mask a b count =
       kind = refl;
       shape = refl;
       plain = λ h. h;
-      extent = λ h. absurd h;
+      needs = record { extent = refl; take = λ j. refl; canonical = λ j. refl };
       rows = λ i l. refl;
     })
 

@@ -18,8 +18,8 @@ use Rattle.vx_tree.specs.Shapes.{fixed_list_shape}
 use Rattle.vx_tree.specs.Formed.{ValidReads-from_fits}
 use Rattle.vx_tree.specs.Faults.{take_overflow}
 use Rattle.vx_tree.proofs.Fitting.{list_within}
-use Rattle.vx_tree.specs.Extents.{fixed_list_extent}
 use Rattle.vx_tree.specs.Operations.{IsSlice, IsValidSlice, IsSelected, IsValidSelected, AreBelow}
+use Rattle.vx_tree.proofs.Needs.{fixed_lists_need}
 
 -- ---- places
 
@@ -62,7 +62,7 @@ fixed_lists_sliced t u e r k m start end v w l a b s h =
       kind = λ i. fixed_lists (s.kind i) k (h.kind i);
       shape = ap fixed_list_shape h.state;
       plain = λ p. (s.plain p.0, h.plain p.1);
-      extent = λ p. ap fixed_list_extent (s.extent p.0);
+      needs = fixed_lists_need e r k m (end - start) v w s.needs;
       rows = λ i p. list_row e r v w k m (end - start) i (start + i) (h.bits i p) (rows_range-same (row_at r) (row_at e) (i * k) ((start + i) * k) k (λ j q. one i j p q));
     })
   where
@@ -118,7 +118,7 @@ fixed_lists_selected t u e r k m v w ps a b s h =
       kind = λ i. fixed_lists (s.kind i) k (h.kind i);
       shape = ap fixed_list_shape h.state;
       plain = λ p. (s.plain p.0, h.plain p.1);
-      extent = λ p. ap fixed_list_extent (s.extent p.0);
+      needs = fixed_lists_need e r k m (length ps) v w s.needs;
       rows = λ i p. fixed_rows e r k m v w ps s.rows i p (h.bits i p);
     })
 

@@ -2,6 +2,7 @@ pub mod Masks
 pub mod RowLists
 pub mod Positions
 pub mod Named
+pub mod Needs
 pub mod Sliced
 pub mod Selected
 pub mod Nulled
@@ -15,6 +16,7 @@ pub mod RunViews
 pub mod TakenViews
 pub mod Fitting
 pub mod Counted
+pub mod PlainCounts
 pub mod Values
 pub mod Worked
 pub mod WorkedViews

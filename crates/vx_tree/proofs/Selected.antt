@@ -7,6 +7,7 @@ use Rattle.vx_base.specs.Kinds.{booleans, lists, is_plain_integers}
 use Rattle.vx_tree.specs.Tree.{Tree, bools, primitive, constant, dictionary, fixed_list, list_view, structure, view_array, Valid, non_nullable, all_valid, all_invalid, by_array}
 use Rattle.vx_tree.specs.Meaning.{row_at, kind_of, is_valid_at, nullable}
 use Rattle.vx_tree.specs.Shapes.{list_view_shape, state_of, is_nullable_state}
+use Rattle.vx_tree.proofs.Needs.{lists_need}
 use Rattle.vx_tree.specs.Formed.{ValidFits, IsCounts}
 use Rattle.vx_tree.specs.Faults.{take_overflow}
 use Rattle.vx_tree.specs.Operations.{IsSelected, IsValidSelected, ValidHasAll, AreBelow}
@@ -70,8 +71,8 @@ lists_selected t u e o s o2 s2 v w f ps a b x y h =
     rw (a, b) (record {
       len = x.len;
       kind = ap (lists (kind_of e)) h.kind;
-      shape = ap (λ st. list_view_shape e st false) h.state;
+      shape = λ i. list_view_shape e (x.kind i) (y.kind i) (h.state i) false;
       plain = λ p. (p.0, x.plain p.1, y.plain p.2, h.plain p.3);
-      extent = λ p. refl;
+      needs = lists_need e o s o2 s2 v w f false x.needs y.needs;
       rows = λ i l. list_row e o s o2 s2 v w f false i (slice_index ps i) (h.bits i l) (x.rows i l) (y.rows i l);
     })

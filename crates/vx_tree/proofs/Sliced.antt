@@ -9,6 +9,7 @@ use Rattle.vx_tree.specs.Tree.{Tree, list_view, Valid}
 use Rattle.vx_tree.specs.Meaning.{tree_len, kind_of, row_at, rows}
 use Rattle.vx_tree.specs.Shapes.{list_view_shape}
 use Rattle.vx_tree.specs.Operations.{IsSlice, IsValidSlice}
+use Rattle.vx_tree.proofs.Needs.{lists_need}
 
 pub rows_sliced : (t : Tree) (start end : ℕ) (r : Tree) → start ≤ end → end ≤ tree_len t → IsSlice t start (end - start) r → rows r ≡ slice_range (rows t) start end
 rows_sliced t start end r h k s =
@@ -26,8 +27,8 @@ lists_sliced t u e o s o2 s2 v w f start n a b x y h =
     rw (a, b) (record {
       len = x.len;
       kind = ap (lists (kind_of e)) h.kind;
-      shape = ap (λ st. list_view_shape e st f) h.state;
+      shape = λ i. list_view_shape e (x.kind i) (y.kind i) (h.state i) f;
       plain = λ p. (p.0, x.plain p.1, y.plain p.2, h.plain p.3);
-      extent = λ p. refl;
+      needs = lists_need e o s o2 s2 v w f f x.needs y.needs;
       rows = λ i l. rw (h.bits i l, x.rows i l, y.rows i l) refl;
     })

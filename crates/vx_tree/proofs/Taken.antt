@@ -11,6 +11,7 @@ use Rattle.vx_tree.specs.Shapes.{nulled_shape, state_of}
 use Rattle.vx_tree.specs.Faults.{take_fault, indices_fault, take_overflow}
 use Rattle.vx_tree.specs.Named.{AreIndices}
 use Rattle.vx_tree.specs.Operations.{IsSelected, IsNulled, IsTakenAt, IsValidityOf, AreBelow, positions, picks}
+use Rattle.vx_tree.proofs.Needs.{needs_of_needs, same_constant}
 
 -- ---- at positions
 
@@ -21,6 +22,8 @@ taken_at t s r ps u x n =
       len = n.len ∙ x.len;
       kind = n.kind ∙ ap (or_nullable (nullable u)) x.kind;
       shape = n.shape ∙ ap (λ shape. nulled_shape shape (state_of u)) x.shape;
+      extent = λ p. n.extent ∙ x.needs.extent;
+      needs = λ p no. needs_of_needs t s r x.needs (n.needs (same_constant t s x.shape ∙ no));
       rows = λ i l. n.rows i (rw x.len l) ∙ ap (λ row. if is_valid_at u i then row else null) (x.rows i l);
     }
 

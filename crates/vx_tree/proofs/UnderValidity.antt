@@ -28,7 +28,8 @@ nulled (bools bits v) u w k h =
       kind = ap booleans (nullable_nulled v u w h.state);
       shape = ap bool_shape h.state;
       plain = h.plain;
-      extent = λ p. refl;
+      extent = refl;
+      needs = λ p. record { extent = refl; take = λ n. refl; canonical = λ n. refl };
       rows = λ i l. two (is_valid_at w i) (is_valid_at v i) (is_valid_at u i) _ (h.bits i l);
     }
 nulled (primitive t bs v) u w k h =
@@ -37,7 +38,8 @@ nulled (primitive t bs v) u w k h =
       kind = ap (integers t) (nullable_nulled v u w h.state);
       shape = ap primitive_shape h.state;
       plain = h.plain;
-      extent = λ p. refl;
+      extent = refl;
+      needs = λ p. record { extent = refl; take = λ n. refl; canonical = λ n. refl };
       rows = λ i l. two (is_valid_at w i) (is_valid_at v i) (is_valid_at u i) _ (h.bits i l);
     }
 nulled (constant q r n) u w k h = absurd (cc)
@@ -48,16 +50,18 @@ nulled (fixed_list e q v n) u w k h =
       kind = ap (fixed_lists (kind_of e) q) (nullable_nulled v u w h.state);
       shape = ap fixed_list_shape h.state;
       plain = λ p q. (p.0, h.plain p.1 q);
-      extent = λ p. refl;
+      extent = refl;
+      needs = λ p. record { extent = refl; take = λ n. refl; canonical = λ n. refl };
       rows = λ i l. two (is_valid_at w i) (is_valid_at v i) (is_valid_at u i) _ (h.bits i l);
     }
 nulled (list_view e o s v b) u w k h =
     record {
       len = refl;
       kind = ap (lists (kind_of e)) (nullable_nulled v u w h.state);
-      shape = ap (λ st. list_view_shape e st b) h.state;
+      shape = ap (λ st. list_view_shape e (kind_of o) (kind_of s) st b) h.state;
       plain = λ p q. (p.0, p.1, p.2, h.plain p.3 q);
-      extent = λ p. refl;
+      extent = refl;
+      needs = λ p. record { extent = refl; take = λ n. refl; canonical = λ n. refl };
       rows = λ i l. two (is_valid_at w i) (is_valid_at v i) (is_valid_at u i) _ (h.bits i l);
     }
 nulled (structure ns ts v n) u w k h =
@@ -66,7 +70,8 @@ nulled (structure ns ts v n) u w k h =
       kind = ap (records ns (kinds_of ts)) (nullable_nulled v u w h.state);
       shape = ap struct_shape h.state;
       plain = λ p q. (p.0, h.plain p.1 q);
-      extent = λ p. refl;
+      extent = refl;
+      needs = λ p. record { extent = refl; take = λ n. refl; canonical = λ n. refl };
       rows = λ i l. two (is_valid_at w i) (is_valid_at v i) (is_valid_at u i) _ (h.bits i l);
     }
 nulled (view_array vs bs q v) u w k h = absurd (cc)

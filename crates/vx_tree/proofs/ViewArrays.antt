@@ -19,6 +19,7 @@ use Rattle.vx_tree.specs.Tree.{Tree, view_array, Valid}
 use Rattle.vx_tree.specs.Layouts.{is_view_array}
 use Rattle.vx_tree.specs.Values.{bytes_in}
 use Rattle.vx_tree.specs.Meaning.{kind_of, row_at, is_valid_at, nullable, is_texts, value_row, valid_mask}
+use Rattle.vx_tree.proofs.Needs.{views_need}
 use Rattle.vx_tree.specs.Shapes.{state_of, view_shape}
 use Rattle.vx_tree.specs.Formed.{ValidFits, ValidReads, ValidReads-from_fits, WellFormed, value_kind}
 use Rattle.vx_tree.specs.Fitting.{AllFormed}
@@ -97,7 +98,7 @@ views_selected t u vs bs ws k v w ps a b r h =
       kind = refl;
       shape = ap (view_shape bs) r.state;
       plain = h.plain;
-      extent = λ p. refl;
+      needs = views_need vs ws bs k k v w;
       rows = λ i l. view_row bs k vs ws v w i (slice_index ps i) (r.bits i l) (r.views i l);
     })
 
@@ -189,7 +190,8 @@ views_nulled t r vs bs ws k v u w a b h made =
       kind = refl;
       shape = ap (view_shape bs) h.state;
       plain = h.plain;
-      extent = λ p. refl;
+      extent = refl;
+      needs = λ p. views_need vs ws bs k (or_nullable (nullable u) k) v w;
       rows = λ i l. two (is_valid_at w i) (is_valid_at v i) (is_valid_at u i) (value_row (is_texts k) (view_value bs (slice_index_or vs i []))) (value_row (is_texts (or_nullable (nullable u) k)) (view_value bs (slice_index_or ws i []))) (h.bits i l)
           (λ valid. ap (λ c. value_row c (view_value bs (slice_index_or ws i []))) (is_texts-or_nullable (nullable u) k)
           ∙ ap (λ (view : List ℕ). value_row (is_texts k) (view_value bs view)) (made.views i l ∙ ap (λ (c : Bool). if c then slice_index_or vs i [] else replicate 16 0) valid));

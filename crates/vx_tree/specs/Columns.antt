@@ -6,7 +6,7 @@ use Rattle.vx_tree.specs.Tree.{Trees, no_trees, tree}
 use Rattle.vx_tree.specs.Meaning.{tree_len, kind_of, kinds_of, row_at, fields_at}
 use Rattle.vx_tree.specs.Formed.{AllLen, column_count}
 use Rattle.vx_tree.specs.Plain.{ArePlain}
-use Rattle.vx_tree.specs.Extents.{extents_of}
+use Rattle.vx_tree.specs.Needs.{HaveNeedsOf}
 use Rattle.vx_tree.specs.Operations.{AreBelow}
 
 -- each column has n rows or more
@@ -30,17 +30,17 @@ pub record AreRowsAt (ts : Trees) (f : ℕ → ℕ) (n : ℕ) (us : Trees) : Typ
   pub alike : AreAlike ts n us
   pub rows : (names : List (List ℕ)) (i : ℕ) → i < n → fields_at us names i ≡ fields_at ts names (f i)
 
--- n rows of each column, from a start on, plain and of the same extents where the columns are plain
+-- n rows of each column, from a start on, plain where the columns are plain
 pub record AreSlices (ts : Trees) (start n : ℕ) (us : Trees) : Type 0 where
   pub rows_at : AreRowsAt ts (λ i. start + i) n us
   pub plain : ArePlain ts → ArePlain us
-  pub extents : ArePlain ts → extents_of us ≡ extents_of ts
+  pub needs : HaveNeedsOf ts us
 
--- the rows of each column at positions, plain and of the same extents where the columns are plain
+-- the rows of each column at positions, plain where the columns are plain
 pub record AreSelected (ts : Trees) (ps : List ℕ) (us : Trees) : Type 0 where
   pub rows_at : AreRowsAt ts (slice_index ps) (length ps) us
   pub plain : ArePlain ts → ArePlain us
-  pub extents : ArePlain ts → extents_of us ≡ extents_of ts
+  pub needs : HaveNeedsOf ts us
 
 -- the values of the rows i of columns, one a column
 abbrev pub AreFields : Trees → ℕ → List (Option ScalarValue) → Type 0

@@ -8,6 +8,7 @@ use Rattle.vx_tree.specs.Tree.{view_array, Trees, no_trees, tree, Valid, by_arra
 use Rattle.vx_tree.specs.Meaning.{tree_len, kind_of, row_at}
 use Rattle.vx_tree.specs.Formed.{WellFormed}
 use Rattle.vx_tree.specs.Faults.{take_overflow}
+use Rattle.vx_tree.specs.CanonicalFaults.{canonical_fault, rows_canonical_fault}
 
 -- each view has 16 bytes, and each buffer has bytes
 pub record AreViews (views buffers : List (List ℕ)) : Type 0 where
@@ -48,3 +49,11 @@ RowsFit = (t : Tree) → AllFormed t → (i : ℕ) → i < tree_len t → Fits (
 -- of an array that is well formed at every depth, no more rows than it has can be counted at each depth
 abbrev pub FewerAreCountable : Type 0
 FewerAreCountable = (t : Tree) → AllFormed t → (n : ℕ) → n ≤ tree_len t → take_overflow t n ≡ None
+
+-- as many rows as it has have the fault of the array where they are made plain
+abbrev pub AsManyAreAsFaulty : Type 0
+AsManyAreAsFaulty = (t : Tree) → AllFormed t → rows_canonical_fault t (tree_len t) ≡ canonical_fault t
+
+-- where so many rows can be made plain, fewer can
+abbrev pub FewerCanBePlain : Type 0
+FewerCanBePlain = (t : Tree) (m n : ℕ) → m ≤ n → rows_canonical_fault t n ≡ None → rows_canonical_fault t m ≡ None

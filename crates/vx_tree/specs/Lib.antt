@@ -8,9 +8,11 @@ pub mod Parts
 pub mod Plain
 pub mod RowParts
 pub mod Extents
+pub mod CanonicalFaults
 pub mod Layouts
 pub mod Falls
 pub mod Faults
+pub mod Needs
 pub mod Operations
 pub mod Runs
 pub mod Named

@@ -12,7 +12,9 @@ use Rattle.vx_tree.specs.Meaning.{tree_len, kind_of, row_at, is_valid_at, nullab
 use Rattle.vx_tree.specs.Shapes.{state_of, tree_state, taken_state, shape_of, sliced_shape, selected_shape, nulled_shape, taken_shape}
 use Rattle.vx_tree.specs.Formed.{ValidFits}
 use Rattle.vx_tree.specs.Plain.{IsPlain, IsPlainValid}
+use Rattle.vx_tree.specs.Layouts.{is_constant}
 use Rattle.vx_tree.specs.Extents.{extent_of}
+use Rattle.vx_tree.specs.Needs.{HasNeedsOf}
 
 -- ---- slicing: n rows from a start on
 
@@ -21,7 +23,7 @@ pub record IsSlice (t : Tree) (start n : ℕ) (r : Tree) : Type 0 where
   pub kind : kind_of r ≡ kind_of t
   pub shape : shape_of r ≡ sliced_shape (shape_of t)
   pub plain : IsPlain t → IsPlain r
-  pub extent : IsPlain t → extent_of r ≡ extent_of t
+  pub needs : HasNeedsOf t r
   pub rows : (i : ℕ) → i < n → row_at r i ≡ row_at t (start + i)
 
 pub record IsValidSlice (v : Valid) (start n : ℕ) (w : Valid) : Type 0 where
@@ -47,7 +49,7 @@ pub record IsSelected (t : Tree) (ps : List ℕ) (r : Tree) : Type 0 where
   pub kind : kind_of r ≡ kind_of t
   pub shape : shape_of r ≡ selected_shape (shape_of t)
   pub plain : IsPlain t → IsPlain r
-  pub extent : IsPlain t → extent_of r ≡ extent_of t
+  pub needs : HasNeedsOf t r
   pub rows : (i : ℕ) → i < length ps → row_at r i ≡ row_at t (slice_index ps i)
 
 pub record IsValidSelected (v : Valid) (ps : List ℕ) (w : Valid) : Type 0 where
@@ -64,7 +66,8 @@ pub record IsNulled (t : Tree) (u : Valid) (r : Tree) : Type 0 where
   pub kind : kind_of r ≡ or_nullable (nullable u) (kind_of t)
   pub shape : shape_of r ≡ nulled_shape (shape_of t) (state_of u)
   pub plain : IsPlain t → IsPlainValid u → IsPlain r
-  pub extent : IsPlain t → extent_of r ≡ extent_of t
+  pub extent : extent_of r ≡ extent_of t
+  pub needs : is_constant t ≡ false → HasNeedsOf t r
   pub rows : (i : ℕ) → i < tree_len t → row_at r i ≡ (if is_valid_at u i then row_at t i else null)
 
 pub record IsValidNulled (v u : Valid) (n : ℕ) (w : Valid) : Type 0 where
@@ -110,6 +113,8 @@ pub record IsTakenAt (t : Tree) (ps : List ℕ) (u : Valid) (r : Tree) : Type 0 
   pub len : tree_len r ≡ length ps
   pub kind : kind_of r ≡ or_nullable (nullable u) (kind_of t)
   pub shape : shape_of r ≡ taken_shape (shape_of t) (state_of u)
+  pub extent : 0 < tree_len t → extent_of r ≡ extent_of t
+  pub needs : 0 < tree_len t → is_constant t ≡ false → HasNeedsOf t r
   pub rows : (i : ℕ) → i < length ps → row_at r i ≡ (if is_valid_at u i then row_at t (slice_index ps i) else null)
 
 -- the validity of an array's rows

@@ -4,6 +4,7 @@ use Rattle.vx_base.specs.Rows.{Row, is_present}
 use Rattle.vx_base.specs.Kinds.{Kind, is_nullable_kind}
 use Rattle.vx_tree.specs.Tree.{Tree, bools, primitive, constant, dictionary, fixed_list, list_view, structure}
 use Rattle.vx_tree.specs.Tree.{view_array, Valid, non_nullable, all_valid, all_invalid, by_array}
+use Rattle.vx_tree.specs.Meaning.{kind_of}
 
 -- the state of a validity
 pub data State : Type 0 where
@@ -51,14 +52,14 @@ tree_state (structure ns ts v n) = state_of v
 tree_state (view_array vs bs u v) = state_of v
 
 -- a layout, with its state, its flag, and what is kept whole: a constant's row, a dictionary's values, a list view's
--- elements, a view array's buffers
+-- elements and the kinds of its offsets and sizes, a view array's buffers
 pub data Shape : Type 0 where
   bool_shape : State → Shape
   primitive_shape : State → Shape
   constant_shape : Kind → Row → Shape
   dictionary_shape : Tree → State → Bool → Shape
   fixed_list_shape : State → Shape
-  list_view_shape : Tree → State → Bool → Shape
+  list_view_shape : Tree → Kind → Kind → State → Bool → Shape
   struct_shape : State → Shape
   view_shape : List (List ℕ) → State → Shape
 
@@ -68,7 +69,7 @@ shape_of (primitive t bs v) = primitive_shape (state_of v)
 shape_of (constant k r n) = constant_shape k r
 shape_of (dictionary c v f) = dictionary_shape v (taken_state (tree_state v) (tree_state c)) f
 shape_of (fixed_list e k v n) = fixed_list_shape (state_of v)
-shape_of (list_view e o s v f) = list_view_shape e (state_of v) f
+shape_of (list_view e o s v f) = list_view_shape e (kind_of o) (kind_of s) (state_of v) f
 shape_of (structure ns ts v n) = struct_shape (state_of v)
 shape_of (view_array vs bs u v) = view_shape bs (state_of v)
 
@@ -79,7 +80,7 @@ sliced_shape (primitive_shape s) = primitive_shape s
 sliced_shape (constant_shape k r) = constant_shape k r
 sliced_shape (dictionary_shape v s f) = dictionary_shape v s false
 sliced_shape (fixed_list_shape s) = fixed_list_shape s
-sliced_shape (list_view_shape e s f) = list_view_shape e s f
+sliced_shape (list_view_shape e o z s f) = list_view_shape e o z s f
 sliced_shape (struct_shape s) = struct_shape s
 sliced_shape (view_shape bs s) = view_shape bs s
 
@@ -90,7 +91,7 @@ selected_shape (primitive_shape s) = primitive_shape s
 selected_shape (constant_shape k r) = constant_shape k r
 selected_shape (dictionary_shape v s f) = dictionary_shape v s false
 selected_shape (fixed_list_shape s) = fixed_list_shape s
-selected_shape (list_view_shape e s f) = list_view_shape e s false
+selected_shape (list_view_shape e o z s f) = list_view_shape e o z s false
 selected_shape (struct_shape s) = struct_shape s
 selected_shape (view_shape bs s) = view_shape bs s
 
@@ -106,7 +107,7 @@ nulled_shape (primitive_shape s) index = primitive_shape (taken_state s index)
 nulled_shape (constant_shape k r) index = nulled_constant k r index
 nulled_shape (dictionary_shape v s f) index = dictionary_shape v (taken_state s index) false
 nulled_shape (fixed_list_shape s) index = fixed_list_shape (taken_state s index)
-nulled_shape (list_view_shape e s f) index = list_view_shape e (taken_state s index) f
+nulled_shape (list_view_shape e o z s f) index = list_view_shape e o z (taken_state s index) f
 nulled_shape (struct_shape s) index = struct_shape (taken_state s index)
 nulled_shape (view_shape bs s) index = view_shape bs (taken_state s index)
 

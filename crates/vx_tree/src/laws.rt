@@ -3,7 +3,7 @@
 ghost use Rattle.std.specs.Prelude.{◌≡◌, ◌<◌, ◌≤◌, ◌-◌, ◌^◌, ℕ, Some, None};
 ghost use Rattle.vx_base.specs.Kinds.{Fits};
 ghost use Rattle.vx_base.specs.Refusals.{out_of_bounds, negative, overflow, mismatched_types};
-ghost use Rattle.vx_tree.specs.Fitting.{AllFormed, RowsFit};
+ghost use Rattle.vx_tree.specs.Fitting.{AllFormed, AsManyAreAsFaulty, FewerCanBePlain, RowsFit};
 ghost use Rattle.vx_tree.specs.Faults.{slice_fault, take_fault, take_overflow};
 ghost use Rattle.vx_tree.specs.Meaning.{tree_len, kind_of, row_at, rows};
 ghost use Rattle.vx_tree.specs.Operations.{picks};
@@ -40,6 +40,13 @@ pub fn fewer_rows_are_countable(array: &ArrayRef)
 {
     array.known();
 }
+
+/// Where an array that is well formed at every depth can be made plain, so can as many rows in its
+/// layouts, and fewer: those of a part of it, and those that a mask keeps.
+pub fn fewer_rows_can_be_plain()
+    ensures as_many { AsManyAreAsFaulty }
+    ensures fewer { FewerCanBePlain }
+{}
 
 /// Rows of a part that lie within it are a part of the array.
 pub fn slices_of_slices_are_slices()

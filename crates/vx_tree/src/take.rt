@@ -4,7 +4,9 @@ ghost use Rattle.std.specs.Prelude.{◌≡◌, ◌<◌, ℕ, true, false, length
 ghost use Rattle.vx_base.specs.Refusals.{Refuses};
 ghost use Rattle.vx_base.specs.Kinds.{is_nullable_kind, or_nullable};
 ghost use Rattle.vx_tree.specs.Meaning.{tree_len, kind_of, rows, is_valid_at};
+ghost use Rattle.vx_tree.specs.Extents.{extent_of};
 ghost use Rattle.vx_tree.specs.Layouts.{is_constant};
+ghost use Rattle.vx_tree.specs.Needs.{HasNeedsOf};
 ghost use Rattle.vx_tree.specs.OneValue.{HasOneValue};
 ghost use Rattle.vx_tree.specs.Shapes.{tree_state, shape_of, taken_shape};
 ghost use Rattle.vx_tree.specs.Formed.{ValidFits};
@@ -30,6 +32,8 @@ impl ArrayRef {
         ensures kind { IfOk result (λ a. kind_of a ≡ or_nullable (is_nullable_kind (kind_of indices.now)) (kind_of self.now)) }
         ensures shape { IfOk result (λ a. shape_of a ≡ taken_shape (shape_of self.now) (tree_state indices.now)) }
         ensures one_value { is_constant self.now ≡ true → IfOk result HasOneValue }
+        ensures extent { IfOk result (λ a. 0 < tree_len self.now → extent_of a ≡ extent_of self.now) }
+        ensures needs { IfOk result (λ a. 0 < tree_len self.now → is_constant self.now ≡ false → HasNeedsOf self.now a) }
         ensures refuses { Refuses result (take_fault self.now indices.now) }
     {
         if !indices.dtype().is_int() {

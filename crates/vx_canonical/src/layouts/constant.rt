@@ -8,8 +8,9 @@ ghost use Rattle.vx_base.specs.Refusals.{Refuses};
 ghost use Rattle.vx_tree.specs.Tree.{constant};
 ghost use Rattle.vx_tree.specs.Layouts.{is_constant};
 ghost use Rattle.vx_tree.specs.Meaning.{kind_of};
-ghost use Rattle.vx_canonical.specs.PlainValues.{kept_fault};
-ghost use Rattle.vx_canonical.specs.Canonical.{IsCanonical, IsCanonicalAt, canonical_fault, constant_fault, plain_overflow};
+ghost use Rattle.vx_tree.specs.CanonicalFaults.{kept_fault};
+ghost use Rattle.vx_canonical.specs.Canonical.{IsCanonical, IsCanonicalAt};
+ghost use Rattle.vx_tree.specs.CanonicalFaults.{canonical_fault, constant_fault, plain_overflow};
 
 use crate::canonical_nested::plain_values;
 use crate::canonical_zeroes::{blank, blank_like, is_countable};

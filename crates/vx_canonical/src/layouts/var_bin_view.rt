@@ -14,7 +14,7 @@ ghost use Rattle.vx_tree.specs.Parts.{valid_of};
 ghost use Rattle.vx_tree.specs.Plain.{IsPlainValid};
 ghost use Rattle.vx_tree.specs.Extents.{extent_of};
 ghost use Rattle.vx_canonical.specs.Canonical.{IsBlank};
-ghost use Rattle.vx_canonical.specs.PlainValues.{buffers_overflow};
+ghost use Rattle.vx_tree.specs.CanonicalFaults.{buffers_overflow};
 ghost use Rattle.vx_canonical.specs.Joined.{IsJoined, IsValidJoined, AreValues, AreResolved, joined_buffers, shifted_view, views_from};
 
 use std::alloc::Global;

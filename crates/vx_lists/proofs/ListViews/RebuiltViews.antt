@@ -126,5 +126,7 @@ module _ (e o s : Tree) (v : Valid) (f : Bool) (good : IsListView e o s f) (fits
         sizes_kind = s_is.kind ∙ ap (λ t. integers t false) size_type;
         kind = ap (λ k. lists k (nullable v)) taken.kind;
         state = refl;
+        elements_shape = taken.shape;
+        elements_need = taken.needs;
         same_rows = same_rows_by_lists e' o' s' v true e o s v f same_lists;
       }

@@ -93,6 +93,7 @@ module _ (t e o s : Tree) (v : Valid) (f : Bool) (same : t ≡ list_view e o s v
         is_view = refl;
         elements = part;
         elements_shape = sliced.shape;
+        elements_need = sliced.needs;
         offsets = o_is.counts_are;
         offsets_kind = o_is.kind ∙ ap (λ q. integers q false) type_is ∙ sym (plain_kind (kind_of o) good.offsets.kind);
         sizes = refl;

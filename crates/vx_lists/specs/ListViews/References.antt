@@ -7,6 +7,7 @@ use Rattle.vx_base.specs.Refusals.{Refusal, empty_input}
 use Rattle.vx_base.specs.Rows.{count_in}
 use Rattle.vx_tree.specs.Tree.{Tree}
 use Rattle.vx_tree.specs.Meaning.{tree_len, kind_of, row_at, rows}
+use Rattle.vx_tree.specs.Needs.{HasNeedsOf}
 use Rattle.vx_tree.specs.Shapes.{shape_of, sliced_shape}
 use Rattle.vx_lists.specs.ListViews.{is_list_view, elements_of, offsets_of, sizes_of, validity_of, flag_of, counts_in}
 
@@ -67,6 +68,7 @@ pub record IsTrimmed (t : Tree) (start end : ℕ) (r : Tree) : Type 0 where
   pub is_view : is_list_view r ≡ true
   pub elements : rows (elements_of r) ≡ slice_range (rows (elements_of t)) start end
   pub elements_shape : shape_of (elements_of r) ≡ sliced_shape (shape_of (elements_of t))
+  pub elements_need : HasNeedsOf (elements_of t) (elements_of r)
   pub offsets : counts_in (offsets_of r) ≡ map (λ offset. offset - start) (counts_in (offsets_of t))
   pub offsets_kind : kind_of (offsets_of r) ≡ kind_of (offsets_of t)
   pub sizes : sizes_of r ≡ sizes_of t

@@ -10,7 +10,8 @@ use Rattle.vx_base.specs.Kinds.{is_nullable_kind, or_nullable}
 use Rattle.vx_base.proofs.SizedLists.{lists_long}
 use Rattle.vx_tree.specs.Named.{AreIndices}
 use Rattle.vx_tree.specs.Operations.{AreBelow}
-use Rattle.vx_canonical.specs.Canonical.{IsCanonical, IsCanonicalAt, IsCanonicalValid, plain_overflow, fields_overflow}
+use Rattle.vx_canonical.specs.Canonical.{IsCanonical, IsCanonicalAt, IsCanonicalValid}
+use Rattle.vx_tree.specs.CanonicalFaults.{plain_overflow, fields_overflow}
 use Rattle.vx_tree.proofs.Columns.{AllZip-next, AllHave-at, AllHave-from_len, columns_below}
 use Rattle.vx_canonical.proofs.CanonicalArrays.{fixed_lists_canonical, lists_canonical, AreCanonical-from_each, columns_fault-next, columns_fault-all, columns_refused}
 use Rattle.vx_canonical.proofs.CanonicalDictionaries.{dictionary_canonical, dictionary_unflagged, named_at}

@@ -1,7 +1,8 @@
 use Rattle.std.proofs.Common.{◌≡◌, take, None}
 use Rattle.std.specs.List.{AllZip}
 use Rattle.vx_tree.specs.Meaning.{trees_from}
-use Rattle.vx_canonical.specs.Canonical.{IsCanonical, IsCanonicalAt, columns_fault}
+use Rattle.vx_canonical.specs.Canonical.{IsCanonical, IsCanonicalAt}
+use Rattle.vx_tree.specs.CanonicalFaults.{columns_fault}
 use Rattle.vx_canonical.proofs.canonical.+canonical.Given as goal
 
 abbrev pub invariant-canonical_columns-loop-column : goal.invariant-canonical_columns-loop-column

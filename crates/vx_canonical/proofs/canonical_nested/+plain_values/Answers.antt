@@ -13,7 +13,8 @@ use Rattle.vx_tree.specs.Parts.{valid_of}
 use Rattle.vx_tree.specs.Meaning.{is_texts}
 use Rattle.vx_tree.specs.Formed.{value_kind}
 use Rattle.vx_canonical.specs.Joined.{IsCountsOf}
-use Rattle.vx_canonical.specs.PlainValues.{AreGathered, ArePlainValues, FitsIfThere, fields_fault, rows_fault}
+use Rattle.vx_canonical.specs.PlainValues.{AreGathered, ArePlainValues, FitsIfThere}
+use Rattle.vx_tree.specs.CanonicalFaults.{fields_fault, rows_fault}
 use Rattle.vx_tree.specs.Faults.{take_overflow}
 use Rattle.vx_tree.specs.Operations.{IsSelected}
 use Rattle.vx_tree.proofs.Dictionaries.{memory_only}

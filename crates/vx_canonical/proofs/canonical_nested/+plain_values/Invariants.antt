@@ -2,7 +2,8 @@ use Rattle.std.proofs.Common.{◌≡◌, ◌+◌, ◌*◌, map, take, drop}
 use Rattle.vx_base.specs.Codes.{kind_depth, kinds_depth}
 use Rattle.vx_base.specs.DTypes.{dtype_meaning, field_kinds, kinds_of}
 use Rattle.vx_base.specs.ValueRows.{option_row}
-use Rattle.vx_canonical.specs.PlainValues.{ArePlainFields, fields_fault}
+use Rattle.vx_canonical.specs.PlainValues.{ArePlainFields}
+use Rattle.vx_tree.specs.CanonicalFaults.{fields_fault}
 use Rattle.vx_canonical.proofs.canonical_nested.+plain_values.Given as goal
 
 abbrev pub decreases-plain_values : goal.decreases-plain_values

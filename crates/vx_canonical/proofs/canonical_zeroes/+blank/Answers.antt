@@ -8,7 +8,8 @@ use Rattle.vx_tree.specs.Parts.{tree_of, valid_of}
 use Rattle.vx_tree.specs.Plain.{IsPlain}
 use Rattle.vx_tree.specs.Formed.{WellFormed}
 use Rattle.vx_tree.specs.Extents.{extent_of}
-use Rattle.vx_canonical.specs.Canonical.{IsBlankPart, AreBlankParts, plain_overflow, fields_overflow}
+use Rattle.vx_canonical.specs.Canonical.{IsBlankPart, AreBlankParts}
+use Rattle.vx_tree.specs.CanonicalFaults.{plain_overflow, fields_overflow}
 use Rattle.vx_tree.proofs.Columns.{AllZip-next, columns_below}
 use Rattle.vx_canonical.proofs.JoinedParts.{plain_at}
 use Rattle.vx_canonical.proofs.Blanks.{blank_columns_fit, struct_blank}

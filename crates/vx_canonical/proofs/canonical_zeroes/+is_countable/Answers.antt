@@ -3,7 +3,7 @@ use Rattle.vx_base.specs.Codes.{kind_depth, kinds_depth}
 use Rattle.vx_base.proofs.ValueFits.{field_depth, struct_depth}
 use Rattle.vx_base.specs.DTypes.{dtype_meaning, kinds_of}
 use Rattle.vx_base.specs.Refusals.{or_else}
-use Rattle.vx_canonical.specs.Canonical.{fields_overflow}
+use Rattle.vx_tree.specs.CanonicalFaults.{fields_overflow}
 use Rattle.vx_canonical.proofs.PlainKinds.{fields_overflow-from}
 use Rattle.vx_canonical.proofs.canonical_zeroes.+is_countable.Goals as goal
 

@@ -1,7 +1,7 @@
 use Rattle.std.proofs.Common.{◌≡◌, ◌+◌, ◌*◌, drop}
 use Rattle.vx_base.specs.Codes.{kind_depth, kinds_depth}
 use Rattle.vx_base.specs.DTypes.{dtype_meaning, kinds_of}
-use Rattle.vx_canonical.specs.Canonical.{fields_overflow}
+use Rattle.vx_tree.specs.CanonicalFaults.{fields_overflow}
 use Rattle.vx_canonical.proofs.canonical_zeroes.+is_countable.Given as goal
 
 abbrev pub decreases-is_countable : goal.decreases-is_countable

@@ -1,7 +1,7 @@
 use Rattle.std.proofs.Common.{[]}
 use Rattle.std.proofs.lemmas.Result.{err_from_is_err_and}
 use Rattle.vx_base.specs.DTypes.{dtype_meaning}
-use Rattle.vx_canonical.specs.PlainValues.{rows_fault}
+use Rattle.vx_tree.specs.CanonicalFaults.{rows_fault}
 use Rattle.vx_tree.proofs.Dictionaries.{memory_only}
 use Rattle.vx_canonical.proofs.Kept.{rows_fault-none}
 use Rattle.vx_canonical.proofs.canonical_zeroes.blank.Goals as goal

@@ -8,7 +8,8 @@ use Rattle.vx_base.specs.ValueRows.{option_row}
 use Rattle.vx_base.proofs.ValueFits.{field_depth}
 use Rattle.vx_tree.specs.Parts.{valid_of}
 use Rattle.vx_tree.specs.Extents.{rows_extent}
-use Rattle.vx_canonical.specs.PlainValues.{FitsIfThere, kept_fault, kept_fields_fault}
+use Rattle.vx_canonical.specs.PlainValues.{FitsIfThere}
+use Rattle.vx_tree.specs.CanonicalFaults.{kept_fault, kept_fields_fault}
 use Rattle.vx_canonical.specs.Canonical.{IsBlankPart}
 use Rattle.vx_canonical.proofs.KeptParts.{needs_kept, needs_kept-fault, kept_items_fit, lists_kept_formed, lists_kept, AreKeptFields-next, kept_fields_fault-next, records_kept_formed, records_kept}
 use Rattle.vx_canonical.proofs.PlainParts.{record_fields_fit, field_values_fit}

@@ -3,7 +3,7 @@ use Rattle.vx_base.specs.Codes.{kind_depth, kinds_depth}
 use Rattle.vx_base.specs.DTypes.{dtype_meaning, field_kinds, kinds_of}
 use Rattle.vx_base.specs.ValueRows.{option_row}
 use Rattle.vx_canonical.specs.Canonical.{AreKeptFields}
-use Rattle.vx_canonical.specs.PlainValues.{kept_fields_fault}
+use Rattle.vx_tree.specs.CanonicalFaults.{kept_fields_fault}
 use Rattle.vx_canonical.proofs.kept_parts.+kept_parts.Given as goal
 
 abbrev pub decreases-kept_parts : goal.decreases-kept_parts

@@ -5,7 +5,7 @@ use Rattle.vx_base.specs.DTypes.{dtype_meaning, is_nullable}
 use Rattle.vx_base.specs.Kinds.{integers}
 use Rattle.vx_tree.specs.Meaning.{kind_of}
 use Rattle.vx_base.specs.Refusals.{Refuses, overflow}
-use Rattle.vx_canonical.specs.Canonical.{plain_overflow}
+use Rattle.vx_tree.specs.CanonicalFaults.{plain_overflow}
 use Rattle.vx_tree.specs.Extents.{extent_of, joined_extent}
 use Rattle.vx_canonical.specs.Joined.{joined_len, AreJoinable}
 use Rattle.vx_canonical.specs.Concatenated.{are_alike}

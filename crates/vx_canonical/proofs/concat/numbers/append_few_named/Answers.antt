@@ -4,7 +4,8 @@ use Rattle.vx_base.specs.Kinds.{is_nullable_kind, is_integers}
 use Rattle.vx_tree.specs.Parts.{tree_of}
 use Rattle.vx_tree.specs.Meaning.{tree_len, kind_of}
 use Rattle.vx_tree.specs.Named.{AreIndices}
-use Rattle.vx_canonical.specs.Canonical.{IsCanonicalAt, canonical_fault}
+use Rattle.vx_canonical.specs.Canonical.{IsCanonicalAt}
+use Rattle.vx_tree.specs.CanonicalFaults.{canonical_fault}
 use Rattle.vx_canonical.specs.Joined.{AreNumbers, bytes_in}
 use Rattle.vx_tree.proofs.Dictionaries.{memory_only}
 use Rattle.vx_canonical.proofs.JoinedLeaves.{numbers_of_kind}

@@ -6,7 +6,7 @@ use Rattle.vx_base.proofs.Refused.{Gives-weaker}
 use Rattle.vx_tree.specs.Parts.{tree_of}
 use Rattle.vx_tree.specs.Meaning.{tree_len, kind_of}
 use Rattle.vx_tree.specs.Named.{AreIndices}
-use Rattle.vx_canonical.specs.Canonical.{canonical_fault}
+use Rattle.vx_tree.specs.CanonicalFaults.{canonical_fault}
 use Rattle.vx_canonical.specs.Joined.{AreNumbers, bytes_in}
 use Rattle.vx_tree.proofs.Dictionaries.{memory_only, not_empty}
 use Rattle.vx_canonical.proofs.JoinedLeaves.{numbers_of_kind}

@@ -4,7 +4,7 @@ use Rattle.std.proofs.lemmas.Result.{err_from_is_err_and}
 use Rattle.vx_base.specs.Refusals.{IsMemoryOr, Refuses}
 use Rattle.vx_base.specs.Rows.{null}
 use Rattle.vx_tree.specs.Parts.{tree_of}
-use Rattle.vx_canonical.specs.Canonical.{plain_overflow}
+use Rattle.vx_tree.specs.CanonicalFaults.{plain_overflow}
 use Rattle.vx_canonical.proofs.CanonicalFaults.{null_fault, constant_one, constant_uncounted}
 use Rattle.vx_canonical.proofs.PlainKinds.{take_overflow-plain}
 use Rattle.vx_canonical.proofs.layouts.constant.canonical_constant.Goals as goal

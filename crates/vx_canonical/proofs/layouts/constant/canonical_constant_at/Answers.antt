@@ -1,6 +1,6 @@
 use Rattle.std.proofs.Common.{ap, sym, ◌∙◌, inr}
 use Rattle.vx_tree.specs.Parts.{tree_of}
-use Rattle.vx_canonical.specs.Canonical.{plain_overflow}
+use Rattle.vx_tree.specs.CanonicalFaults.{plain_overflow}
 use Rattle.vx_canonical.proofs.CanonicalFaults.{constant_uncounted}
 use Rattle.vx_canonical.proofs.layouts.constant.canonical_constant_at.Goals as goal
 

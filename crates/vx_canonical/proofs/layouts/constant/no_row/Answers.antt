@@ -8,7 +8,7 @@ use Rattle.vx_base.proofs.Defaults.{dtype_even}
 use Rattle.vx_tree.specs.Meaning.{kind_of}
 use Rattle.vx_tree.specs.Parts.{valid_of}
 use Rattle.vx_tree.specs.Extents.{rows_extent}
-use Rattle.vx_canonical.specs.PlainValues.{kept_fault}
+use Rattle.vx_tree.specs.CanonicalFaults.{kept_fault}
 use Rattle.vx_canonical.specs.Canonical.{IsBlankPart}
 use Rattle.vx_canonical.proofs.CanonicalFaults.{one_row_kept}
 use Rattle.vx_canonical.proofs.Kept.{no_rows_countable}

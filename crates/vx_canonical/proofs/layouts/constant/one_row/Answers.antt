@@ -5,7 +5,8 @@ use Rattle.vx_base.specs.DTypes.{dtype_meaning}
 use Rattle.vx_base.specs.Refusals.{Refuses}
 use Rattle.vx_base.specs.ValueRows.{option_row}
 use Rattle.vx_base.proofs.Defaults.{dtype_even}
-use Rattle.vx_canonical.specs.PlainValues.{ArePlainValues, rows_fault}
+use Rattle.vx_canonical.specs.PlainValues.{ArePlainValues}
+use Rattle.vx_tree.specs.CanonicalFaults.{rows_fault}
 use Rattle.vx_canonical.proofs.CanonicalFaults.{one_row_fault}
 use Rattle.vx_canonical.proofs.PlainValues.{one_canonical}
 use Rattle.vx_canonical.proofs.layouts.constant.one_row.Goals as goal

@@ -16,5 +16,5 @@ returns c =
     let same = sym c.layout.ensures.parts ∙ ap tree_of parts.is in
     Gives-weaker c.list_view.result _ _
     (λ a e. lists_null c.args.self.now a parts.elements parts.offsets parts.sizes c.in_ok-offsets.offsets c.in_ok-sizes.sizes (valid_of parts.validity) (valid_of c.args.nulls.now) (valid_of c.in_ok-validity.validity) parts.flag c.args.len same
-    (rw c.in_ok-elements.ensures at e) c.in_ok-offsets.ensures.len c.in_ok-validity.ensures)
+    (rw c.in_ok-elements.ensures at e) c.in_ok-offsets.ensures c.in_ok-sizes.ensures c.in_ok-validity.ensures)
     c.list_view.ensures
