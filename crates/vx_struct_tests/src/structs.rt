@@ -6,6 +6,7 @@ ghost use Rattle.vx_tree.specs.Meaning.{tree_len};
 
 mod columns;
 mod faults;
+mod field;
 mod joined;
 mod pushed;
 

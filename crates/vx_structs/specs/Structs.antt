@@ -3,7 +3,7 @@ pub mod Records
 pub mod Faults
 pub mod Concats
 use Rattle.std.specs.Prelude.{◌≡◌, ◌<◌, ℕ, Bool, true, List, [], ◌∷◌, ◌++◌, length, map, slice_get, if◌then◌else◌}
-use Rattle.std.specs.Prelude.{Option, Some, None, MatchBool}
+use Rattle.std.specs.Prelude.{Option, Some, None, MatchBool, IsSomeAnd}
 use Rattle.std.specs.Borrow.{Bor}
 use Rattle.std.specs.List.{AllZip, All, flat_map, remove}
 use Rattle.std.specs.Option.{option_map}
@@ -97,6 +97,14 @@ pub record AreConcatenated (ts : List Tree) (r : Tree) : Type 0 where
   pub plain : IsPlain r
 
 -- ---- nulls of records, pushed into their columns
+
+-- a column, null where the records are; where by the state of their validity no record is null it stays
+abbrev pub IsPushedColumn : Valid → ℕ → Tree → Tree → Type 0
+IsPushedColumn v n c d = MatchBool (is_full_state (state_of v)) (d ≡ c) (IsNulled c (by_array (array_of v n)) d)
+
+-- the first column of a name, null where the records are
+abbrev pub IsField : Tree → List ℕ → Tree → Type 0
+IsField t name r = IsSomeAnd (column_named t name) (λ c. IsPushedColumn (validity_of t) (tree_len t) c r)
 
 -- columns, null where the records are; where by the state of their validity no record is null they stay
 abbrev pub ArePushed : Valid → ℕ → List Tree → List Tree → Type 0

@@ -6,6 +6,7 @@ mod checks;
 mod columns;
 mod concat;
 mod ext;
+mod field;
 mod fields;
 pub mod laws;
 mod push;

@@ -9,7 +9,8 @@ use Rattle.vx_base.specs.Kinds.{Kind, booleans, records, Kinds, no_kinds, kind}
 use Rattle.vx_base.specs.Refusals.{Refusal, or_else, first_fault}
 use Rattle.vx_base.specs.SameKind.{kind_eq, kind_eq-Decides}
 use Rattle.vx_base.proofs.FirstFaults.{or_else-second, first_fault-same}
-use Rattle.vx_canonical.specs.Canonical.{IsCanonical, canonical_fault, columns_fault}
+use Rattle.vx_canonical.specs.Canonical.{IsCanonical}
+use Rattle.vx_tree.specs.CanonicalFaults.{canonical_fault, columns_fault}
 use Rattle.vx_canonical.specs.Concatenated.{are_alike, extents_fault, fields_extents_fault, plain_fault, concat_fault}
 use Rattle.vx_tree.specs.Extents.{Extent, extent_of, extents_of, extent_at, column_extent}
 use Rattle.vx_tree.specs.Formed.{column_count}

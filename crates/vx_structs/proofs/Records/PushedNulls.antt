@@ -142,7 +142,7 @@ record_or_null true ns x y same = ap record_of same
 record_or_null false ns x y same = refl
 
 -- rows that are those of another array, changed one by one
-rows-mapped : (t r : Tree) (f : Row → Row) → tree_len r ≡ tree_len t → ((i : ℕ) → i < tree_len t → row_at r i ≡ f (row_at t i)) → rows r ≡ map f (rows t)
+pub rows-mapped : (t r : Tree) (f : Row → Row) → tree_len r ≡ tree_len t → ((i : ℕ) → i < tree_len t → row_at r i ≡ f (row_at t i)) → rows r ≡ map f (rows t)
 rows-mapped t r f len each =
     ap (λ n. map (row_at r) (range_with_len 0 n)) len
     ∙ map_range_same (row_at r) (λ i. f (row_at t i)) 0 0 (tree_len t) (λ i inside. ap (row_at r) (zero-add i) ∙ each i inside ∙ sym (ap (λ j. f (row_at t j)) (zero-add i)))

@@ -43,6 +43,15 @@ on_fields change r = r
 abbrev pub projected : List (List ℕ) → List Row → List Row
 projected names rs = map (on_fields (fields_named names)) rs
 
+-- the first field of a name of a record, null of another row
+abbrev pub field_of : List ℕ → Row → Row
+field_of name (record_of fs) = field_named name fs
+field_of name _ = null
+
+-- the first field of a name of each record
+abbrev pub field_rows : List ℕ → List Row → List Row
+field_rows name rs = map (field_of name) rs
+
 -- records with one field more, whose rows stand in a column
 abbrev pub with_column : List ℕ → List Row → List Row → List Row
 with_column name [] rs = []
@@ -68,6 +77,11 @@ pushed names remove rs = if remove then map (or_nulls names) rs else rs
 abbrev pub kind_named : List ℕ → List (List ℕ) → Kinds → Kind
 kind_named name (n ∷ ns) (kind k ks) = if bytes_eq n name then k else kind_named name ns ks
 kind_named name _ _ = booleans false
+
+-- the kind of the first field of a name, under which null may stand, unless no record can be null; another kind stays
+abbrev pub field_kind : Bool → List ℕ → Kind → Kind
+field_kind full name (records ns ks n) = if full then kind_named name ns ks else or_nullable true (kind_named name ns ks)
+field_kind full name k = k
 
 -- the kinds of the first field of each of these names
 abbrev pub kinds_named : List (List ℕ) → List (List ℕ) → Kinds → Kinds

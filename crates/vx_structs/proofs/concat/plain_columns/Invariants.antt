@@ -1,5 +1,5 @@
 use Rattle.std.proofs.Common.{◌≡◌, take, None}
-use Rattle.vx_canonical.specs.Canonical.{columns_fault}
+use Rattle.vx_tree.specs.CanonicalFaults.{columns_fault}
 use Rattle.vx_tree.specs.Meaning.{trees_from}
 use Rattle.vx_structs.specs.Structs.Concats.{arrays_of, lists_of, ArePlainColumns}
 use Rattle.vx_structs.proofs.concat.plain_columns.Given as goal

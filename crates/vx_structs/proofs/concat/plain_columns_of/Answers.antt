@@ -1,7 +1,8 @@
 use Rattle.std.proofs.Common.{sym, ap, ◌∙◌, subst}
 use Rattle.std.proofs.lemmas.Result.{err_from_is_err_and}
 use Rattle.vx_base.specs.Refusals.{IsMemoryOr}
-use Rattle.vx_canonical.specs.Canonical.{IsCanonical, canonical_fault}
+use Rattle.vx_canonical.specs.Canonical.{IsCanonical}
+use Rattle.vx_tree.specs.CanonicalFaults.{canonical_fault}
 use Rattle.vx_tree.proofs.Columns.{AllZip-next, AllZip-all}
 use Rattle.vx_canonical.proofs.CanonicalArrays.{columns_fault-next, columns_fault-all, columns_refused}
 use Rattle.vx_structs.proofs.concat.plain_columns_of.Goals as goal

@@ -1,6 +1,7 @@
 use Rattle.std.proofs.Common.{◌≡◌, take, None}
 use Rattle.std.specs.List.{AllZip}
-use Rattle.vx_canonical.specs.Canonical.{IsCanonical, columns_fault}
+use Rattle.vx_canonical.specs.Canonical.{IsCanonical}
+use Rattle.vx_tree.specs.CanonicalFaults.{columns_fault}
 use Rattle.vx_tree.specs.Meaning.{trees_from}
 use Rattle.vx_structs.proofs.concat.plain_columns_of.Given as goal
 
