@@ -11,6 +11,8 @@ mod step_arrays;
 mod steps;
 #[cfg(test)]
 mod streams;
+#[cfg(test)]
+mod written_rows;
 
 use std::process::ExitCode;
 use vx_run::run_script;

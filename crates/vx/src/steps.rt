@@ -102,6 +102,24 @@ fn steps_pick_rows(rt: HostRuntime) {
 }
 
 #[test]
+fn a_step_by_itself(rt: HostRuntime) -> Result<(), Fail> {
+    let alloc = rt.alloc();
+    let arrays = of_each_kind(alloc)?;
+    let step = Step::Take {
+        array: 0,
+        indices: 4,
+    };
+    let made = step.apply(alloc, &arrays)?;
+    assert!(rt; has_numbers(&made, &[Some(6), Some(5)]));
+    assert!(rt; arrays.len() == 5 && has_numbers(&arrays[0], &[Some(5), Some(6), Some(7)]));
+    let refused = Step::Narrow { array: 2 }.apply(alloc, &arrays);
+    assert!(rt; matches!(refused, Err(VortexError::MismatchedTypes)));
+    let missing = Step::Canonical { array: 5 }.apply(alloc, &arrays);
+    assert!(rt; matches!(missing, Err(VortexError::OutOfBounds { index: 5, len: 5 })));
+    Ok(())
+}
+
+#[test]
 fn steps_null_rows(rt: HostRuntime) {
     let alloc = rt.alloc();
     let step = Step::Mask { array: 0, mask: 1 };

@@ -4,7 +4,9 @@ use std::alloc::{AllocError, Global};
 use std::io;
 use std::io::{ErrorKind, Read, Write};
 use std::process::Abort;
-use vx_run::run_script;
+use vx_base::{Nullability, PType, Scalar};
+use vx_run::{WriteFault, run_script, write_rows};
+use vx_tree::ArrayRef;
 
 const SCRIPT: &[u8] = b"ints i32 1,2,3,4
 ints u32 0,1,2
@@ -33,6 +35,8 @@ const ROWS: &[u8] = b"[x6869,null,xc3a9]
 const ROWS_AND_FAULT: &[u8] = b"[x6869,null,xc3a9]
 error 5 OutOfBounds
 ";
+
+const ROWS_OF_TEN: &[u8] = b"[3,3,..] of 10";
 
 // The most bytes of a line, and the most read calls of a script.
 const MOST: usize = 1_048_576;
@@ -303,4 +307,27 @@ fn lists_that_are_nested_deeply_are_let_go(rt: HostRuntime) {
         b"error 10003 MismatchedTypes\n",
         1,
     );
+}
+
+/// Writes ten rows, at most two of them, over a writer that fails, and compares what is written and
+/// how many calls failed.
+fn writes_rows(rt: &impl Abort, alloc: Global, mut output: FailingWriter, wanted: &[u8]) {
+    let three = Scalar::int(3, PType::U8, Nullability::NonNullable);
+    let array = ArrayRef::constant(alloc, three, 10).expect(rt, "made");
+    let answer = write_rows(alloc, &array, 2, &mut output);
+    assert!(rt; matches!(answer, Err(WriteFault::Output(_))));
+    assert_eq!(rt; output.written.as_slice(), wanted);
+    assert_eq!(rt; output.failures, 1);
+}
+
+#[test]
+fn each_failed_write_ends_the_rows(rt: HostRuntime) {
+    let [late, interrupted] = FAILURES;
+    for at in 0..ROWS_OF_TEN.len() {
+        let wanted = &ROWS_OF_TEN[..at];
+        for failure in [Some(late), Some(interrupted), None] {
+            let output = FailingWriter::new(rt.alloc(), at, 0, failure);
+            writes_rows(&rt, rt.alloc(), output, wanted);
+        }
+    }
 }

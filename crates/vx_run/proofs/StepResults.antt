@@ -1,6 +1,6 @@
 -- What each step appends, by what its call gives.
 use Rattle.std.proofs.Common.{◌≡◌, ℕ, zero, suc, Bool, true, false, cond, List, [], ◌∷◌, refl, sym, ◌∙◌, ap, subst, arith}
-use Rattle.std.specs.Prelude.{◌≢◌, slice_range, Some, None}
+use Rattle.std.specs.Prelude.{◌≢◌, ◌-◌, slice_range, Some, None}
 use Rattle.std.specs.Global.{Vec}
 use Rattle.std.specs.List.{All, flat_map, range_with_len}
 use Rattle.std.proofs.lemmas.Bool.{ne_eqb}
@@ -9,17 +9,17 @@ use Rattle.std.proofs.lemmas.Simd.{map-map}
 use Rattle.vx_base.specs.Kinds.{Kind, booleans, integers, texts, binaries, lists, fixed_lists, records, is_nullable_kind, or_nullable}
 use Rattle.vx_base.specs.Refusals.{not_implemented}
 use Rattle.vx_base.specs.Rows.{Row, truth_of}
+use Rattle.vx_base.specs.Trues.{trues}
 use Rattle.vx_tree.specs.Tree.{Tree, bools, primitive, constant, dictionary, fixed_list, list_view, structure, view_array, by_array}
 use Rattle.vx_tree.specs.Meaning.{tree_len, kind_of, row_at, rows, nullable, valid_mask}
 use Rattle.vx_canonical.specs.Canonical.{IsCanonical}
-use Rattle.vx_canonical.specs.Concatenated.{concat_fault}
+use Rattle.vx_canonical.specs.Concatenated.{concat_fault, IsConcatenated}
 use Rattle.vx_tree.specs.Flags.{is_flagged}
 use Rattle.vx_canonical.specs.Joined.{joined_state}
 use Rattle.vx_tree.specs.Layouts.{is_constant, is_list_view, is_primitive}
 use Rattle.vx_tree.specs.OneValue.{HasOneValue}
-use Rattle.vx_tree.specs.Operations.{picks, positions, filtered, masked, truths}
-use Rattle.vx_tree.specs.Plain.{IsPlain}
-use Rattle.vx_tree.specs.Shapes.{tree_state, told, shape_of, sliced_shape, selected_shape, nulled_shape, taken_shape}
+use Rattle.vx_tree.specs.Operations.{IsSlice, IsSelected, IsNulled, picks, positions, filtered, masked, truths}
+use Rattle.vx_tree.specs.Shapes.{tree_state, shape_of, taken_shape}
 use Rattle.vx_tree.proofs.RowLists.{length-valid_mask}
 use Rattle.vx_leaves.specs.Narrow.{IsNarrowed}
 use Rattle.vx_lists.specs.declared.list_view.rebuild.ListViewRebuildMode.{ListViewRebuildMode}
@@ -38,11 +38,11 @@ named_rows-same ns ms rs ss names same = λ i. named_rows (names i) (same i)
 -- ---- rows at positions and under masks
 
 pub step-slice : (arrays : List Tree) (array start end : ℕ) (t r : Tree) → t ≡ array_at arrays array → kind_of r ≡ kind_of t
-    → rows r ≡ slice_range (rows t) start end → shape_of r ≡ sliced_shape (shape_of t) → IsStep (Slice array start end) arrays r
-step-slice arrays array start end t r is kind same shape = record {
+    → rows r ≡ slice_range (rows t) start end → IsSlice t start (end - start) r → IsStep (Slice array start end) arrays r
+step-slice arrays array start end t r is kind same slice = record {
   same_rows = named_rows-same _ _ _ _ (ap names_in (kind ∙ ap kind_of is)) (same ∙ ap (λ u. slice_range (rows u) start end) is);
   kind = kind ∙ ap kind_of is;
-  layout = shape ∙ ap (λ u. sliced_shape (shape_of u)) is;
+  layout = subst (λ u. IsSlice u start (end - start) r) is slice;
 }
 
 names_in-or_nullable : (c : Bool) (k : Kind) → names_in (or_nullable c k) ≡ names_in k
@@ -68,23 +68,23 @@ step-take arrays array indices t u r is at kind same shape one =
     }
 
 pub step-filter : (arrays : List Tree) (array mask : ℕ) (t r : Tree) (bs : List Bool) → t ≡ array_at arrays array → bs ≡ truths (rows (array_at arrays mask))
-    → kind_of r ≡ kind_of t → rows r ≡ filtered bs (rows t) → shape_of r ≡ selected_shape (shape_of t) → IsStep (Filter array mask) arrays r
-step-filter arrays array mask t r bs is at kind same shape = record {
+    → kind_of r ≡ kind_of t → rows r ≡ filtered bs (rows t) → IsSelected t (trues bs) r → IsStep (Filter array mask) arrays r
+step-filter arrays array mask t r bs is at kind same selected = record {
   same_rows = named_rows-same _ _ _ _ (ap names_in (kind ∙ ap kind_of is)) (same ∙ (λ i. filtered (at i) (rows (is i))));
   kind = kind ∙ ap kind_of is;
-  layout = shape ∙ ap (λ u. selected_shape (shape_of u)) is;
+  layout = rw (is, at) at selected;
 }
 
 pub step-mask : (arrays : List Tree) (array mask : ℕ) (t u r : Tree) → t ≡ array_at arrays array → u ≡ array_at arrays mask
-    → kind_of r ≡ or_nullable true (kind_of t) → rows r ≡ masked (truths (rows u)) (rows t) → shape_of r ≡ nulled_shape (shape_of t) told
+    → kind_of r ≡ or_nullable true (kind_of t) → rows r ≡ masked (truths (rows u)) (rows t) → IsNulled t (by_array u) r
     → (is_constant t ≡ true → HasOneValue r) → IsStep (Mask array mask) arrays r
-step-mask arrays array mask t u r is at kind same shape one =
+step-mask arrays array mask t u r is at kind same nulled one =
     let of = kind ∙ ap (λ w. or_nullable true (kind_of w)) is in
     record {
       same_rows = named_rows-same _ _ _ _ (ap names_in of ∙ names_in-or_nullable true (kind_of (array_at arrays array)))
           (same ∙ (λ i. masked (truths (rows (at i))) (rows (is i))));
       kind = of;
-      layout = (shape ∙ ap (λ w. nulled_shape (shape_of w) told) is, λ constant. one (ap is_constant is ∙ constant));
+      layout = (subst (λ w. IsNulled (array_at arrays array) (by_array w) r) at (subst (λ w. IsNulled w (by_array u) r) is nulled), λ constant. one (ap is_constant is ∙ constant));
     }
 
 pub step-canonical : (arrays : List Tree) (array : ℕ) (t r : Tree) → t ≡ array_at arrays array → rows r ≡ rows t → IsCanonical t r
@@ -115,15 +115,14 @@ joined-names arrays [] = refl
 joined-names arrays (i ∷ is) = refl
 
 pub step-concat : (arrays : List Tree) (v : Vec ℕ) (found : List Tree) (r : Tree) → found ≡ arrays_at arrays v.items → concat_fault found ≡ None
-    → rows r ≡ flat_map rows found → All (λ t. kind_of t ≡ kind_of r) found → IsPlain r → tree_state r ≡ joined_state found → is_flagged r ≡ false
-    → IsStep (Concat v) arrays r
-step-concat arrays v found r is none same alike plain state flag =
-    let of = joined-kind found r none alike ∙ ap joined_kind is in
+    → IsConcatenated found r → tree_state r ≡ joined_state found → is_flagged r ≡ false → IsStep (Concat v) arrays r
+step-concat arrays v found r is none made state flag =
+    let of = joined-kind found r none made.kind ∙ ap joined_kind is in
     record {
       same_rows = named_rows-same _ _ _ _ (ap names_in of ∙ joined-names arrays v.items)
-          (same ∙ ap (flat_map rows) is ∙ flat_map-map rows (array_at arrays) v.items);
+          (made.same_rows ∙ ap (flat_map rows) is ∙ flat_map-map rows (array_at arrays) v.items);
       kind = of;
-      layout = (plain, state ∙ ap joined_state is, flag);
+      layout = (subst (λ ts. IsConcatenated ts r) is made, state ∙ ap joined_state is, flag);
     }
 
 -- ---- rebuilt and narrowed arrays

@@ -1,5 +1,5 @@
 -- What steps append to a list of arrays, and why a step is refused.
-use Rattle.std.specs.Prelude.{◌≡◌, ◌+◌, ◌++◌, ◌⊎◌, ◌≤◌, ℕ, Bool, true, false, List, [], ◌∷◌, length, take, map, slice_range, slice_get}
+use Rattle.std.specs.Prelude.{◌≡◌, ◌+◌, ◌-◌, ◌++◌, ◌⊎◌, ◌≤◌, ℕ, Bool, true, false, List, [], ◌∷◌, length, take, map, slice_range, slice_get}
 use Rattle.std.specs.Prelude.{slice_index_or, Option, Some, None, IsSomeAnd, if◌then◌else◌}
 use Rattle.std.specs.List.{flat_map, remove}
 use Rattle.vx_base.specs.declared.errors.VortexError.{VortexError}
@@ -8,18 +8,19 @@ use Rattle.vx_base.specs.Fields.{place_of_name}
 use Rattle.vx_base.specs.Kinds.{Kind, booleans, integers, is_nullable_kind, or_nullable}
 use Rattle.vx_base.specs.Refusals.{Refusal, mismatched_types, IsMemoryOr, or_else}
 use Rattle.vx_base.specs.Rows.{Row}
+use Rattle.vx_base.specs.Trues.{trues}
 use Rattle.vx_tree.specs.Tree.{Tree, bools, non_nullable, by_array}
 use Rattle.vx_tree.specs.Meaning.{tree_len, kind_of, rows}
-use Rattle.vx_canonical.specs.Canonical.{IsCanonical, canonical_fault}
-use Rattle.vx_canonical.specs.Concatenated.{concat_fault}
+use Rattle.vx_canonical.specs.Canonical.{IsCanonical}
+use Rattle.vx_canonical.specs.Concatenated.{concat_fault, IsConcatenated}
+use Rattle.vx_tree.specs.CanonicalFaults.{canonical_fault}
 use Rattle.vx_tree.specs.Faults.{position_fault, length_fault, valid_type_fault, validity_fault, slice_fault, take_fault}
 use Rattle.vx_tree.specs.Flags.{is_flagged}
 use Rattle.vx_canonical.specs.Joined.{joined_state}
 use Rattle.vx_tree.specs.Layouts.{is_constant, is_list_view, is_primitive}
 use Rattle.vx_tree.specs.OneValue.{HasOneValue}
-use Rattle.vx_tree.specs.Operations.{picks, positions, filtered, masked, truths}
-use Rattle.vx_tree.specs.Plain.{IsPlain}
-use Rattle.vx_tree.specs.Shapes.{tree_state, told, shape_of, sliced_shape, selected_shape, nulled_shape, taken_shape}
+use Rattle.vx_tree.specs.Operations.{IsSlice, IsSelected, IsNulled, picks, positions, filtered, masked, truths}
+use Rattle.vx_tree.specs.Shapes.{tree_state, shape_of, taken_shape}
 use Rattle.vx_tree.specs.Validities.{is_full_state}
 use Rattle.vx_leaves.specs.Narrow.{narrowed_type, numbers_among, IsNarrowed}
 use Rattle.vx_lists.specs.ListViews.Faults.{rebuild_fault}
@@ -118,18 +119,18 @@ step_kind (RemoveColumn array name) arrays = kind_without_column name (kind_of (
 step_kind (PushValidity array remove) arrays =
     pushed_kind (is_full_state (tree_state (array_at arrays array))) remove (kind_of (array_at arrays array))
 
--- the layout, the state and the flag of what a step appends
+-- what the call of a step promises of the array beside its rows and its kind: layout, state, flag, and what stays of its parts
 abbrev pub HasLayout : Step → List Tree → Tree → Type 0
-HasLayout (Slice array start end) arrays r = shape_of r ≡ sliced_shape (shape_of (array_at arrays array))
+HasLayout (Slice array start end) arrays r = IsSlice (array_at arrays array) start (end - start) r
 HasLayout (Take array indices) arrays r =
     (shape_of r ≡ taken_shape (shape_of (array_at arrays array)) (tree_state (array_at arrays indices)))
     × (is_constant (array_at arrays array) ≡ true → HasOneValue r)
-HasLayout (Filter array mask) arrays r = shape_of r ≡ selected_shape (shape_of (array_at arrays array))
+HasLayout (Filter array mask) arrays r = IsSelected (array_at arrays array) (trues (truths (rows (array_at arrays mask)))) r
 HasLayout (Mask array mask) arrays r =
-    (shape_of r ≡ nulled_shape (shape_of (array_at arrays array)) told)
+    IsNulled (array_at arrays array) (by_array (array_at arrays mask)) r
     × (is_constant (array_at arrays array) ≡ true → HasOneValue r)
 HasLayout (Concat is) arrays r =
-    IsPlain r × (tree_state r ≡ joined_state (arrays_at arrays is.items)) × (is_flagged r ≡ false)
+    IsConcatenated (arrays_at arrays is.items) r × (tree_state r ≡ joined_state (arrays_at arrays is.items)) × (is_flagged r ≡ false)
 HasLayout (Canonical array) arrays r = IsCanonical (array_at arrays array) r
 HasLayout (Rebuild array mode) arrays r = (is_list_view r ≡ true) × IsRebuiltBy mode (array_at arrays array) r
 HasLayout (Narrow array) arrays r = (is_primitive r ≡ true) × IsNarrowed (array_at arrays array) r
@@ -214,3 +215,9 @@ IsStop steps k arrays error = IsSomeAnd (slice_get steps k) (λ s. IsMemoryOr (s
 -- memory is refused at the first step; or there is room for so many arrays
 abbrev pub HasRoom : ℕ → ℕ → ℕ → VortexError → Type 0
 HasRoom count room k error = ((k ≡ 0) × (error ≡ Memory)) ⊎ (count ≤ room)
+
+-- ---- laws
+
+-- what is a run step by step is a run
+abbrev pub StepsMakeARun : Type 0
+StepsMakeARun = (steps : List Step) (arrays results : List Tree) → IsRun steps arrays results → HasRun steps arrays results

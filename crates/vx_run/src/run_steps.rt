@@ -93,7 +93,7 @@ pub fn run(
         });
     }
     for (i, step) in steps.iter().enumerate() {
-        match taken(alloc, &arrays, step) {
+        match step.apply(alloc, &arrays) {
             Ok(array) => arrays.push_reserved(array),
             Err(error) => {
                 return Err(RunFault {
@@ -107,28 +107,32 @@ pub fn run(
     Ok(arrays)
 }
 
-// What a step makes of the arrays.
-fn taken(alloc: Global, arrays: &[ArrayRef], step: &Step) -> Result<ArrayRef, VortexError>
-    ensures ok { IfOk result (IsStep step.now arrays.now) }
-    ensures refuses { Refuses result (step_fault step.now arrays.now) }
-{
-    match step {
-        Step::Slice { array, start, end } => sliced(alloc, arrays, *array, *start, *end),
-        Step::Take { array, indices } => taken_at(alloc, arrays, *array, *indices),
-        Step::Filter { array, mask } => filtered(alloc, arrays, *array, *mask),
-        Step::Mask { array, mask } => masked(alloc, arrays, *array, *mask),
-        Step::Concat { arrays: positions } => concatenated(alloc, arrays, positions),
-        Step::Canonical { array } => canonical(alloc, arrays, *array),
-        Step::Rebuild { array, mode } => rebuilt(alloc, arrays, *array, *mode),
-        Step::Narrow { array } => narrowed(alloc, arrays, *array),
-        Step::Project { array, names } => projected(alloc, arrays, *array, names),
-        Step::WithColumn {
-            array,
-            name,
-            column,
-        } => with_column(alloc, arrays, *array, name, *column),
-        Step::RemoveColumn { array, name } => without_column(alloc, arrays, *array, name),
-        Step::PushValidity { array, remove } => pushed(alloc, arrays, *array, *remove),
+impl Step {
+    /// What this step makes of arrays, which stay as they are: the array that `run` appends. Of the
+    /// numbers 1, 2, 3 as array 0, `Slice { array: 0, start: 1, end: 3 }` makes 2, 3. Refuses as
+    /// `run` says of a step.
+    pub fn apply(&self, alloc: Global, arrays: &[ArrayRef]) -> Result<ArrayRef, VortexError>
+        ensures ok { IfOk result (IsStep self.now arrays.now) }
+        ensures refuses { Refuses result (step_fault self.now arrays.now) }
+    {
+        match self {
+            Step::Slice { array, start, end } => sliced(alloc, arrays, *array, *start, *end),
+            Step::Take { array, indices } => taken_at(alloc, arrays, *array, *indices),
+            Step::Filter { array, mask } => filtered(alloc, arrays, *array, *mask),
+            Step::Mask { array, mask } => masked(alloc, arrays, *array, *mask),
+            Step::Concat { arrays: positions } => concatenated(alloc, arrays, positions),
+            Step::Canonical { array } => canonical(alloc, arrays, *array),
+            Step::Rebuild { array, mode } => rebuilt(alloc, arrays, *array, *mode),
+            Step::Narrow { array } => narrowed(alloc, arrays, *array),
+            Step::Project { array, names } => projected(alloc, arrays, *array, names),
+            Step::WithColumn {
+                array,
+                name,
+                column,
+            } => with_column(alloc, arrays, *array, name, *column),
+            Step::RemoveColumn { array, name } => without_column(alloc, arrays, *array, name),
+            Step::PushValidity { array, remove } => pushed(alloc, arrays, *array, *remove),
+        }
     }
 }
 

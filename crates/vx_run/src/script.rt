@@ -10,6 +10,7 @@ use crate::command::parse_command;
 use crate::counted_reader::{CountedReader, MOST_READS};
 use crate::faults::LineFault;
 use crate::line_buffer::LineBuffer;
+use crate::output::write_whole;
 use crate::registers::Registers;
 use std::alloc::{AllocError, Global};
 use std::io::{Cursor, Read, Write};
@@ -151,13 +152,7 @@ impl Script {
 fn write_line<W: Write>(line: &[u8], output: &mut W) -> Result<(), Stop>
     ensures { OnOk result (Appends (W.contents output.old) (W.contents output.new) line.now) }
 {
-    let mut rest = line;
-    while !rest.is_empty() {
-        match output.write(rest) {
-            Ok(0) | Err(_) => return Err(Stop::Output),
-            Ok(count) => rest = &rest[count..],
-        }
-    }
+    write_whole(line, output).map_err(|_| Stop::Output)?;
     output.flush().map_err(|_| Stop::Output)
 }
 

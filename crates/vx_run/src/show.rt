@@ -34,7 +34,7 @@ pub(crate) fn show_array(
 
 // Adds the rows from `start` up to `end`, a comma between them.
 #[cycle(show)]
-fn show_rows(
+pub(crate) fn show_rows(
     alloc: Global,
     array: &ArrayRef,
     start: usize,

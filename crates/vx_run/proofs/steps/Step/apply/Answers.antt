@@ -1,7 +1,7 @@
 use Rattle.std.proofs.Common.{sym, subst}
 use Rattle.vx_base.specs.Refusals.{Refuses}
 use Rattle.vx_run.specs.Steps.{step_fault}
-use Rattle.vx_run.proofs.run_steps.taken.Goals as goal
+use Rattle.vx_run.proofs.steps.Step.apply.Goals as goal
 
 pub returns-in-RemoveColumn-clause-refuses : goal.returns-in-RemoveColumn-clause-refuses
 returns-in-RemoveColumn-clause-refuses c =
