@@ -23,7 +23,8 @@ use Rattle.vx_pack.specs.Parts.{part_row}
 use Rattle.vx_pack.specs.Pieces.{AreFieldPieces, ArePieces, IsFieldPiece, IsPiece, piece_len, piece_row, piece_rows, pieces_rows}
 use Rattle.vx_pack.specs.Records.{AreRecordsIn, IsField, IsRecordOf, kind_at}
 use Rattle.vx_pack.specs.RowForms.{record_in}
-use Rattle.vx_pack.proofs.PieceRows.{length-pieces_rows, map-range_with_len-same, piece_rows_more, pieces_rows-append, pieces_rows-one}
+use Rattle.vx_base.proofs.ListParts.{map_range_same}
+use Rattle.vx_pack.proofs.PieceRows.{length-pieces_rows, piece_rows_more, pieces_rows-append, pieces_rows-one}
 use Rattle.vx_pack.proofs.PieceRows.{pieces_rows_more}
 use Rattle.vx_pack.proofs.RowForms.{no_record}
 
@@ -133,7 +134,7 @@ fields_by_row k whole place p q of_kind len each = record {
   fields =
       pieces_rows-one k q
       ∙ ap (λ n. map (piece_row k q) (range_with_len 0 n)) len
-      ∙ map-range_with_len-same (piece_row k q) (λ i. field_or_default k place (piece_row whole p i)) 0 (piece_len p) (λ i l. told i l)
+      ∙ map_range_same (piece_row k q) (λ i. field_or_default k place (piece_row whole p i)) 0 0 (piece_len p) (λ i l. told i l)
       ∙ sym (map-map (field_or_default k place) (piece_row whole p) (range_with_len 0 (piece_len p)));
 }
   where

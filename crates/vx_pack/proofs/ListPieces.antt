@@ -165,7 +165,7 @@ pub pieces_blank : (k : Kind) (ps : List Piece) → All (IsPiece k) ps → All (
 pieces_blank k ps each = All-flat_map (FitsOrBlank k) (piece_rows k) ps (λ i d l. rows_blank k (get_or ps i d) (each i d l))
 
 -- so many of them have so many elements
-elements_counted : (k item : Kind) (size : ℕ) (n : Bool) (ps : List Piece) (len : ℕ) → k ≡ fixed_lists item size n → ArePieces k ps len
+pub elements_counted : (k item : Kind) (size : ℕ) (n : Bool) (ps : List Piece) (len : ℕ) → k ≡ fixed_lists item size n → ArePieces k ps len
     → length (flat_map (items_or_blank item size) (pieces_rows k ps)) ≡ len * size
 elements_counted k item size n ps len kind pieces =
     let blank = subst (λ x. All (FitsOrBlank x) (pieces_rows k ps)) kind (pieces_blank k ps pieces.each) in

@@ -12,16 +12,6 @@ use Rattle.vx_pack.specs.Pieces.{piece_len, piece_row, piece_rows, pieces_rows}
 
 -- ---- lists that a function tells by place
 
-pub map-range_with_len-same : {A : Type 0} (f g : ℕ → A) (a n : ℕ) → ((i : ℕ) → i < n → f (a + i) ≡ g (a + i))
-    → map f (range_with_len a n) ≡ map g (range_with_len a n)
-map-range_with_len-same f g a zero same = refl
-map-range_with_len-same f g a (suc n) same =
-    let start : a + 0 ≡ a = omega arith in
-    let here : f a ≡ g a = sym (ap f start) ∙ same 0 (omega arith) ∙ ap g start in
-    let next : (i : ℕ) → a + suc i ≡ a + 1 + i = λ i. omega arith in
-    let more = map-range_with_len-same f g (a + 1) n (λ i l. sym (ap f (next i)) ∙ same (suc i) (omega arith) ∙ ap g (next i)) in
-    λ j. here j ∷ more j
-
 pub map-range_with_len-replicate : {A : Type 0} (x : A) (a n : ℕ) → map (λ i. x) (range_with_len a n) ≡ replicate n x
 map-range_with_len-replicate x a zero = refl
 map-range_with_len-replicate x a (suc n) = ap (λ xs. x ∷ xs) (map-range_with_len-replicate x (a + 1) n)

@@ -63,7 +63,7 @@ same_number_bytes t p q xs ys b first second len told k = (
 -- ---- a part of an array
 
 -- a part of the numbers
-nth_part : (zs : List ℤ) (from len i : ℕ) → i < len → number_nth (slice_range zs from (from + len)) i ≡ number_nth zs (from + i)
+pub nth_part : (zs : List ℤ) (from len i : ℕ) → i < len → number_nth (slice_range zs from (from + len)) i ≡ number_nth zs (from + i)
 nth_part zs from len i l =
     let size : from + len - from ≡ len = omega arith in
     rw size (get_or-take len (drop from zs) i (pos 0) l ∙ get_or-drop from zs i (pos 0))

@@ -11,7 +11,8 @@ use Rattle.vx_pack.specs.Parts.{IsPart, IsPartOf, part_len, part_row}
 use Rattle.vx_pack.specs.Pieces.{ArePieces, IsPiece, pieces_rows}
 use Rattle.vx_pack.specs.declared.parts.Part.{Part}
 use Rattle.vx_pack.specs.declared.pieces.Piece.TheVariants as piece
-use Rattle.vx_pack.proofs.PieceRows.{map-range_with_len-same, pieces_rows-one}
+use Rattle.vx_base.proofs.ListParts.{map_range_same}
+use Rattle.vx_pack.proofs.PieceRows.{pieces_rows-one}
 
 pub whole_pieces : (t : Tree) (k : Kind) (n : ℕ) (p : Part) → k ≡ kind_of t → n < 2 ^ 64 → IsPartOf t 0 n p
     → ArePieces k (piece.Rows p ∷ []) n
@@ -24,7 +25,7 @@ whole_pieces t k n p kind fits is = record {
 pub whole_rows : (t : Tree) (k : Kind) (n : ℕ) (p : Part) → n ≡ tree_len t → IsPartOf t 0 n p → pieces_rows k (piece.Rows p ∷ []) ≡ rows t
 whole_rows t k n p all is =
     pieces_rows-one k (piece.Rows p)
-    ∙ map-range_with_len-same (part_row k p) (row_at t) 0 (part_len p) (λ i inside. is.rows k (0 + i) ∙ ap (row_at t) (zero-add (0 + i)))
+    ∙ map_range_same (part_row k p) (row_at t) 0 0 (part_len p) (λ i inside. is.rows k (0 + i) ∙ ap (row_at t) (zero-add (0 + i)))
     ∙ ap (λ m. map (row_at t) (range_with_len 0 m)) (is.len ∙ all)
 
 -- what is true of them, under the kind of the array

@@ -4,6 +4,8 @@ pub mod Parts
 pub mod Lists
 pub mod Records
 pub mod Numbers
+pub mod StoredBits
 pub mod Packed
 pub mod Pieces
 pub mod PackedLaws
+pub mod StoredNumbers

@@ -74,7 +74,7 @@ field_or_default k c _ = default_row k
 -- ---- the packed form
 
 abbrev mutual
-  -- a tree is the packed form of rows of a kind: nothing constant, coded or shared, at every depth. What lies under null is false,
+  -- a tree is the packed form of rows of a kind: nothing constant or coded, at every depth. What lies under null is false,
   -- 0, no bytes, no elements, default rows; values of at most 12 bytes stand in their views, the others in order in the fewest
   -- buffers; lists stand end to end
   pub IsPacked : Kind → List Row → Tree → Type 0

@@ -16,6 +16,7 @@ pub record HasRows (k : Kind) (rs : List Row) (t : Tree) : Type 0 where
   pub kind : kind_of t ≡ k
   pub rows : rows t ≡ rs
 
+-- what rows that fit a kind pack to is of that kind and has these rows
 abbrev pub PackedKeepsRows : Type 0
 PackedKeepsRows = (k : Kind) (rs : List Row) (t : Tree) → All (Fits k) rs → IsPacked k rs t → HasRows k rs t
 

@@ -6,6 +6,7 @@ use Rattle.vx_base.specs.Kinds.{Kind, fixed_lists}
 use Rattle.vx_base.specs.Rows.{Row}
 use Rattle.vx_pack.specs.Packed.{field_or_default, items_or_blank}
 use Rattle.vx_pack.specs.Parts.{IsPart, IsWithin, part_len, part_row}
+use Rattle.vx_pack.specs.declared.parts.Part.{Part}
 use Rattle.vx_pack.specs.declared.pieces.Piece.{Piece}
 use Rattle.vx_pack.specs.declared.pieces.Piece.TheVariants as piece
 
@@ -57,6 +58,18 @@ pub record IsListPiece (item : Kind) (blank : ℕ) (r : Row) (p : Piece) : Type 
 pub record AreListPieces (item : Kind) (blank : ℕ) (rs : List Row) (ps : List Piece) : Type 0 where
   pub each : All (IsPiece item) ps
   pub lists : map (piece_rows item) ps ≡ map (items_or_blank item blank) rs
+
+-- pieces of these rows
+pub record AreJoined (item : Kind) (rs : List Row) (ps : List Piece) : Type 0 where
+  pub each : All (IsPiece item) ps
+  pub rows : pieces_rows item ps ≡ rs
+
+-- the rows of all lists of a part, one list after another
+pub record AreAllItems (item : Kind) (size : ℕ) (k : Kind) (p q : Part) : Type 0 where
+  pub part : IsPart item q
+  pub rows :
+      map (part_row item q) (range_with_len 0 (part_len q))
+      ≡ flat_map (items_or_blank item size) (map (part_row k p) (range_with_len 0 (part_len p)))
 
 -- pieces of so many rows, which are these
 pub record AreElements (item : Kind) (n : ℕ) (rs : List Row) (ps : List Piece) : Type 0 where

@@ -21,6 +21,8 @@ mod rows_equal;
 mod same_leaves;
 mod same_numbers;
 mod same_rows;
+mod stored_bits;
+mod stored_numbers;
 mod texts;
 mod truths;
 mod values;

@@ -1,16 +1,17 @@
 // The rows of lists.
 
-ghost use Rattle.std.specs.Prelude.{◌≡◌, ◌<◌, true};
-ghost use Rattle.vx_base.specs.Kinds.{Kind};
+ghost use Rattle.std.specs.Prelude.{◌≡◌, ◌<◌, ℕ, Bool, true, IfSome};
+ghost use Rattle.vx_base.specs.Kinds.{Kind, fixed_lists};
 ghost use Rattle.vx_tree.specs.Layouts.{is_fixed_list, is_list_view};
 ghost use Rattle.vx_tree.specs.Meaning.{kind_of, row_at, tree_len};
 ghost use Rattle.vx_pack.specs.Lists.{IsItemOf, IsListIn};
+ghost use Rattle.vx_pack.specs.Pieces.{AreAllItems};
 ghost use Rattle.vx_pack.specs.Parts.{IsPart, IsWithin, part_len, part_row};
 
 use crate::codes::count_at;
 use crate::parts::{Part, part_of, part_of_values};
 use crate::places::place_of;
-use crate::truths::is_valid_at;
+use crate::truths::{is_full, is_valid_at};
 use crate::values::items_of;
 use vx_tree::{ArrayRef, Layout};
 
@@ -26,6 +27,33 @@ impl<'a> Part<'a> {
             Part::Array(array, start, _) => list_at(array, start + i),
             Part::Values(values) => Some(part_of_values(items_of(&values[i])?)),
         }
+    }
+
+    // The elements of all rows, where these are lists of one size that stand one after another and
+    // none is null.
+    pub fn elements(self) -> Option<Part<'a>>
+        requires { IsWithin self }
+        ensures { IfSome result (λ p. (item : Kind) (size : ℕ) (n : Bool) → IsPart (fixed_lists item size n) self.entry →
+            AreAllItems item size (fixed_lists item size n) self.entry p) }
+    {
+        let Part::Array(array, start, len) = self else {
+            return None;
+        };
+        let Layout::FixedSizeList {
+            elements,
+            size,
+            validity,
+            ..
+        } = array.layout()
+        else {
+            return None;
+        };
+        if !is_full(validity) {
+            return None;
+        }
+        elements.known_len();
+        let size = *size as usize;
+        Some(part_of(elements, start * size, len * size))
     }
 }
 

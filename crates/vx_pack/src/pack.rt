@@ -17,13 +17,13 @@ pub trait Pack: Sized {
     /// but them. It is made of the data type and the rows alone, so two columns have the same data
     /// type and equal rows exactly where they pack to the same parts.
     ///
-    /// No part is constant, coded, or shared with what was packed, at any depth. Truth values
-    /// are bits and numbers their bytes, false and 0 where they are null. A value of at most 12
-    /// bytes stands in its view, the others one after another in the fewest buffers. Lists stand
-    /// end to end, their flag set, with offsets and sizes of I32 where it holds the number of all
-    /// elements, and of I64 else. Under a null list there is no element, under a null list of one
-    /// size and a null record default rows. Where null may stand, no row is null by the state
-    /// alone where none is, every row where all are, and else bits tell.
+    /// No part is constant or coded, at any depth. Truth values are bits and numbers their bytes,
+    /// false and 0 where they are null. A value of at most 12 bytes stands in its view, the others
+    /// one after another in the fewest buffers. Lists stand end to end, their flag set, with
+    /// offsets and sizes of I32 where it holds the number of all elements, and of I64 else. Under a
+    /// null list there is no element, under a null list of one size and a null record default rows.
+    /// Where null may stand, no row is null by the state alone where none is, every row where all
+    /// are, and else bits tell.
     ///
     /// So what was sliced, filtered or taken leaves all that was cut away behind: a text sliced
     /// out of a thousand keeps its own bytes alone.

@@ -1,14 +1,14 @@
 // Lists that are packed: where each begins and ends, and which rows are theirs.
 
 ghost use Rattle.std.specs.Prelude.{◌≡◌, ◌≤◌, ◌<◌, ◌*◌, ◌++◌, ◌^◌, Bool, List, MatchResult, map, sum};
-ghost use Rattle.std.specs.List.{flat_map};
+ghost use Rattle.std.specs.List.{All, flat_map};
 ghost use Rattle.vx_base.specs.DTypes.{dtype_meaning};
 ghost use Rattle.vx_base.specs.Kinds.{Kind, fixed_lists};
 ghost use Rattle.vx_base.specs.Refusals.{Gives};
 ghost use Rattle.vx_base.specs.declared.errors.VortexError.TheVariants.{Overflow};
 ghost use Rattle.vx_pack.specs.Lists.{IsItemOf};
 ghost use Rattle.vx_pack.specs.Packed.{count_type, counts_array, items_or_blank, list_starts};
-ghost use Rattle.vx_pack.specs.Pieces.{AreElements, AreListPieces, ArePieces, IsPiece, blank_of, piece_len, piece_rows, pieces_rows};
+ghost use Rattle.vx_pack.specs.Pieces.{AreElements, AreJoined, AreListPieces, ArePieces, IsPiece, blank_of, piece_len, piece_rows, pieces_rows};
 ghost use Rattle.vx_pack.specs.declared.pieces.Piece.{Piece as Pieces};
 
 use crate::packed_numbers::push_number;
@@ -37,7 +37,8 @@ pub(crate) fn list_pieces<'a>(
     Ok(lists)
 }
 
-// The same of lists of one size: where they have no elements, no list is looked at.
+// The same of lists of one size, of which some may be in one piece: where they have no elements, no
+// list is looked at.
 pub(crate) fn fixed_list_pieces<'a>(
     alloc: Global,
     dtype: &DType,
@@ -54,7 +55,49 @@ pub(crate) fn fixed_list_pieces<'a>(
     if size == 0 {
         return Ok(Vec::new(alloc));
     }
-    list_pieces(alloc, dtype, pieces, size as usize, len)
+    joined_pieces(alloc, dtype, pieces, size as usize)
+}
+
+// The rows of lists of one size, piece by piece.
+fn joined_pieces<'a>(
+    alloc: Global,
+    dtype: &DType,
+    pieces: &[Piece<'a>],
+    size: usize,
+) -> Result<Vec<Piece<'a>>, VortexError>
+    requires pieces { All (IsPiece (dtype_meaning dtype.now)) pieces.now }
+    requires size { blank_of (dtype_meaning dtype.now) ≡ size }
+    ensures { Gives result (λ lists. (item : Kind) (n : Bool) → dtype_meaning dtype.now ≡ fixed_lists item size n →
+        AreJoined item (flat_map (items_or_blank item size) (pieces_rows (dtype_meaning dtype.now) pieces.now)) lists.items) }
+{
+    let mut lists = Vec::new(alloc);
+    for piece in pieces {
+        push_joined(&mut lists, dtype, *piece, size)?;
+    }
+    Ok(lists)
+}
+
+// Those of a piece, at the end of the others: as one, where they stand one after another.
+fn push_joined<'a>(
+    lists: &mut Vec<Piece<'a>>,
+    dtype: &DType,
+    piece: Piece<'a>,
+    size: usize,
+) -> Result<(), VortexError>
+    requires piece { IsPiece (dtype_meaning dtype.now) piece }
+    requires size { blank_of (dtype_meaning dtype.now) ≡ size }
+    ensures { Gives result (λ _. (item : Kind) (n : Bool) → dtype_meaning dtype.now ≡ fixed_lists item size n → (more : List Pieces)
+        × AreJoined item (flat_map (items_or_blank item size) (piece_rows (dtype_meaning dtype.now) piece.entry)) more
+        × (lists.new.items ≡ lists.old.items ++ more)) }
+{
+    match piece.elements() {
+        Some(elements) => lists.push(elements)?,
+        None => {
+            lists.reserve(piece.len())?;
+            push_lists(lists, dtype, piece, size)?;
+        }
+    }
+    Ok(())
 }
 
 // Those of a piece, at the end of the lists.

@@ -1,18 +1,21 @@
 // Rows that are packed: those of columns, and default rows between them.
 
-ghost use Rattle.std.specs.Prelude.{◌≡◌, ◌<◌, ℕ, Bool, true, length, map, option_map, IfSome};
+ghost use Rattle.std.specs.Prelude.{◌≡◌, ◌<◌, ◌∷◌, [], ℕ, Bool, true, length, map, option_map, IfSome};
 ghost use Rattle.vx_base.specs.DTypes.{field_kinds, field_names};
+ghost use Rattle.std.specs.List.{flat_map};
 ghost use Rattle.vx_base.specs.Integers.{Holds};
-ghost use Rattle.vx_base.specs.Kinds.{Kind, integers, is_nullable_kind, records};
+ghost use Rattle.vx_base.specs.Kinds.{Kind, fixed_lists, integers, is_nullable_kind, records};
 ghost use Rattle.vx_base.specs.Refusals.{Gives};
 ghost use Rattle.vx_base.specs.Rows.{is_present, truth_of};
 ghost use Rattle.vx_tree.specs.Values.{bytes_in};
 ghost use Rattle.vx_pack.specs.Lists.{IsItemOf};
-ghost use Rattle.vx_pack.specs.Packed.{bytes_of_numbers, has_bytes, number_or_zero};
-ghost use Rattle.vx_pack.specs.Pieces.{IsFieldPiece, IsListPiece, IsPiece, IsWithinPiece, blank_of, piece_len, piece_row, piece_rows};
+ghost use Rattle.vx_pack.specs.Packed.{bytes_of_numbers, has_bytes, items_or_blank, number_or_zero};
+ghost use Rattle.vx_pack.specs.Pieces.{AreJoined, IsFieldPiece, IsListPiece, IsPiece, IsWithinPiece, blank_of, piece_len, piece_row, piece_rows};
 ghost use Rattle.vx_pack.specs.Records.{kind_at};
+ghost use Rattle.vx_pack.specs.StoredNumbers.{AreStoredNumbers};
 
 use crate::parts::Part;
+use crate::stored_numbers::StoredNumbers;
 use std::alloc::Global;
 use vx_base::{PType, StructFields, VortexError};
 
@@ -73,6 +76,18 @@ impl<'a> Piece<'a> {
         }
     }
 
+    // The numbers as they stand, and the bits that tell which of them are there.
+    pub fn stored_numbers(self, ptype: PType) -> Option<StoredNumbers<'a>>
+        requires { (n : Bool) × IsPiece (integers ptype n) self }
+        ensures { IfSome result (λ s. (n : Bool) → IsPiece (integers ptype n) self.entry →
+            AreStoredNumbers ptype (map number_or_zero (piece_rows (integers ptype n) self.entry)) s) }
+    {
+        match self {
+            Piece::Rows(part) => part.stored_numbers(ptype),
+            Piece::Blank(_) => None,
+        }
+    }
+
     // The bytes of row `i`, where it is a text or a byte list. Null may stand among default rows
     // where that is said.
     pub fn bytes(self, i: usize, is_nullable: bool) -> Option<&'a [u8]>
@@ -125,6 +140,19 @@ impl<'a> Piece<'a> {
                 None => Piece::Blank(blank),
             },
             Piece::Blank(_) => Piece::Blank(blank),
+        }
+    }
+
+    // The elements of all rows, where these are lists of one size that stand one after another and
+    // none is null.
+    pub fn elements(self) -> Option<Piece<'a>>
+        requires { IsWithinPiece self }
+        ensures { IfSome result (λ p. (item : Kind) (size : ℕ) (n : Bool) → IsPiece (fixed_lists item size n) self.entry →
+            AreJoined item (flat_map (items_or_blank item size) (piece_rows (fixed_lists item size n) self.entry)) (p ∷ [])) }
+    {
+        match self {
+            Piece::Rows(part) => Some(Piece::Rows(part.elements()?)),
+            Piece::Blank(_) => None,
         }
     }
 

@@ -8,6 +8,7 @@ ghost use Rattle.vx_tree.specs.Parts.{valid_of};
 ghost use Rattle.vx_pack.specs.Parts.{part_row};
 
 use crate::parts::Part;
+use crate::stored_bits::validity_in;
 use vx_tree::{ArrayRef, Layout, Validity};
 
 impl<'a> Part<'a> {
@@ -23,19 +24,13 @@ impl<'a> Part<'a> {
 }
 
 // The same of an array.
-fn presence_of(array: &ArrayRef) -> Option<bool>
+pub(crate) fn presence_of(array: &ArrayRef) -> Option<bool>
     ensures { IfSome result (λ b. (i : ℕ) → is_present (row_at array.now i) ≡ b) }
 {
-    match array.layout() {
-        Layout::Constant { scalar, .. } => Some(scalar.value().is_some()),
-        Layout::Dict { .. } => None,
-        Layout::Bool { validity, .. } => state_of(validity),
-        Layout::Primitive { validity, .. } => state_of(validity),
-        Layout::VarBinView { validity, .. } => state_of(validity),
-        Layout::FixedSizeList { validity, .. } => state_of(validity),
-        Layout::ListView { validity, .. } => state_of(validity),
-        Layout::Struct { validity, .. } => state_of(validity),
+    if let Layout::Constant { scalar, .. } = array.layout() {
+        return Some(scalar.value().is_some());
     }
+    state_of(validity_in(array)?)
 }
 
 // Whether the state alone says that all rows are valid, or that none is.

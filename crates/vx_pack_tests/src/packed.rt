@@ -4,6 +4,10 @@ use crate::written::written;
 use std::alloc::Global;
 use std::process::Abort;
 use vx_base::VortexError;
+use vx_pack::laws::{
+    packed_parts_tell_rows, packing_keeps_rows, packing_twice_is_packing_once,
+    rows_pack_to_one_tree, what_is_packed_is_held,
+};
 use vx_pack::{Pack, RowsEqual};
 use vx_tree::ArrayRef;
 
@@ -83,4 +87,13 @@ pub(crate) fn expect_packed_otherwise(
             );
         }
     }
+}
+
+#[test]
+fn laws() {
+    rows_pack_to_one_tree();
+    packing_keeps_rows();
+    packed_parts_tell_rows();
+    packing_twice_is_packing_once();
+    what_is_packed_is_held();
 }

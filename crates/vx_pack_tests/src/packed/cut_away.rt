@@ -2,7 +2,9 @@
 // masked away, or not taken.
 
 use super::{LEVELS, expect_packed};
-use crate::layouts::{LONG, counts, lists_at, null_where, one_buffer, texts, wrapped};
+use crate::layouts::{
+    LONG, counts, fixed, lists_at, named, null_where, one_buffer, records, texts, wrapped,
+};
 use crate::written::written;
 use std::alloc::Global;
 use std::process::Abort;
@@ -18,6 +20,24 @@ const MARKS: [&str; 2] = ["abababab", "c2abc2ab"];
 const MARKED: &[u8] = b"\xC2\xAB\xC2\xAB\xC2\xAB\xC2\xAB\xC2\xAB\xC2\xAB\xC2\xAB";
 
 const AFTER: &[u8] = b"\xC2\xAB\xC2\xAB\xC2\xAB\xC2\xAB\xC2\xAB\xC2\xAB\xC2\xABthirteen byte";
+
+// What the texts pack to.
+const TEXTS: [&str; 4] = [
+    "views text 1 plain 0d000000.74686972.00000000.00000000 <746869727465656e2062797465>",
+    "views text 2 plain 1d000000.74686973.00000000.00000000 \
+     0d000000.74686972.00000000.1d000000 \
+     <746869732076616c756520697320646566696e6974656c79206c6f6e67\
+     746869727465656e2062797465>",
+    "views text 2 plain 0d000000.74686972.00000000.00000000 \
+     1d000000.74686973.00000000.0d000000 \
+     <746869727465656e2062797465\
+     746869732076616c756520697320646566696e6974656c79206c6f6e67>",
+    "views text? 4 told 1d000000.74686973.00000000.00000000 \
+     00000000.00000000.00000000.00000000 0d000000.74686972.00000000.1d000000 \
+     00000000.00000000.00000000.00000000 \
+     <746869732076616c756520697320646566696e6974656c79206c6f6e67\
+     746869727465656e2062797465> (bits bool 4 plain 0:05)",
+];
 
 // Whether a text has a mark.
 fn is_marked(text: &str) -> bool {
@@ -108,26 +128,17 @@ fn numbers_that_are_cut_away(rt: HostRuntime) {
 
 #[test]
 fn texts_that_are_cut_away(rt: HostRuntime) {
-    expect_cut_away(
-        &rt,
-        some_texts(rt.alloc()),
-        &[
-            "views text 1 plain 0d000000.74686972.00000000.00000000 <746869727465656e2062797465>",
-            "views text 2 plain 1d000000.74686973.00000000.00000000 \
-             0d000000.74686972.00000000.1d000000 \
-             <746869732076616c756520697320646566696e6974656c79206c6f6e67\
-             746869727465656e2062797465>",
-            "views text 2 plain 0d000000.74686972.00000000.00000000 \
-             1d000000.74686973.00000000.0d000000 \
-             <746869727465656e2062797465\
-             746869732076616c756520697320646566696e6974656c79206c6f6e67>",
-            "views text? 4 told 1d000000.74686973.00000000.00000000 \
-             00000000.00000000.00000000.00000000 0d000000.74686972.00000000.1d000000 \
-             00000000.00000000.00000000.00000000 \
-             <746869732076616c756520697320646566696e6974656c79206c6f6e67\
-             746869727465656e2062797465> (bits bool 4 plain 0:05)",
-        ],
-    );
+    expect_cut_away(&rt, some_texts(rt.alloc()), &TEXTS);
+}
+
+// The same texts by codes.
+fn coded_texts(alloc: Global) -> Result<ArrayRef, VortexError> {
+    named(alloc, counts(alloc, &[0, 1, 2, 3])?, some_texts(alloc)?)
+}
+
+#[test]
+fn values_that_no_code_names(rt: HostRuntime) {
+    expect_cut_away(&rt, coded_texts(rt.alloc()), &TEXTS);
 }
 
 #[test]
@@ -182,6 +193,62 @@ fn records_of_lists_that_are_cut_away(rt: HostRuntime) {
              (lists [u32] 4 plain true (numbers u32 3 plain 01000000 03000000 03000000) \
              (numbers i32 4 plain 00000000 02000000 02000000 03000000) \
              (numbers i32 4 plain 02000000 00000000 01000000 00000000)) (bits bool 4 plain 0:05)",
+        ],
+    );
+}
+
+// The lists `[1, 2]`, `[3, 4]` of one size beside marked ones.
+fn pairs(alloc: Global) -> Result<ArrayRef, VortexError> {
+    let marked = 2880154539;
+    let elements = ints::<u32>(alloc, &[1, 2, marked, marked, 3, 4, marked, marked])?;
+    fixed(alloc, elements, 2, 4)
+}
+
+#[test]
+fn lists_of_one_size_that_are_cut_away(rt: HostRuntime) {
+    expect_cut_away(
+        &rt,
+        pairs(rt.alloc()),
+        &[
+            "fixed [u32;2] 1 plain (numbers u32 2 plain 03000000 04000000)",
+            "fixed [u32;2] 2 plain (numbers u32 4 plain 01000000 02000000 03000000 04000000)",
+            "fixed [u32;2] 2 plain (numbers u32 4 plain 03000000 04000000 01000000 02000000)",
+            "fixed [u32;2]? 4 told (numbers u32 8 plain 01000000 02000000 00000000 00000000 \
+             03000000 04000000 00000000 00000000) (bits bool 4 plain 0:05)",
+        ],
+    );
+}
+
+// The records `{a:1,b:this value is definitely long}`, `{a:3,b:thirteen byte}` beside marked ones.
+fn records_of_texts(alloc: Global) -> Result<ArrayRef, VortexError> {
+    records(alloc, &["a", "b"], numbers(alloc)?, some_texts(alloc)?)
+}
+
+#[test]
+fn records_of_texts_that_are_cut_away(rt: HostRuntime) {
+    expect_cut_away(
+        &rt,
+        records_of_texts(rt.alloc()),
+        &[
+            "records {a:u32,b:text} 1 plain .a .b (numbers u32 1 plain 03000000) \
+             (views text 1 plain 0d000000.74686972.00000000.00000000 <746869727465656e2062797465>)",
+            "records {a:u32,b:text} 2 plain .a .b (numbers u32 2 plain 01000000 03000000) \
+             (views text 2 plain 1d000000.74686973.00000000.00000000 \
+             0d000000.74686972.00000000.1d000000 \
+             <746869732076616c756520697320646566696e6974656c79206c6f6e67\
+             746869727465656e2062797465>)",
+            "records {a:u32,b:text} 2 plain .a .b (numbers u32 2 plain 03000000 01000000) \
+             (views text 2 plain 0d000000.74686972.00000000.00000000 \
+             1d000000.74686973.00000000.0d000000 \
+             <746869727465656e2062797465\
+             746869732076616c756520697320646566696e6974656c79206c6f6e67>)",
+            "records {a:u32,b:text}? 4 told \
+             .a .b (numbers u32 4 plain 01000000 00000000 03000000 00000000) \
+             (views text 4 plain 1d000000.74686973.00000000.00000000 \
+             00000000.00000000.00000000.00000000 0d000000.74686972.00000000.1d000000 \
+             00000000.00000000.00000000.00000000 \
+             <746869732076616c756520697320646566696e6974656c79206c6f6e67\
+             746869727465656e2062797465>) (bits bool 4 plain 0:05)",
         ],
     );
 }

@@ -1,7 +1,7 @@
 // Lists of one size.
 
-use super::expect_packed;
-use crate::layouts::{counts, fixed, null_where};
+use super::{expect_packed, expect_packed_alike};
+use crate::layouts::{counts, fixed, named, null_where};
 use std::alloc::Global;
 use vx_base::VortexError;
 use vx_tree::ArrayRef;
@@ -30,6 +30,31 @@ fn nulls_at_two_levels(alloc: Global) -> Result<ArrayRef, VortexError> {
 // Three lists of size 0, of which these are there.
 fn of_none(alloc: Global, valid: &[bool]) -> Result<ArrayRef, VortexError> {
     null_where(alloc, fixed(alloc, counts(alloc, &[])?, 0, 3)?, valid)
+}
+
+// The lists `[3, 4]`, `[5, 6]` in one piece, and by codes, which are read row by row.
+fn cut_in_two_layouts(alloc: Global) -> Result<Vec<ArrayRef>, VortexError> {
+    let mut made = Vec::new(alloc);
+    made.push(cut(alloc)?)?;
+    made.push(named(alloc, counts(alloc, &[1, 2])?, pairs(alloc)?)?)?;
+    Ok(made)
+}
+
+// The same where null may stand, and none does.
+fn nullable_in_two_layouts(alloc: Global) -> Result<Vec<ArrayRef>, VortexError> {
+    let mut made = Vec::new(alloc);
+    made.push(null_where(alloc, cut(alloc)?, &[true, true])?)?;
+    let all = null_where(alloc, pairs(alloc)?, &[true, true, true, true])?;
+    made.push(named(alloc, counts(alloc, &[1, 2])?, all)?)?;
+    Ok(made)
+}
+
+#[test]
+fn lists_of_one_size_pack_alike_in_one_piece_and_by_rows(rt: HostRuntime) {
+    let made = cut_in_two_layouts(rt.alloc()).expect(&rt, "made");
+    expect_packed_alike(&rt, made.as_slice());
+    let made = nullable_in_two_layouts(rt.alloc()).expect(&rt, "made");
+    expect_packed_alike(&rt, made.as_slice());
 }
 
 #[test]

@@ -17,6 +17,12 @@ fn cut(alloc: Global) -> Result<ArrayRef, VortexError> {
     counts(alloc, &[9, 5, 6, 9])?.slice(alloc, 1..3)
 }
 
+// The three in the middle of five numbers, of which the second one lies below a null.
+fn cut_with_null(alloc: Global) -> Result<ArrayRef, VortexError> {
+    let numbers = ints::<u16>(alloc, &[9, 258, 43947, 65535, 9])?;
+    null_where(alloc, numbers, &[true, true, false, true, true])?.slice(alloc, 1..4)
+}
+
 #[test]
 fn numbers_without_a_sign(rt: HostRuntime) {
     let made = ints::<u8>(rt.alloc(), &[0, 255]);
@@ -102,6 +108,11 @@ fn null_numbers_with_a_sign_are_zero(rt: HostRuntime) {
 #[test]
 fn numbers_are_cut_out(rt: HostRuntime) {
     expect_packed(&rt, cut(rt.alloc()), "numbers u8 2 plain 05 06");
+    expect_packed(
+        &rt,
+        cut_with_null(rt.alloc()),
+        "numbers u16? 3 told 0201 0000 ffff (bits bool 3 plain 0:05)",
+    );
 }
 
 #[test]

@@ -1,7 +1,7 @@
 // Truth values.
 
-use super::expect_packed;
-use crate::layouts::null_where;
+use super::{expect_packed, expect_packed_alike};
+use crate::layouts::{counts, named, null_where};
 use std::alloc::Global;
 use vx_base::VortexError;
 use vx_test_help::bools;
@@ -33,6 +33,60 @@ fn cut(alloc: Global) -> Result<ArrayRef, VortexError> {
 // The eleven, of which three are null.
 fn cut_with_nulls(alloc: Global) -> Result<ArrayRef, VortexError> {
     truths(alloc, &TWENTY, &THERE)?.slice(alloc, 5..16)
+}
+
+// The codes 0, 1 and 2 by turns, so many.
+fn turns(alloc: Global, len: usize) -> Result<Vec<u8>, VortexError> {
+    let mut codes = Vec::new(alloc);
+    for i in 0..len {
+        codes.push((i % 3) as u8)?;
+    }
+    Ok(codes)
+}
+
+// True for the code 0, false for 1 and null for 2, with a bit that is set below each null.
+fn by_bits(alloc: Global, codes: &[u8]) -> Result<ArrayRef, VortexError> {
+    let mut values = Vec::new(alloc);
+    let mut valid = Vec::new(alloc);
+    for code in codes {
+        values.push(*code != 1)?;
+        valid.push(*code < 2)?;
+    }
+    truths(alloc, &values, &valid)
+}
+
+// The same by a dictionary, which is read row by row.
+fn by_codes(alloc: Global, codes: &[u8]) -> Result<ArrayRef, VortexError> {
+    let values = truths(alloc, &[true, false, true], &[true, true, false])?;
+    named(alloc, counts(alloc, codes)?, values)
+}
+
+// So many of these rows from the sixth on, in both layouts.
+fn both(alloc: Global, len: usize) -> Result<Vec<ArrayRef>, VortexError> {
+    let codes = turns(alloc, len.saturating_add(9))?;
+    let rows = 5..len.saturating_add(5);
+    let mut made = Vec::new(alloc);
+    made.push(by_bits(alloc, &codes)?.slice(alloc, rows.clone()?)?)?;
+    made.push(by_codes(alloc, &codes)?.slice(alloc, rows)?)?;
+    Ok(made)
+}
+
+#[test]
+fn truths_and_nulls_pack_alike_by_bits_and_by_rows(rt: HostRuntime) {
+    for len in [63, 64, 65, 200] {
+        let made = both(rt.alloc(), len).expect(&rt, "made");
+        expect_packed_alike(&rt, made.as_slice());
+    }
+}
+
+#[test]
+fn many_truths_and_nulls(rt: HostRuntime) {
+    let codes = turns(rt.alloc(), 66).expect(&rt, "made");
+    expect_packed(
+        &rt,
+        by_bits(rt.alloc(), &codes),
+        "bits bool? 66 told 0:499224499224499200 (bits bool 66 plain 0:dbb66ddbb66ddbb601)",
+    );
 }
 
 #[test]

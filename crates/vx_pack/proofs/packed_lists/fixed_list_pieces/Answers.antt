@@ -1,8 +1,7 @@
-use Rattle.std.proofs.Common.{sym, subst, refl}
 use Rattle.std.proofs.lemmas.Result.{MatchResult-weaker}
 use Rattle.vx_base.specs.DTypes.{dtype_meaning}
-use Rattle.vx_pack.proofs.ListPieces.{AreElements-fixed_lists, AreElements-none}
-use Rattle.vx_pack.specs.Lists.{IsItemOf}
+use Rattle.vx_pack.proofs.JoinedPieces.{elements_of_joined}
+use Rattle.vx_pack.proofs.ListPieces.{AreElements-none}
 use Rattle.vx_pack.proofs.packed_lists.fixed_list_pieces.Goals as goal
 
 pub returns-then-size-eq0 : goal.returns-then-size-eq0
@@ -12,8 +11,8 @@ returns-then-size-eq0 c = λ item n kind.
 
 pub returns : goal.returns
 returns c =
-    MatchResult-weaker c.list_pieces.result c.list_pieces.ensures
+    MatchResult-weaker c.joined_pieces.result c.joined_pieces.ensures
     (λ found h item n kind.
-    AreElements-fixed_lists (dtype_meaning c.args.dtype.now) item c.args.size n c.args.pieces.now found.items c.args.len kind
-    c.requires.pieces (h item (subst (IsItemOf item) (sym kind) refl)))
+    elements_of_joined (dtype_meaning c.args.dtype.now) item c.args.size n c.args.pieces.now found.items c.args.len kind
+    c.requires.pieces (h item n kind))
     (λ e h. h)

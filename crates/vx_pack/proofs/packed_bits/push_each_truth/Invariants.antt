@@ -3,7 +3,7 @@ use Rattle.std.specs.List.{range_with_len}
 use Rattle.vx_base.specs.DTypes.{dtype_meaning}
 use Rattle.vx_base.specs.Rows.{truth_of}
 use Rattle.vx_pack.specs.Pieces.{piece_row}
-use Rattle.vx_pack.proofs.packed_bits.push_truths.Given as goal
+use Rattle.vx_pack.proofs.packed_bits.push_each_truth.Given as goal
 
 abbrev pub invariant-loop-i : goal.invariant-loop-i
 invariant-loop-i l = l.bits ≡ l.initial.bits ++ map truth_of (map (piece_row (dtype_meaning l.dtype) l.piece) (range_with_len 0 l.i))
