@@ -15,6 +15,8 @@ pub mod Moved
 pub mod Sixteen
 pub mod UnflaggedFormed
 pub mod ReadBack
+pub mod PackedPlain
+pub mod ColumnRuns
 pub mod RunParts
 pub mod Meant
 pub mod RunFaults

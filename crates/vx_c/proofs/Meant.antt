@@ -7,6 +7,7 @@ use Rattle.vx_base.specs.declared.errors.VortexError.{VortexError}
 use Rattle.vx_base.specs.Refusals.{Refusal, refusal_of, IsMemoryOr, first_fault}
 use Rattle.vx_lists.specs.declared.list_view.rebuild.ListViewRebuildMode.{ListViewRebuildMode}
 use Rattle.vx_run.specs.declared.steps.Step.TheVariants as step
+use Rattle.vx_c.specs.declared.column_steps.ColumnStep.TheVariants as column
 use Rattle.vx_tree.proofs.Dictionaries.{memory_only}
 use Rattle.vx_c.specs.declared.faults.NodeError.TheVariants.{BadMode, Refused}
 use Rattle.vx_c.specs.declared.steps.CodraskStep.{CodraskStep}
@@ -20,16 +21,16 @@ use Rattle.vx_c.proofs.Names.{names-refused, no_bytes}
 
 -- ---- what is meant
 
-pub means_concat : (c : CodraskStep) (arrays : Vec ℕ) → arrays.items ≡ c.arrays.now → MeansStep (Some Concat) c (step.Concat arrays)
+pub means_concat : (c : CodraskStep) (arrays : Vec ℕ) → arrays.items ≡ c.arrays.now → MeansStep (Some Concat) c (column.Of (step.Concat arrays))
 means_concat c arrays same = (arrays, same, refl)
 
-pub means_rebuild : (c : CodraskStep) (mode : ListViewRebuildMode) → mode_numbered c.mode ≡ Some mode → MeansStep (Some Rebuild) c (step.Rebuild c.array mode)
+pub means_rebuild : (c : CodraskStep) (mode : ListViewRebuildMode) → mode_numbered c.mode ≡ Some mode → MeansStep (Some Rebuild) c (column.Of (step.Rebuild c.array mode))
 means_rebuild c mode is = (mode, is, refl)
 
-pub means_project : (c : CodraskStep) (names : Vec (List ℕ)) → names.items ≡ names_in c → MeansStep (Some Project) c (step.Project c.array names)
+pub means_project : (c : CodraskStep) (names : Vec (List ℕ)) → names.items ≡ names_in c → MeansStep (Some Project) c (column.Of (step.Project c.array names))
 means_project c names same = (names, same, refl)
 
-pub means_push : (c : CodraskStep) (remove : Bool) → flag_numbered c.mode ≡ Some remove → MeansStep (Some PushValidity) c (step.PushValidity c.array remove)
+pub means_push : (c : CodraskStep) (remove : Bool) → flag_numbered c.mode ≡ Some remove → MeansStep (Some PushValidity) c (column.Of (step.PushValidity c.array remove))
 means_push c remove is = (remove, is, refl)
 
 -- ---- which fault is answered

@@ -10,12 +10,14 @@ use Rattle.vx_base.specs.declared.errors.VortexError.{VortexError}
 use Rattle.vx_base.specs.declared.errors.VortexError.TheVariants.{Memory, OutOfBounds}
 use Rattle.vx_base.specs.Refusals.{out_of_bounds, IsMemoryOr}
 use Rattle.vx_tree.specs.Tree.{Tree, bools, non_nullable}
-use Rattle.vx_canonical.specs.Canonical.{IsCanonical, canonical_fault}
+use Rattle.vx_canonical.specs.Canonical.{IsCanonical}
+use Rattle.vx_tree.specs.CanonicalFaults.{canonical_fault}
 use Rattle.vx_tree.specs.Faults.{position_fault}
 use Rattle.vx_tree.specs.Fitting.{AllFormed}
 use Rattle.vx_tree.specs.Meaning.{kind_of}
-use Rattle.vx_run.specs.declared.steps.Step.{Step}
-use Rattle.vx_run.specs.Steps.{array_at, HasRun}
+use Rattle.vx_tree.specs.Plain.{IsPlain}
+use Rattle.vx_run.specs.Steps.{array_at}
+use Rattle.vx_c.specs.declared.column_steps.ColumnStep.{ColumnStep}
 use Rattle.vx_c.specs.declared.faults.NodeError.{NodeError}
 use Rattle.vx_c.specs.declared.faults.NodeError.TheVariants.{TooManyNodes, TooManySteps, Refused}
 use Rattle.vx_c.specs.declared.faults.RunError.{RunError}
@@ -28,6 +30,7 @@ use Rattle.vx_c.specs.declared.written.WrittenNode.{WrittenNode}
 use Rattle.vx_c.specs.declared.written.WrittenTable.{WrittenTable}
 use Rattle.vx_c.specs.Tables.{NodeFault, refused, too_many_nodes, column_of}
 use Rattle.vx_c.specs.Answers.{IsFormFault, IsTableFault}
+use Rattle.vx_c.specs.ColumnSteps.{HasColumnRun}
 use Rattle.vx_c.specs.Steps.{IsStepOf, step_form_fault}
 use Rattle.vx_c.specs.Unflagged.{unflagged, least_count, node_count}
 use Rattle.vx_c.specs.Written.{IsWritten, node_of}
@@ -70,11 +73,11 @@ no_column tables i other columns node e inside before fault =
 
 -- ---- steps
 
-pub steps_read : (steps : List CodraskStep) (i : ℕ) (other : CodraskStep) (read made : List Step) (s : Step) → i < length steps
+pub steps_read : (steps : List CodraskStep) (i : ℕ) (other : CodraskStep) (read made : List ColumnStep) (s : ColumnStep) → i < length steps
     → AllZip IsStepOf (take i steps) read → IsStepOf (get_or steps i other) s → made ≡ read ++ s ∷ [] → AllZip IsStepOf (take (i + 1) steps) made
 steps_read steps i other read made s inside before here pushed = taken_more IsStepOf steps i other read made s inside before here pushed
 
-pub no_step : (steps : List CodraskStep) (i : ℕ) (other : CodraskStep) (read : List Step) (e : NodeError) → i < length steps → length steps ≤ MAX_STEPS
+pub no_step : (steps : List CodraskStep) (i : ℕ) (other : CodraskStep) (read : List ColumnStep) (e : NodeError) → i < length steps → length steps ≤ MAX_STEPS
     → AllZip IsStepOf (take i steps) read → IsFormFault e (step_form_fault (get_or steps i other)) → AreStepsOr steps (error.Form i e)
 no_step steps i other read e inside few before fault =
     inr (few, (read, before), there (λ c. IsFormFault e (step_form_fault c)) steps i other inside fault)
@@ -172,15 +175,17 @@ too_long results w a c is few none canonical formed long =
     inr (refl, faultless results w a is few none, (c, subst (λ x. IsCanonical x c) (sym (array_there results w a is)) canonical, formed, long))
 
 pub table_made : (results : List Tree) (w : ℕ) (a c : Tree) (nodes made : List WrittenNode) → slice_get results w ≡ Some a
-    → least_count (kind_of a) ≤ MAX_NODES → canonical_fault a ≡ None → IsCanonical a c → AllFormed c → IsWritten [] (unflagged c ∷ []) nodes
-    → node_count c ≤ MAX_NODES → made ≡ nodes → IsMadeOf results w (column_of (map node_of made))
-table_made results w a c nodes made is few none canonical formed written short kept =
+    → least_count (kind_of a) ≤ MAX_NODES → canonical_fault a ≡ None → IsCanonical a c → (IsPlain a → c ≡ a) → AllFormed c
+    → IsWritten [] (unflagged c ∷ []) nodes → node_count c ≤ MAX_NODES → made ≡ nodes → IsMadeOf results w (column_of (map node_of made))
+table_made results w a c nodes made is few none canonical shared formed written short kept =
     let counted : length (map node_of written.more) ≤ MAX_NODES =
     omega (arith, length-map written.more node_of, ap length written.put, written_alone c nodes written, short) in
     let read : column_of (map node_of made) ≡ Ok (unflagged c) =
     ap (λ ws. column_of (map node_of ws)) (kept ∙ written.put) ∙ tables-column (map node_of written.more) (unflagged c) written.tables counted in
     let of : IsCanonical (array_at results w) c = subst (λ x. IsCanonical x c) (sym (array_there results w a is)) canonical in
-    (faultless results w a is few none, record { plain = c; canonical = of; formed = formed; short = short; is = read })
+    let itself : IsPlain (array_at results w) → c ≡ array_at results w =
+    λ plain. shared (subst IsPlain (array_there results w a is) plain) ∙ sym (array_there results w a is) in
+    (faultless results w a is few none, record { plain = c; canonical = of; shared = itself; formed = formed; short = short; is = read })
 
 -- ---- the whole run
 
@@ -199,7 +204,7 @@ steps_error tables steps wanted columns (error.Form i e) are is = ((columns, are
 steps_error tables steps wanted columns (error.Step i e) are is = absurd (cc)
 steps_error tables steps wanted columns (error.Result i e) are is = absurd (cc)
 
-pub run_error : (tables : List CodraskTable) (steps : List CodraskStep) (wanted : List ℕ) (columns : List Tree) (taken : List Step) (e : RunError)
+pub run_error : (tables : List CodraskTable) (steps : List CodraskStep) (wanted : List ℕ) (columns : List Tree) (taken : List ColumnStep) (e : RunError)
     → AreColumns tables columns → AreSteps steps taken → IsRanOr taken columns e → IsRunError tables steps wanted e
 run_error tables steps wanted columns taken error.Memory are meant is = tt
 run_error tables steps wanted columns taken (error.Table i node e) are meant is = absurd (cc)
@@ -208,8 +213,8 @@ run_error tables steps wanted columns taken (error.Step i e) are meant is =
     record { columns = columns; are = are; taken = taken; meant = meant; results = is.0; ran = is.1; formed = is.2; stops = is.3 }
 run_error tables steps wanted columns taken (error.Result i e) are meant is = absurd (cc)
 
-pub result_error : (tables : List CodraskTable) (steps : List CodraskStep) (wanted : List ℕ) (columns results : List Tree) (taken : List Step) (e : RunError)
-    → AreColumns tables columns → AreSteps steps taken → HasRun taken columns results → All AllFormed results → AreTablesOr results wanted e
+pub result_error : (tables : List CodraskTable) (steps : List CodraskStep) (wanted : List ℕ) (columns results : List Tree) (taken : List ColumnStep) (e : RunError)
+    → AreColumns tables columns → AreSteps steps taken → HasColumnRun taken columns results → All AllFormed results → AreTablesOr results wanted e
     → IsRunError tables steps wanted e
 result_error tables steps wanted columns results taken error.Memory are meant ran formed is = tt
 result_error tables steps wanted columns results taken (error.Table i node e) are meant ran formed is = absurd (cc)
@@ -218,8 +223,8 @@ result_error tables steps wanted columns results taken (error.Step i e) are mean
 result_error tables steps wanted columns results taken (error.Result i e) are meant ran formed is =
     record { columns = columns; are = are; taken = taken; meant = meant; results = results; ran = ran; formed = formed; refused = is }
 
-pub run_made : (tables : List CodraskTable) (steps : List CodraskStep) (wanted : List ℕ) (columns results : List Tree) (taken : List Step)
-    (written : List WrittenTable) (made : List CodraskTable) → AreColumns tables columns → AreSteps steps taken → HasRun taken columns results
+pub run_made : (tables : List CodraskTable) (steps : List CodraskStep) (wanted : List ℕ) (columns results : List Tree) (taken : List ColumnStep)
+    (written : List WrittenTable) (made : List CodraskTable) → AreColumns tables columns → AreSteps steps taken → HasColumnRun taken columns results
     → All AllFormed results
     → AllZip (IsMadeOf results) wanted (map (λ (w : WrittenTable). column_of (map node_of w.nodes.items)) written)
     → map (λ (t : CodraskTable). column_of t.nodes.now) made ≡ map (λ (w : WrittenTable). column_of (map node_of w.nodes.items)) written

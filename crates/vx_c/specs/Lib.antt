@@ -2,6 +2,7 @@ pub mod NodeKinds
 pub mod StepKinds
 pub mod Tables
 pub mod Answers
+pub mod ColumnSteps
 pub mod Steps
 pub mod Unflagged
 pub mod Written

@@ -1,17 +1,19 @@
 -- What a run writes, and why it is refused.
-use Rattle.std.specs.Prelude.{◌≡◌, ◌<◌, ◌≤◌, ◌⊎◌, ℕ, List, length, map, take, Option, Some, None, Result, Ok, Err, IsSomeAnd, slice_get, nat_lt, ◌==◌, if◌then◌else◌}
+use Rattle.std.specs.Prelude.{◌≡◌, ◌<◌, ◌≤◌, ◌⊎◌, ℕ, List, length, map, take, Option, Some, None, Result, Ok, IsSomeAnd, slice_get, nat_lt, ◌==◌, if◌then◌else◌}
 use Rattle.std.specs.List.{All, AllZip}
 use Rattle.std.specs.Option.{option_map}
 use Rattle.vx_base.specs.declared.errors.VortexError.{VortexError}
 use Rattle.vx_base.specs.Kinds.{Kind}
 use Rattle.vx_base.specs.Refusals.{error_number}
 use Rattle.vx_tree.specs.Tree.{Tree}
-use Rattle.vx_canonical.specs.Canonical.{IsCanonical, canonical_fault}
+use Rattle.vx_canonical.specs.Canonical.{IsCanonical}
+use Rattle.vx_tree.specs.CanonicalFaults.{canonical_fault}
 use Rattle.vx_tree.specs.Faults.{position_fault}
 use Rattle.vx_tree.specs.Fitting.{AllFormed}
 use Rattle.vx_tree.specs.Meaning.{kind_of}
-use Rattle.vx_run.specs.declared.steps.Step.{Step}
-use Rattle.vx_run.specs.Steps.{array_at, HasRun, IsStop}
+use Rattle.vx_tree.specs.Plain.{IsPlain}
+use Rattle.vx_run.specs.Steps.{array_at}
+use Rattle.vx_c.specs.declared.column_steps.ColumnStep.{ColumnStep}
 use Rattle.vx_c.specs.declared.faults.NodeError.{NodeError}
 use Rattle.vx_c.specs.declared.faults.NodeError.TheVariants.{TooManyNodes}
 use Rattle.vx_c.specs.declared.faults.RunError.{RunError}
@@ -23,6 +25,7 @@ use Rattle.vx_c.specs.declared.steps.CodraskStep.{CodraskStep}
 use Rattle.vx_c.specs.declared.table.CodraskTable.{CodraskTable}
 use Rattle.vx_c.specs.Tables.{NodeFault, too_many_nodes, too_many_steps, refused, column_of}
 use Rattle.vx_c.specs.Answers.{IsFormFault, IsTableFault, error_place, node_error_number, node_error_place, fault_of}
+use Rattle.vx_c.specs.ColumnSteps.{HasColumnRun, IsColumnStop}
 use Rattle.vx_c.specs.Steps.{IsStepOf, step_form_fault}
 use Rattle.vx_c.specs.Unflagged.{unflagged, least_count, node_count}
 
@@ -37,16 +40,17 @@ abbrev pub AreColumns : List CodraskTable → List Tree → Type 0
 AreColumns tables columns = map column_in tables ≡ map Ok columns
 
 -- the steps that C means, no more than a run may have
-abbrev pub AreSteps : List CodraskStep → List Step → Type 0
+abbrev pub AreSteps : List CodraskStep → List ColumnStep → Type 0
 AreSteps meant steps = (length meant ≤ MAX_STEPS) × AllZip IsStepOf meant steps
 
 -- ---- what is written
 
--- a table that was read is a column: this array, made plain and well formed at every depth, of no more nodes than a table may
--- have, with no flag set
+-- a table that was read is a column: this array, made plain, which is itself where it is plain already, and well formed at every
+-- depth, of no more nodes than a table may have, with no flag set
 pub record IsReadBack (t : Tree) (read : Result Tree (ℕ × NodeFault)) : Type 0 where
   pub plain : Tree
   pub canonical : IsCanonical t plain
+  pub shared : IsPlain t → plain ≡ t
   pub formed : AllFormed plain
   pub short : node_count plain ≤ MAX_NODES
   pub is : read ≡ Ok (unflagged plain)
@@ -64,7 +68,8 @@ or_fault (Some first) second = Some first
 abbrev pub result_fault : List Tree → ℕ → Option NodeFault
 result_fault results w =
     let array = array_at results w in
-    or_fault (option_map refused (position_fault (length results) w)) (or_fault (kind_fault (kind_of array)) (option_map refused (canonical_fault array)))
+    or_fault (option_map refused (position_fault (length results) w))
+    (or_fault (kind_fault (kind_of array)) (option_map refused (canonical_fault array)))
 
 -- the array at a position has no fault, and the table is read back as it
 abbrev pub IsMadeOf : List Tree → ℕ → Result Tree (ℕ × NodeFault) → Type 0
@@ -75,10 +80,10 @@ IsMadeOf results w read = (result_fault results w ≡ None) × IsReadBack (array
 pub record IsMade (tables : List CodraskTable) (steps : List CodraskStep) (wanted : List ℕ) (made : List CodraskTable) : Type 0 where
   pub columns : List Tree
   pub are : AreColumns tables columns
-  pub taken : List Step
+  pub taken : List ColumnStep
   pub meant : AreSteps steps taken
   pub results : List Tree
-  pub ran : HasRun taken columns results
+  pub ran : HasColumnRun taken columns results
   pub formed : All AllFormed results
   pub written : AllZip (IsMadeOf results) wanted (map column_in made)
 
@@ -87,25 +92,26 @@ pub record IsMade (tables : List CodraskTable) (steps : List CodraskStep) (wante
 -- the tables up to one are columns, and that one has a fault at a node
 abbrev pub IsNoColumn : List CodraskTable → ℕ → ℕ × NodeError → Type 0
 IsNoColumn tables i fault =
-    ((columns : List Tree) × AreColumns (take i tables) columns) × IsSomeAnd (slice_get tables i) (λ table. IsTableFault fault (column_in table))
+    ((columns : List Tree) × AreColumns (take i tables) columns)
+    × IsSomeAnd (slice_get tables i) (λ table. IsTableFault fault (column_in table))
 
 -- there are too many steps; or there are not, those up to one are meant, and that one has a fault
 abbrev pub IsNoStep : List CodraskStep → ℕ → NodeError → Type 0
 IsNoStep steps i e =
     ((MAX_STEPS < length steps) × (i ≡ MAX_STEPS) × (fault_of e ≡ Some too_many_steps))
-    ⊎ ((length steps ≤ MAX_STEPS) × ((taken : List Step) × AllZip IsStepOf (take i steps) taken)
+    ⊎ ((length steps ≤ MAX_STEPS) × ((taken : List ColumnStep) × AllZip IsStepOf (take i steps) taken)
     × IsSomeAnd (slice_get steps i) (λ c. IsFormFault e (step_form_fault c)))
 
 -- the columns and the steps, which stop at one; all arrays before it are well formed at every depth
 pub record IsStopped (tables : List CodraskTable) (steps : List CodraskStep) (i : ℕ) (e : VortexError) : Type 0 where
   pub columns : List Tree
   pub are : AreColumns tables columns
-  pub taken : List Step
+  pub taken : List ColumnStep
   pub meant : AreSteps steps taken
   pub results : List Tree
-  pub ran : HasRun (take i taken) columns results
+  pub ran : HasColumnRun (take i taken) columns results
   pub formed : All AllFormed results
-  pub stops : IsStop taken i results e
+  pub stops : IsColumnStop taken i results e
 
 -- an array, made plain and well formed at every depth, has more nodes than a table may have
 abbrev pub IsTooLong : Tree → Type 0
@@ -127,10 +133,10 @@ IsNoResult results wanted i e =
 pub record IsNotMade (tables : List CodraskTable) (steps : List CodraskStep) (wanted : List ℕ) (i : ℕ) (e : NodeError) : Type 0 where
   pub columns : List Tree
   pub are : AreColumns tables columns
-  pub taken : List Step
+  pub taken : List ColumnStep
   pub meant : AreSteps steps taken
   pub results : List Tree
-  pub ran : HasRun taken columns results
+  pub ran : HasColumnRun taken columns results
   pub formed : All AllFormed results
   pub refused : IsNoResult results wanted i e
 
@@ -151,9 +157,9 @@ abbrev pub AreStepsOr : List CodraskStep → RunError → Type 0
 AreStepsOr steps (error.Form i e) = IsNoStep steps i e
 AreStepsOr steps e = e ≡ error.Memory
 
-abbrev pub IsRanOr : List Step → List Tree → RunError → Type 0
+abbrev pub IsRanOr : List ColumnStep → List Tree → RunError → Type 0
 IsRanOr steps columns (error.Step i e) =
-    (results : List Tree) × HasRun (take i steps) columns results × All AllFormed results × IsStop steps i results e
+    (results : List Tree) × HasColumnRun (take i steps) columns results × All AllFormed results × IsColumnStop steps i results e
 IsRanOr steps columns e = e ≡ error.Memory
 
 abbrev pub AreTablesOr : List Tree → List ℕ → RunError → Type 0

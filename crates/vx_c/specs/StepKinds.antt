@@ -4,11 +4,12 @@ use Rattle.vx_lists.specs.declared.list_view.rebuild.ListViewRebuildMode.{ListVi
 use Rattle.vx_lists.specs.declared.list_view.rebuild.ListViewRebuildMode.TheVariants.{MakeZeroCopyToList, TrimElements, MakeExact, OverlapCompression}
 use Rattle.vx_c.specs.declared.steps.StepKind.{StepKind}
 use Rattle.vx_c.specs.declared.steps.StepKind.TheVariants.{Slice, Take, Filter, Mask, Concat, Canonical, Rebuild, Narrow, Project}
-use Rattle.vx_c.specs.declared.steps.StepKind.TheVariants.{WithColumn, RemoveColumn, PushValidity}
+use Rattle.vx_c.specs.declared.steps.StepKind.TheVariants.{WithColumn, RemoveColumn, PushValidity, Pack, Field}
 
 abbrev pub step_kinds : List StepKind
 step_kinds =
-    Slice ∷ Take ∷ Filter ∷ Mask ∷ Concat ∷ Canonical ∷ Rebuild ∷ Narrow ∷ Project ∷ WithColumn ∷ RemoveColumn ∷ PushValidity ∷ []
+    Slice ∷ Take ∷ Filter ∷ Mask ∷ Concat ∷ Canonical ∷ Rebuild ∷ Narrow ∷ Project
+    ∷ WithColumn ∷ RemoveColumn ∷ PushValidity ∷ Pack ∷ Field ∷ []
 
 -- the kind of a number, if there is one
 abbrev pub step_numbered : ℕ → Option StepKind

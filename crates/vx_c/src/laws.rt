@@ -1,12 +1,16 @@
 //! Laws of tables. The functions do nothing: their contracts are the laws.
 
-ghost use Rattle.std.specs.Prelude.{◌≡◌, Ok, Some};
+ghost use Rattle.std.specs.Prelude.{◌≡◌, List, Ok, Some};
+ghost use Rattle.vx_base.specs.Kinds.{Kind};
 ghost use Rattle.vx_base.specs.Refusals.{out_of_bounds};
+ghost use Rattle.vx_base.specs.Rows.{Row};
 ghost use Rattle.vx_canonical.specs.Canonical.{HasRowsOf};
 ghost use Rattle.vx_tree.specs.Fitting.{AllFormed};
 ghost use Rattle.vx_tree.specs.Plain.{IsPlain};
 ghost use Rattle.vx_tree.specs.Tree.{Tree};
 ghost use Rattle.vx_tree.specs.Worked.{signed_numbers, some_booleans, overlapping_lists};
+ghost use Rattle.vx_pack.specs.Packed.{IsPacked};
+ghost use Rattle.vx_c.specs.ColumnSteps.{RunsAreRuns, StopsAreStops};
 ghost use Rattle.vx_c.specs.Runs.{IsReadBack};
 ghost use Rattle.vx_c.specs.Tables.{column_of, table_fault, refused, unknown_kind, missing_nodes, not_one_array};
 ghost use Rattle.vx_c.specs.TablesOf.{TablesAreRead};
@@ -47,4 +51,17 @@ pub fn worked_tables_are_their_arrays()
 /// that a machine holds, of no more nodes than a table may have, has a table.
 pub fn tables_of_plain_arrays_are_read()
     ensures { TablesAreRead }
+{}
+
+/// A run whose steps are all those of `vx_run` is a run of theirs, and is stopped as one is.
+pub fn runs_of_steps_are_runs()
+    ensures runs { RunsAreRuns }
+    ensures stops { StopsAreStops }
+{}
+
+/// A packed array is plain, and what is read back of a plain array is that array without its flags:
+/// so the table of a packed array has the bytes of the packed form, and no others.
+pub fn packed_arrays_are_read_back_as_they_are()
+    ensures plain { (k : Kind) (rs : List Row) (t : Tree) → IsPacked k rs t → IsPlain t }
+    ensures read { (t r : Tree) → IsPlain t → IsReadBack t (Ok r) → r ≡ unflagged t }
 {}

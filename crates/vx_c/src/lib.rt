@@ -7,6 +7,7 @@ ghost use Rattle.vx_c.specs.Tables.{table_fault};
 ghost use Rattle.vx_c.specs.Answers.{IsAnswer, TakesMemory};
 ghost use Rattle.vx_c.specs.Runs.{IsMade, IsToldOf, no_run_fault};
 
+mod column_steps;
 mod counting;
 mod faults;
 pub mod laws;

@@ -3,11 +3,12 @@
 ghost use Rattle.std.specs.Prelude.{IfOk, IfErr, map};
 ghost use Rattle.std.specs.List.{All, AllZip};
 ghost use Rattle.vx_tree.specs.Fitting.{AllFormed};
-ghost use Rattle.vx_run.specs.Steps.{HasRun};
+ghost use Rattle.vx_c.specs.ColumnSteps.{HasColumnRun};
 ghost use Rattle.vx_c.specs.Tables.{column_of};
 ghost use Rattle.vx_c.specs.Written.{node_of};
 ghost use Rattle.vx_c.specs.Runs.{AreColumns, AreSteps, IsMade, IsMadeOf, IsRunError, IsNoTable, AreColumnsOr, AreStepsOr, IsRanOr, AreTablesOr};
 
+use crate::column_steps::ColumnStep;
 use crate::counting::{left_by_array, left_by_kind};
 use crate::faults::{NodeError, RunError};
 use crate::lending::lend_tables;
@@ -19,7 +20,6 @@ use crate::written::WrittenTable;
 use std::alloc::Global;
 use vx_base::VortexError;
 use vx_canonical::ToCanonical;
-use vx_run::{Step, run};
 use vx_tree::ArrayRef;
 
 // The most steps of a run: of so many no nest is made that is too deep for the stack.
@@ -39,7 +39,9 @@ pub(crate) fn run_tables(
     let columns = columns_of(alloc, tables)?;
     let steps = steps_of(alloc, steps)?;
     let results = results_of(alloc, columns, &steps)?;
-    let written = tables_of(alloc, &results, wanted)?;
+    let written = tables_of(alloc, &results, wanted);
+    drop_last_first(results);
+    let written = written?;
     let room = Vec::with_capacity(alloc, written.len())?;
     Ok(lend_tables(written, room))
 }
@@ -62,7 +64,7 @@ fn columns_of(alloc: Global, tables: &[CodraskTable<'_>]) -> Result<Vec<ArrayRef
 
 // The steps that C means.
 #[tactic(auto, using(crate::proofs::RunParts::step_parts))]
-fn steps_of(alloc: Global, steps: &[CodraskStep<'_>]) -> Result<Vec<Step>, RunError>
+fn steps_of(alloc: Global, steps: &[CodraskStep<'_>]) -> Result<Vec<ColumnStep>, RunError>
     ensures ok { IfOk result (λ read. AreSteps steps.now read.items) }
     ensures err { IfErr result (AreStepsOr steps.now) }
 {
@@ -79,25 +81,39 @@ fn steps_of(alloc: Global, steps: &[CodraskStep<'_>]) -> Result<Vec<Step>, RunEr
     Ok(read)
 }
 
-// The arrays after the steps.
+// The arrays after the steps. Room for all is asked for first.
 fn results_of(
     alloc: Global,
-    columns: Vec<ArrayRef>,
-    steps: &[Step],
+    mut arrays: Vec<ArrayRef>,
+    steps: &[ColumnStep],
 ) -> Result<Vec<ArrayRef>, RunError>
-    ensures ok { IfOk result (λ results. HasRun steps.now columns.items results.items) }
+    ensures ok { IfOk result (λ results. HasColumnRun steps.now arrays.items results.items) }
     ensures formed { IfOk result (λ results. All AllFormed results.items) }
-    ensures err { IfErr result (IsRanOr steps.now columns.items) }
+    ensures err { IfErr result (IsRanOr steps.now arrays.items) }
 {
-    match run(alloc, columns, steps) {
-        Ok(results) => {
-            all_formed(&results);
-            Ok(results)
+    if arrays.reserve(steps.len()).is_err() {
+        drop_last_first(arrays);
+        return Err(RunError::Memory);
+    }
+    for (i, step) in steps.iter().enumerate() {
+        match step.apply(alloc, &arrays) {
+            Ok(array) => arrays.push_reserved(array),
+            Err(error) => {
+                all_formed(&arrays);
+                drop_last_first(arrays);
+                return Err(RunError::Step(i, error));
+            }
         }
-        Err(fault) => {
-            all_formed(&fault.arrays);
-            Err(RunError::Step(fault.step, fault.error))
-        }
+    }
+    all_formed(&arrays);
+    Ok(arrays)
+}
+
+// Lets arrays go, the last first: an array shares those before it, so each goes while its parts
+// are still held, and no drop recurses into what another step made.
+fn drop_last_first(mut arrays: Vec<ArrayRef>) {
+    while let Some(array) = arrays.pop() {
+        drop(array);
     }
 }
 

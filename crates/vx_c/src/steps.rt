@@ -7,6 +7,7 @@ ghost use Rattle.vx_c.specs.Answers.{IsFormFault};
 ghost use Rattle.vx_c.specs.StepKinds.{step_numbered, mode_numbered, flag_numbered};
 ghost use Rattle.vx_c.specs.Steps.{form_fault, step_form_fault, MeansStep, IsStepOf};
 
+use crate::column_steps::ColumnStep;
 use crate::faults::NodeError;
 use crate::layouts::name_of;
 use crate::table::CodraskBytes;
@@ -37,7 +38,7 @@ pub struct CodraskStep<'a> {
     pub arrays: &'a [usize],
     /// The names of the columns that are kept.
     pub names: &'a [CodraskBytes<'a>],
-    /// The name of the new column, or of the one that is removed.
+    /// The name of the new column, or of the one that is removed or taken out.
     pub name: &'a [u8],
 }
 
@@ -68,6 +69,10 @@ pub(crate) enum StepKind {
     RemoveColumn,
     // The nulls of records in their columns.
     PushValidity,
+    // The packed form of the rows.
+    Pack,
+    // A column of records, null also where the record is.
+    Field,
 }
 
 impl StepKind {
@@ -88,6 +93,8 @@ impl StepKind {
             StepKind::WithColumn,
             StepKind::RemoveColumn,
             StepKind::PushValidity,
+            StepKind::Pack,
+            StepKind::Field,
         ];
         kinds.get(number as usize).copied()
     }
@@ -114,7 +121,7 @@ fn flag_numbered(number: u32) -> Option<bool>
 }
 
 // The step that C means. Refuses `UnknownKind`, then as its parts are refused.
-pub(crate) fn step_of(alloc: Global, step: &CodraskStep<'_>) -> Result<Step, NodeError>
+pub(crate) fn step_of(alloc: Global, step: &CodraskStep<'_>) -> Result<ColumnStep, NodeError>
     ensures ok { IfOk result (IsStepOf step.now) }
     ensures err { IfErr result (λ e. IsFormFault e (step_form_fault step.now)) }
 {
@@ -125,50 +132,54 @@ pub(crate) fn step_of(alloc: Global, step: &CodraskStep<'_>) -> Result<Step, Nod
 // The step of a kind. Refuses `BadMode` where the kind has no such mode, then `NotUtf8` at the first
 // name that is no text.
 #[tactic(auto, using(crate::proofs::Meant::meant))]
-fn step_of_kind(alloc: Global, kind: StepKind, step: &CodraskStep<'_>) -> Result<Step, NodeError>
+fn step_of_kind(
+    alloc: Global,
+    kind: StepKind,
+    step: &CodraskStep<'_>,
+) -> Result<ColumnStep, NodeError>
     ensures ok { IfOk result (MeansStep (Some kind) step.now) }
     ensures err { IfErr result (λ e. IsFormFault e (form_fault (Some kind) step.now)) }
     ensures sound { IfOk result (λ _. form_fault (Some kind) step.now ≡ None) }
 {
-    let (array, other) = (step.array, step.other);
+    let (array, start, end) = (step.array, step.start, step.end);
+    let (indices, mask, column) = (step.other, step.other, step.other);
     match kind {
-        StepKind::Slice => Ok(Step::Slice {
-            array,
-            start: step.start,
-            end: step.end,
-        }),
-        StepKind::Take => Ok(Step::Take {
-            array,
-            indices: other,
-        }),
-        StepKind::Filter => Ok(Step::Filter { array, mask: other }),
-        StepKind::Mask => Ok(Step::Mask { array, mask: other }),
-        StepKind::Concat => Ok(Step::Concat {
-            arrays: Vec::from_slice(alloc, step.arrays)?,
-        }),
-        StepKind::Canonical => Ok(Step::Canonical { array }),
-        StepKind::Narrow => Ok(Step::Narrow { array }),
+        StepKind::Slice => Ok(ColumnStep::Of(Step::Slice { array, start, end })),
+        StepKind::Take => Ok(ColumnStep::Of(Step::Take { array, indices })),
+        StepKind::Filter => Ok(ColumnStep::Of(Step::Filter { array, mask })),
+        StepKind::Mask => Ok(ColumnStep::Of(Step::Mask { array, mask })),
+        StepKind::Concat => {
+            let arrays = Vec::from_slice(alloc, step.arrays)?;
+            Ok(ColumnStep::Of(Step::Concat { arrays }))
+        }
+        StepKind::Canonical => Ok(ColumnStep::Of(Step::Canonical { array })),
+        StepKind::Narrow => Ok(ColumnStep::Of(Step::Narrow { array })),
         StepKind::Rebuild => {
             let mode = mode_numbered(step.mode).ok_or(NodeError::BadMode)?;
-            Ok(Step::Rebuild { array, mode })
+            Ok(ColumnStep::Of(Step::Rebuild { array, mode }))
         }
         StepKind::PushValidity => {
             let remove = flag_numbered(step.mode).ok_or(NodeError::BadMode)?;
-            Ok(Step::PushValidity { array, remove })
+            Ok(ColumnStep::Of(Step::PushValidity { array, remove }))
         }
-        StepKind::Project => Ok(Step::Project {
-            array,
-            names: field_names(alloc, step.names)?,
-        }),
-        StepKind::WithColumn => Ok(Step::WithColumn {
-            array,
-            name: field_name(alloc, step.name, 0)?,
-            column: other,
-        }),
-        StepKind::RemoveColumn => Ok(Step::RemoveColumn {
+        StepKind::Project => {
+            let names = field_names(alloc, step.names)?;
+            Ok(ColumnStep::Of(Step::Project { array, names }))
+        }
+        StepKind::WithColumn => Ok(ColumnStep::Of(Step::WithColumn {
             array,
             name: field_name(alloc, step.name, 0)?,
-        }),
+            column,
+        })),
+        StepKind::RemoveColumn => {
+            let name = field_name(alloc, step.name, 0)?;
+            Ok(ColumnStep::Of(Step::RemoveColumn { array, name }))
+        }
+        StepKind::Pack => Ok(ColumnStep::Pack { array }),
+        StepKind::Field => {
+            let name = field_name(alloc, step.name, 0)?;
+            Ok(ColumnStep::Field { array, name })
+        }
     }
 }
 

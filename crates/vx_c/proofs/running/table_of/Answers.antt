@@ -15,4 +15,4 @@ returns-clause-ok c =
     let few : least_count (kind_of c.in_ok-array.array.now) ≤ MAX_NODES = search rules in
     let short : node_count c.in_ok-plain.plain ≤ MAX_NODES = search rules in
     table_made c.args.results.now c.args.position c.in_ok-array.array.now c.in_ok-plain.plain nodes c.in_ok-of.field-0.nodes.items is few
-    c.in_ok-plain.ensures.refuses c.in_ok-plain.ensures.canonical c.known.ensures (subst none c.new-nodes.ensures.items c.in_ok-write.ensures.written) short c.in_ok-of.ensures
+    c.in_ok-plain.ensures.refuses c.in_ok-plain.ensures.canonical c.in_ok-plain.ensures.shared c.known.ensures (subst none c.new-nodes.ensures.items c.in_ok-write.ensures.written) short c.in_ok-of.ensures
