@@ -6,6 +6,7 @@ mod columns;
 mod faulty_rows;
 mod foreign_texts;
 mod layouts;
+mod packing;
 mod picked_rows;
 mod refusals;
 mod repacked;

@@ -38,7 +38,7 @@ sliced_has_parts (primitive_shape s) = refl
 sliced_has_parts (constant_shape k r) = refl
 sliced_has_parts (dictionary_shape v s f) = refl
 sliced_has_parts (fixed_list_shape s) = refl
-sliced_has_parts (list_view_shape e s f) = refl
+sliced_has_parts (list_view_shape e o z s f) = refl
 sliced_has_parts (struct_shape s) = refl
 sliced_has_parts (view_shape bs s) = refl
 

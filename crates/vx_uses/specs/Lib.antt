@@ -4,3 +4,4 @@ pub mod ForeignTexts
 pub mod Tables
 pub mod Collected
 pub mod FaultyRows
+pub mod Packing

@@ -2,7 +2,7 @@ use Rattle.std.proofs.Common.{◌≡◌, true, false, sym, ◌∙◌, ap}
 use Rattle.std.proofs.lemmas.Result.{err_from_is_err_and}
 use Rattle.vx_base.specs.Kinds.{is_integers}
 use Rattle.vx_canonical.proofs.JoinedNumbers.{numbers_faultless}
-use Rattle.vx_canonical.specs.Canonical.{canonical_fault}
+use Rattle.vx_tree.specs.CanonicalFaults.{canonical_fault}
 use Rattle.vx_tree.specs.Meaning.{kind_of, rows}
 use Rattle.vx_uses.proofs.TwoFaults.{only_memory}
 use Rattle.vx_uses.proofs.writer.stored_numbers.Goals as goal
