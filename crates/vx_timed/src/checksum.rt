@@ -167,6 +167,31 @@ impl Checksum {
         }
     }
 
+    // All parts of a column: of records those of each of their columns.
+    pub(crate) fn with_column(self, array: &ArrayRef) -> Checksum {
+        match array.layout() {
+            Layout::Struct { columns, .. } => self.with_columns(columns),
+            _ => self.with_part(array),
+        }
+    }
+
+    // All parts of each column that has no columns of its own.
+    fn with_columns(self, columns: &[ArrayRef]) -> Checksum {
+        let mut sum = self;
+        for column in columns {
+            sum = sum.with_part(column);
+        }
+        sum
+    }
+
+    // All parts of a column that has no columns of its own.
+    fn with_part(self, array: &ArrayRef) -> Checksum {
+        match array.layout() {
+            Layout::VarBinView { .. } => self.with_texts(array),
+            _ => self.with_nullable(array),
+        }
+    }
+
     fn with_arrays(self, arrays: &[ArrayRef]) -> Checksum {
         let mut sum = self;
         for array in arrays {

@@ -16,6 +16,8 @@ pub enum Made {
     Lists(ListViewArray),
     /// Texts: their views and their buffers are summed.
     Texts(ArrayRef),
+    /// A column: all of its parts are summed, those of its columns too.
+    Column(ArrayRef),
     /// A validity: its truth values are summed, where it has some.
     Validity(Validity),
     /// Views and the buffers that they refer to.
@@ -56,6 +58,7 @@ impl Made {
             Made::Array(array) => sum.with_nullable(array).value(),
             Made::Lists(lists) => sum.with_list_view(lists).value(),
             Made::Texts(array) => sum.with_texts(array).value(),
+            Made::Column(array) => sum.with_column(array).value(),
             Made::Validity(validity) => sum.with_validity(validity).value(),
             Made::Views(buffers, views) => sum
                 .with_views(views.as_slice())

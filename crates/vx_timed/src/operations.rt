@@ -5,6 +5,7 @@ mod bits;
 mod encodings;
 mod lists;
 mod numbers;
+mod packed;
 mod records;
 mod runs;
 mod texts;
@@ -16,7 +17,7 @@ use crate::fault::Fault;
 use crate::operation::Bench;
 
 // The names of the operations.
-const OPERATIONS: [&str; 107] = [
+const OPERATIONS: [&str; 113] = [
     "rebuild_in_order",
     "rebuild_at_random",
     "rebuild_in_order_null",
@@ -124,6 +125,12 @@ const OPERATIONS: [&str; 107] = [
     "validity_and",
     "validity_not",
     "validity_patch",
+    "pack_lists",
+    "pack_texts",
+    "pack_records",
+    "rows_equal_numbers",
+    "rows_equal_texts",
+    "rows_equal_lists",
 ];
 
 /// Measures each operation, and prints its name before what is printed of it.
@@ -145,6 +152,7 @@ pub fn measure(rt: &HostRuntime, bench: &Bench, name: &str) -> Result<(), Fault>
         "rebuild" | "slice" | "list" | "is" | "fixed" => measure_lists(rt, bench, name),
         "records" | "rebuffer" | "texts" => measure_columns(rt, bench, verb, rest),
         "numbers" | "bools" | "narrow" | "referenced" => measure_leaves(rt, bench, name, rest),
+        "pack" | "rows" => measure_packed(rt, bench, verb, rest),
         _ => measure_parts(rt, bench, verb, name),
     }
 }
@@ -188,6 +196,12 @@ fn measure_leaves(rt: &HostRuntime, bench: &Bench, name: &str, rest: &str) -> Re
         return bench.measure(rt, arrays::ready_bools(alloc, scale, rest)?);
     }
     bench.measure(rt, encodings::ready(alloc, scale, name)?)
+}
+
+// Measures an operation on columns by their rows alone.
+fn measure_packed(rt: &HostRuntime, bench: &Bench, verb: &str, rest: &str) -> Result<(), Fault> {
+    let name = rest.strip_prefix("equal_").unwrap_or(rest);
+    bench.measure(rt, packed::ready(rt.alloc(), bench.scale, verb, name)?)
 }
 
 // Measures an operation on what arrays are made of.
