@@ -6,6 +6,7 @@
 
 mod leaves;
 mod lists;
+mod packed;
 mod parts;
 mod records;
 mod steps;
@@ -1378,7 +1379,7 @@ impl Operation for WriteCounts {
     }
 }
 
-const OPERATIONS: [&str; 109] = [
+const OPERATIONS: [&str; 115] = [
     "rebuild_in_order",
     "rebuild_at_random",
     "rebuild_in_order_null",
@@ -1486,6 +1487,12 @@ const OPERATIONS: [&str; 109] = [
     "validity_and",
     "validity_not",
     "validity_patch",
+    "pack_lists",
+    "pack_texts",
+    "pack_records",
+    "rows_equal_numbers",
+    "rows_equal_texts",
+    "rows_equal_lists",
     "steps_run",
     "steps_direct",
 ];
@@ -1583,6 +1590,8 @@ fn measure(bench: &Bench, name: &str) -> Result<()> {
         "records" => records::measure(bench, rest),
         "validity" => validities::measure(bench, rest),
         "steps" => steps::measure(bench, rest),
+        "pack" => packed::measure_pack(bench, rest),
+        "rows" => packed::measure_equal(bench, rest),
         "mask" => parts::measure_mask(bench, rest),
         "concat" => trees::measure_concat(bench, rest),
         "canonical" => trees::measure_canonical(bench, rest),
