@@ -12,6 +12,8 @@ mod list_arrays;
 #[cfg(test)]
 mod numbers;
 #[cfg(test)]
+mod packed;
+#[cfg(test)]
 mod record_arrays;
 #[cfg(test)]
 mod rows;

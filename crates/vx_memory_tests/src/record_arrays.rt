@@ -166,6 +166,12 @@ fn pushed(alloc: Global, records: &StructArray) -> Result<bool, VortexError> {
     )
 }
 
+// `StructArray::field`.
+fn field_of_records(alloc: Global, records: &StructArray) -> Result<bool, VortexError> {
+    let field = records.field(alloc, "b")?;
+    Ok(field.is_valid(alloc, 0)? && !field.is_valid(alloc, 1)?)
+}
+
 // The calls that change columns.
 fn column_calls(alloc: Global, records: &StructArray) -> Result<bool, VortexError> {
     Ok(
@@ -174,7 +180,8 @@ fn column_calls(alloc: Global, records: &StructArray) -> Result<bool, VortexErro
             && removed(alloc, records)?
             && removed_owned(alloc, records)?
             && joined(alloc, records)?
-            && pushed(alloc, records)?,
+            && pushed(alloc, records)?
+            && field_of_records(alloc, records)?,
     )
 }
 

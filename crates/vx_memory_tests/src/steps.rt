@@ -6,7 +6,7 @@ use std::io::Cursor;
 use vx_base::{FieldName, VortexError};
 use vx_lists::ListViewRebuildMode;
 use vx_memory_help::{End, are_alike, judged};
-use vx_run::{RunFault, Step, run, run_script};
+use vx_run::{RunFault, Step, WriteFault, run, run_script, write_rows};
 use vx_tree::ArrayRef;
 
 // Numbers, indices, truth values, list views and records, as arrays 0 to 4.
@@ -99,6 +99,40 @@ fn steps_on_arrays(rt: HostRuntime) -> Result<(), End> {
 #[test]
 fn steps_on_records(rt: HostRuntime) -> Result<(), End> {
     taken(rt.alloc(), &record_steps(rt.alloc())?)
+}
+
+// `Step::apply`.
+fn applied(alloc: Global, arrays: &[ArrayRef]) -> Result<bool, VortexError> {
+    let step = Step::Narrow { array: 0 };
+    let made = step.apply(alloc, arrays)?;
+    Ok(made.len() == 3)
+}
+
+#[test]
+fn a_step_by_itself(rt: HostRuntime) -> Result<(), End> {
+    let (arrays, copy) = (given(rt.alloc())?, given(rt.alloc())?);
+    judged(applied(rt.alloc(), &arrays), are_alike(&arrays, &copy))
+}
+
+// What is written of the truth values true, false, true, of which two are asked for.
+const SHOWN: &[u8] = b"[true,false,..] of 3";
+
+// `write_rows`: where memory is refused, nothing is written.
+#[test]
+fn rows_as_text(rt: HostRuntime) -> Result<(), End> {
+    let arrays = given(rt.alloc())?;
+    let Some(truths) = arrays.get(2) else {
+        return Err(End::Wrong);
+    };
+    let mut output = Cursor::new([0u8; 32]);
+    let answer = write_rows(rt.alloc(), truths, 2, &mut output);
+    let len = output.position().min(32) as usize;
+    let written = &output.get_ref()[..len];
+    match answer {
+        Ok(()) => judged(Ok(written == SHOWN), true),
+        Err(WriteFault::Memory) => judged(Err(VortexError::Memory), written.is_empty()),
+        Err(WriteFault::Output(_)) => Err(End::Wrong),
+    }
 }
 
 // A script, and what it prints.

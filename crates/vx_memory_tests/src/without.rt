@@ -1,7 +1,7 @@
 // Calls that take no memory: the sweep refuses every request once the arrays are made.
 
 use crate::samples::{
-    LONG, dictionary, first_and_last, ints, lists_of, numbers, pairs, records, texts,
+    LONG, dictionary, first_and_last, ints, lists_of, numbers, pairs, records, samples, texts,
 };
 use crate::typed::typed;
 use std::alloc::Global;
@@ -12,6 +12,7 @@ use vx_lists::{
     ListViewData,
 };
 use vx_memory_help::{End, judged};
+use vx_pack::RowsEqual;
 use vx_structs::{StructArray, StructArrayExt};
 use vx_text::{VarBinViewArray, VarBinViewArrayExt, VarBinViewData};
 use vx_tree::{ArrayRef, TypedArray, Validity};
@@ -227,4 +228,30 @@ fn states_are_read() -> bool {
 #[test]
 fn states_of_validities(_rt: HostRuntime) -> Result<(), End> {
     judged(Ok(states_are_read()), true)
+}
+
+// Whether an array has the rows of the one at that place, and of no other.
+fn is_equal_at(one: &ArrayRef, others: &[ArrayRef], place: usize) -> bool {
+    for (i, other) in others.iter().enumerate() {
+        if one.rows_equal(other) != (i == place) {
+            return false;
+        }
+    }
+    true
+}
+
+// Whether each array has the rows of the one at its place among others, and of no other.
+fn rows_are_compared(some: &[ArrayRef], others: &[ArrayRef]) -> bool {
+    for (place, one) in some.iter().enumerate() {
+        if !is_equal_at(one, others, place) {
+            return false;
+        }
+    }
+    true
+}
+
+#[test]
+fn rows_that_are_compared(rt: HostRuntime) -> Result<(), End> {
+    let (some, others) = (samples(rt.alloc())?, samples(rt.alloc())?);
+    judged(Ok(rows_are_compared(&some, &others)), true)
 }
