@@ -145,7 +145,9 @@ enum codrask_step_kind {
     CODRASK_PROJECT = 8,        /* array, names: the columns of these names */
     CODRASK_WITH_COLUMN = 9,    /* array, name, other: records with one column more */
     CODRASK_REMOVE_COLUMN = 10, /* array, name: records without a column */
-    CODRASK_PUSH_VALIDITY = 11  /* array, mode: the nulls of records in their columns; mode 1 where no record is null any more */
+    CODRASK_PUSH_VALIDITY = 11, /* array, mode: the nulls of records in their columns; mode 1 where no record is null any more */
+    CODRASK_PACK = 12,          /* array: the rows in the one form that they alone determine, with no byte of other rows */
+    CODRASK_FIELD = 13          /* array, name: a column of records, null also where the record is */
 };
 
 /* The modes of CODRASK_REBUILD. */

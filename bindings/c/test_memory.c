@@ -193,7 +193,8 @@ static uint32_t run_each_kind(struct codrask_fault *fault) {
     struct codrask_step steps[] = {step(CODRASK_SLICE, 1),       step(CODRASK_TAKE, 0),          step(CODRASK_FILTER, 0),
                                    step(CODRASK_MASK, 2),        step(CODRASK_CONCAT, 0),        step(CODRASK_CANONICAL, 0),
                                    step(CODRASK_REBUILD, 1),     step(CODRASK_NARROW, 2),        step(CODRASK_PROJECT, 0),
-                                   step(CODRASK_WITH_COLUMN, 0), step(CODRASK_REMOVE_COLUMN, 0), step(CODRASK_PUSH_VALIDITY, 0)};
+                                   step(CODRASK_WITH_COLUMN, 0), step(CODRASK_REMOVE_COLUMN, 0), step(CODRASK_PUSH_VALIDITY, 0),
+                                   step(CODRASK_PACK, 0),        step(CODRASK_PACK, 1),          step(CODRASK_FIELD, 0)};
     size_t wanted[COUNT(steps)];
     struct codrask_columns results = CODRASK_NO_COLUMNS;
     struct codrask_run_fault told;
@@ -206,6 +207,7 @@ static uint32_t run_each_kind(struct codrask_fault *fault) {
     steps[9].name = (const uint8_t *)"c", steps[9].name_size = 1, steps[9].other = 2;
     steps[10].name = names[0].bytes, steps[10].name_size = 1;
     steps[11].mode = 1;
+    steps[14].name = names[0].bytes, steps[14].name_size = 1;
     for (size_t i = 0; i < COUNT(steps); i++)
         wanted[i] = COUNT(columns) + i;
     uint32_t number = codrask_run(columns, COUNT(columns), steps, COUNT(steps), wanted, COUNT(wanted), &results, &told);

@@ -100,6 +100,139 @@ static void rows_of_lists(void) {
     codrask_columns_free(&made);
 }
 
+static struct codrask_step field(size_t array, const char *name) {
+    struct codrask_step s = step(CODRASK_FIELD, array);
+    s.name = (const uint8_t *)name, s.name_size = strlen(name);
+    return s;
+}
+
+/* A view of a text that stands in a buffer. */
+static struct codrask_view view(const char *text, uint32_t offset, uint32_t size) {
+    struct codrask_view v = {{0}};
+    memcpy(v.bytes, &size, 4), memcpy(v.bytes + 4, text + offset, 4), memcpy(v.bytes + 12, &offset, 4);
+    return v;
+}
+
+/* Three records, their second null where they have bits: texts "a first text of 24 bytes", "under a null record", null, and lists
+ * [1, 2], [3], [4, 5, 6]. */
+static const char text[] = "a first text of 24 bytesunder a null record";
+static const uint8_t record_bits[] = {5}, text_bits[] = {3};
+static const int32_t list_offsets[] = {0, 2, 3}, list_sizes[] = {2, 1, 3}, list_elements[] = {1, 2, 3, 4, 5, 6};
+static struct codrask_view text_views[3];
+static const struct codrask_bytes text_buffer = {(const uint8_t *)text, sizeof text - 1};
+static const struct codrask_bytes record_names[] = {{(const uint8_t *)"t", 1}, {(const uint8_t *)"l", 1}};
+static struct codrask_node record_nodes[8];
+
+static struct codrask_column records(uint32_t validity) {
+    struct codrask_node *n = record_nodes;
+    *n = node(CODRASK_STRUCT, validity, 3), n->buffers = record_names, n->buffer_count = 2, n++;
+    if (validity == CODRASK_BY_ARRAY)
+        *n++ = truths(3, record_bits);
+    text_views[0] = view(text, 0, 24), text_views[1] = view(text, 24, 19), text_views[2] = view(text, 0, 24);
+    *n = node(CODRASK_UTF8_VIEW, CODRASK_BY_ARRAY, 3), n->views = text_views, n->view_count = 3, n->buffers = &text_buffer, n->buffer_count = 1, n++;
+    *n++ = truths(3, text_bits);
+    *n++ = node(CODRASK_LIST_VIEW, CODRASK_NON_NULLABLE, 3);
+    *n++ = numbers(CODRASK_I32, 6, SLICE(list_elements));
+    *n++ = numbers(CODRASK_I32, 3, SLICE(list_offsets));
+    *n++ = numbers(CODRASK_I32, 3, SLICE(list_sizes));
+    return (struct codrask_column){record_nodes, (size_t)(n - record_nodes)};
+}
+
+static int has_views(const struct codrask_node *n, const struct codrask_view *views, size_t count, const void *bytes, size_t size) {
+    return n->kind == CODRASK_UTF8_VIEW && n->length == count && n->view_count == count && !memcmp(n->views, views, 16 * count) && n->buffer_count == 1
+           && n->buffers[0].count == size && !memcmp(n->buffers[0].bytes, bytes, size);
+}
+
+static int has_bits(const struct codrask_node *n, int first, int second, int third) {
+    return n->kind == CODRASK_BOOL && n->length == 3 && is_true(n, 0) == first && is_true(n, 1) == second && is_true(n, 2) == third;
+}
+
+static void fields_of_records(void) {
+    struct codrask_column whole = records(CODRASK_NON_NULLABLE);
+    struct codrask_step s = field(0, "t");
+    const struct codrask_node *n = result(&whole, 1, &s, 1, 1);
+    tell("a text of records without nulls", n && made.columns[0].count == 2 && n->kind == CODRASK_UTF8_VIEW && n->length == 3 && n->validity == CODRASK_BY_ARRAY
+                                                && !memcmp(n->views, text_views, 32) && has_bits(n + 1, 1, 1, 0));
+    codrask_columns_free(&made);
+    s = field(0, "l");
+    n = result(&whole, 1, &s, 1, 1);
+    tell("a list of records without nulls", n && made.columns[0].count == 4 && n->kind == CODRASK_LIST_VIEW && n->validity == CODRASK_NON_NULLABLE
+                                                && has(n + 1, CODRASK_I32, SLICE(list_elements)) && has(n + 2, CODRASK_I32, SLICE(list_offsets))
+                                                && has(n + 3, CODRASK_I32, SLICE(list_sizes)));
+    codrask_columns_free(&made);
+    struct codrask_column some = records(CODRASK_BY_ARRAY);
+    s = field(0, "t");
+    n = result(&some, 1, &s, 1, 1);
+    tell("a text of records with nulls", n && made.columns[0].count == 2 && n->kind == CODRASK_UTF8_VIEW && n->length == 3 && n->validity == CODRASK_BY_ARRAY
+                                             && !memcmp(n->views, text_views, 16) && has_bits(n + 1, 1, 0, 0));
+    codrask_columns_free(&made);
+    s = field(0, "l");
+    n = result(&some, 1, &s, 1, 1);
+    tell("a list of records with nulls", n && made.columns[0].count == 5 && n->kind == CODRASK_LIST_VIEW && n->validity == CODRASK_BY_ARRAY
+                                             && has_bits(n + 1, 1, 0, 1) && has(n + 2, CODRASK_I32, SLICE(list_elements)));
+    codrask_columns_free(&made);
+}
+
+/* What is packed has no byte of a row that was cut away: of the texts the second alone, of the lists the last two, and the
+ * records with all that is null blank. */
+static void packed_rows(void) {
+    struct codrask_column whole = records(CODRASK_NON_NULLABLE);
+    struct codrask_step cut[] = {field(0, "t"), step(CODRASK_SLICE, 1), step(CODRASK_PACK, 2)};
+    cut[1].start = 1, cut[1].end = 2;
+    struct codrask_view second = view("under a null record", 0, 19);
+    const struct codrask_node *n = result(&whole, 1, cut, 3, 3);
+    tell("pack of a sliced text", n && made.columns[0].count == 1 && n->validity == CODRASK_ALL_VALID && has_views(n, &second, 1, text + 24, 19));
+    codrask_columns_free(&made);
+    int32_t elements[] = {3, 4, 5, 6}, offsets[] = {0, 1}, sizes[] = {1, 3};
+    cut[0] = field(0, "l"), cut[1].end = 3;
+    n = result(&whole, 1, cut, 3, 3);
+    tell("pack of a sliced list", n && made.columns[0].count == 4 && n->kind == CODRASK_LIST_VIEW && n->length == 2 && n->validity == CODRASK_NON_NULLABLE
+                                      && has(n + 1, CODRASK_I32, SLICE(elements)) && has(n + 2, CODRASK_I32, SLICE(offsets))
+                                      && has(n + 3, CODRASK_I32, SLICE(sizes)));
+    codrask_columns_free(&made);
+    struct codrask_column some = records(CODRASK_BY_ARRAY);
+    struct codrask_step pack = step(CODRASK_PACK, 0);
+    int32_t left[] = {1, 2, 4, 5, 6}, starts[] = {0, 2, 2}, counts[] = {2, 0, 3};
+    struct codrask_view texts[] = {view(text, 0, 24), {{0}}, {{0}}};
+    n = result(&some, 1, &pack, 1, 1);
+    tell("pack of records", n && made.columns[0].count == 8 && n->kind == CODRASK_STRUCT && n->length == 3 && has_bits(n + 1, 1, 0, 1)
+                                && has_views(n + 2, texts, 3, text, 24) && has_bits(n + 3, 1, 0, 0) && has(n + 5, CODRASK_I32, SLICE(left))
+                                && has(n + 6, CODRASK_I32, SLICE(starts)) && has(n + 7, CODRASK_I32, SLICE(counts)));
+    codrask_columns_free(&made);
+}
+
+static int is_same_slice(const void *a, size_t a_size, const void *b, size_t b_size) {
+    return a_size == b_size && !memcmp(a, b, a_size);
+}
+
+static int is_same_node(const struct codrask_node *a, const struct codrask_node *b) {
+    int same = a->kind == b->kind && a->validity == b->validity && a->size == b->size && a->length == b->length && a->offset == b->offset
+               && is_same_slice(a->bytes, a->byte_count, b->bytes, b->byte_count) && is_same_slice(a->views, 16 * a->view_count, b->views, 16 * b->view_count)
+               && a->buffer_count == b->buffer_count;
+    for (size_t i = 0; same && i < a->buffer_count; i++)
+        same = is_same_slice(a->buffers[i].bytes, a->buffers[i].count, b->buffers[i].bytes, b->buffers[i].count);
+    return same;
+}
+
+/* Packed once, packed twice, and packed of the same records taken in turn, backwards twice. */
+static void packed_twice(void) {
+    int32_t backwards[] = {2, 1, 0};
+    struct codrask_node turn = numbers(CODRASK_I32, 3, SLICE(backwards));
+    struct codrask_column columns[] = {records(CODRASK_BY_ARRAY), {&turn, 1}};
+    struct codrask_step steps[] = {step(CODRASK_PACK, 0), step(CODRASK_PACK, 2), step(CODRASK_TAKE, 0), step(CODRASK_TAKE, 4), step(CODRASK_PACK, 5)};
+    steps[2].other = steps[3].other = 1;
+    size_t wanted[] = {2, 3, 6};
+    made = CODRASK_NO_COLUMNS;
+    int same = codrask_run(columns, 2, steps, 5, wanted, 3, &made, &fault) == 0 && made.count == 3;
+    for (size_t i = 1; same && i < 3; i++) {
+        same = made.columns[i].count == made.columns[0].count;
+        for (size_t k = 0; same && k < made.columns[0].count; k++)
+            same = is_same_node(made.columns[i].nodes + k, made.columns[0].nodes + k);
+    }
+    tell("packed twice", same);
+    codrask_columns_free(&made);
+}
+
 static void refuse(const char *what, const struct codrask_column *columns, size_t count, const struct codrask_step *steps, size_t step_count,
                    size_t wanted, uint32_t number, uint32_t part, size_t which, size_t node_at, size_t place) {
     made = CODRASK_NO_COLUMNS;
@@ -121,7 +254,7 @@ static void refusals(void) {
     refuse("a slice past the rows", columns, 1, s, 2, 0, CODRASK_OUT_OF_BOUNDS, CODRASK_IN_STEP, 1, 0, 4);
     s[1].array = 9, s[1].end = 2;
     refuse("no array", columns, 1, s, 2, 0, CODRASK_OUT_OF_BOUNDS, CODRASK_IN_STEP, 1, 0, 9);
-    s[1].kind = 12;
+    s[1].kind = 14;
     refuse("no step", columns, 1, s, 2, 0, CODRASK_UNKNOWN_KIND, CODRASK_IN_STEP, 1, 0, 0);
     s[1].kind = CODRASK_REBUILD, s[1].mode = 4;
     refuse("no mode", columns, 1, s, 2, 0, CODRASK_BAD_MODE, CODRASK_IN_STEP, 1, 0, 0);
@@ -133,11 +266,31 @@ static void refusals(void) {
     refuse("too many steps", columns, 1, many, COUNT(many), 0, CODRASK_TOO_MANY_STEPS, CODRASK_IN_STEP, 1024, 0, 0);
 }
 
+static void refused_columns(void) {
+    int32_t all[] = {7, 8, 9};
+    struct codrask_node t = numbers(CODRASK_I32, 3, SLICE(all));
+    struct codrask_column columns[] = {records(CODRASK_BY_ARRAY), {&t, 1}};
+    struct codrask_step s = field(0, "T");
+    refuse("no column of the name", columns, 2, &s, 1, 0, CODRASK_UNKNOWN_FIELD, CODRASK_IN_STEP, 0, 0, 0);
+    s = field(1, "t");
+    refuse("a column of numbers", columns, 2, &s, 1, 0, CODRASK_MISMATCHED_TYPES, CODRASK_IN_STEP, 0, 0, 0);
+    s = field(9, "t");
+    refuse("a column of no array", columns, 2, &s, 1, 0, CODRASK_OUT_OF_BOUNDS, CODRASK_IN_STEP, 0, 0, 9);
+    s = field(0, "\xff");
+    refuse("a column of no text", columns, 2, &s, 1, 0, CODRASK_NOT_UTF8, CODRASK_IN_STEP, 0, 0, 0);
+    s = step(CODRASK_PACK, 2);
+    refuse("pack of no array", columns, 2, &s, 1, 0, CODRASK_OUT_OF_BOUNDS, CODRASK_IN_STEP, 0, 0, 2);
+}
+
 int main(void) {
     rows_of_numbers();
     rows_of_codes();
     rows_of_lists();
+    fields_of_records();
+    packed_rows();
+    packed_twice();
     refusals();
+    refused_columns();
     printf("%d passed, %d failed\n", passed, failed);
     return failed != 0;
 }

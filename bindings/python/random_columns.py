@@ -11,12 +11,12 @@ def numbers_of(numbers, type_name, validity=None):
     return Column.numbers(type_name, struct.pack(f"<{len(numbers)}{LETTERS[type_name]}", *numbers), validity)
 
 
-def bits_of(r, truths):
+def bits_of(r, truths, validity=None):
     """Truth values as bits, from a random bit on; what stands around them is random too."""
     offset = r.randrange(20)
     bits = [r.random() < 0.5 for _ in range(offset)] + truths
     data = sum(bit << i for i, bit in enumerate(bits)) | r.getrandbits(8) << len(bits)
-    return Column.bools(data.to_bytes(len(bits) // 8 + 2, "little"), len(truths), offset=offset)
+    return Column.bools(data.to_bytes(len(bits) // 8 + 2, "little"), len(truths), validity, offset)
 
 
 def random_validity(r, count):
@@ -35,27 +35,29 @@ def random_numbers(r, count, _depth, validity, _is_valid):
 
 def random_bools(r, count, _depth, validity, _is_valid):
     truths = [r.random() < 0.5 for _ in range(count)]
-    plain = sum(truth << i for i, truth in enumerate(truths)).to_bytes(count // 8 + 1, "little")
-    return Column.bools(plain, count, validity), truths
+    return bits_of(r, truths, validity), truths
 
 
-def view_of(r, value, buffers):
-    """The view of a value; a long one is put into one of the buffers."""
+def view_of(r, value, buffers, known):
+    """The view of a value; a long one is put into one of the buffers, or lies where it was put before."""
     if len(value) <= 12:
         return struct.pack("<I12s", len(value), value)
-    place = r.randrange(len(buffers))
-    start = len(buffers[place])
-    buffers[place] += value + b"\xff" * r.randrange(3)
-    return struct.pack("<I4sII", len(value), value[:4], place, start)
+    if value not in known or r.random() < 0.5:
+        place = r.randrange(len(buffers))
+        known[value] = place, len(buffers[place])
+        buffers[place] += value + b"\xff" * r.randrange(3)
+    return struct.pack("<I4sII", len(value), value[:4], *known[value])
 
 
 def random_values(r, count, _depth, validity, is_valid):
-    """Texts or byte lists; the view of a null row is of no matter."""
+    """Texts or byte lists, of which some stand in several rows; the view of a null row is of no matter."""
     binary = r.random() < 0.5
     texts = ["".join(r.choice("a\u00e9\u4e2d\U0001f600") for _ in range(r.randrange(16))) for _ in range(count)]
-    values = [r.getrandbits(8 * len(text)).to_bytes(len(text), "big") if binary else text.encode() for text in texts]
-    buffers = [bytearray(b"\xff" * r.randrange(3)) for _ in range(3)]
-    views = [view_of(r, v, buffers) if ok else r.getrandbits(128).to_bytes(16, "big") for v, ok in zip(values, is_valid)]
+    texts = [r.choice(texts) if r.random() < 0.3 else text for text in texts]
+    given = [text.encode() for text in texts]
+    values = [text[::-1] + b"\xfe" * (len(text) % 3) for text in given] if binary else given
+    buffers, known = [bytearray(b"\xff" * r.randrange(3)) for _ in range(3)], {}
+    views = [view_of(r, v, buffers, known) if ok else r.getrandbits(128).to_bytes(16, "big") for v, ok in zip(values, is_valid)]
     return Column.views(b"".join(views), buffers, validity, binary), values if binary else texts
 
 

@@ -1,4 +1,5 @@
-"""What to_pylist costs, in seconds of a processor, the least of five runs: of columns of a million rows that have passed."""
+"""What to_pylist, to_arrow and to_arrow(packed=False) cost, in seconds of a processor, the least of five runs: of columns of a million
+rows that have passed."""
 
 import struct
 import time
@@ -34,13 +35,14 @@ def lists():
     return Column.from_pylist([[i] for i in range(COUNT)], "list<i64>")
 
 
-def seconds(column):
-    """How long the rows take to be read."""
+def seconds(call):
+    """How long a call takes."""
     start = time.process_time()
-    column.to_pylist()
+    call()
     return time.process_time() - start
 
 
 for made in (integers, floats, short_texts, other_texts, long_texts, lists):
     of = made().check()
-    print(f"{made.__name__.replace('_', ' '):14} {min(seconds(of) for _ in range(5)):.2f}")
+    calls = (of.to_pylist, of.to_arrow, lambda of=of: of.to_arrow(packed=False))
+    print(f"{made.__name__.replace('_', ' '):14} {'  '.join(f'{min(seconds(call) for _ in range(5)):.2f}' for call in calls)}")

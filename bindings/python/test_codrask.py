@@ -67,8 +67,8 @@ def test_records():
     assert refused(Column.records([(b"\xff", i32(1))], 1)) == ("NotUtf8", 13, 0, 0)
 
 
-def there_and_back(column, by_offsets):
-    made = column.to_arrow(by_offsets)
+def there_and_back(column, by_offsets, packed=False):
+    made = column.to_arrow(by_offsets, packed=packed)
     return Column.from_arrow(made.schema_pointer, made.array_pointer, made).to_pylist()
 
 
@@ -84,10 +84,12 @@ def test_arrow():
         {"t": "a longer text", "n": 98, "p": [3, 4], "l": None, "d": "abc"},
     ]
     for by_offsets in (False, True):
-        assert there_and_back(records, by_offsets) == wanted, there_and_back(records, by_offsets)
+        for packed in (False, True):
+            assert there_and_back(records, by_offsets, packed) == wanted, there_and_back(records, by_offsets, packed)
     assert records.to_arrow(True).array.n_children == 5
-    formats = [records.to_arrow(True).schema.children[i].contents.format for i in range(5)]
-    assert formats == [b"u", b"C", b"+w:2", b"+l", b"c"], formats
+    for packed, of_codes in ((False, b"c"), (True, b"u")):
+        formats = [child.format for child in records.to_arrow(True, packed=packed).schema.children]
+        assert formats == [b"u", b"C", b"+w:2", b"+l", of_codes], formats
 
 
 def test_arrow_name():
@@ -105,7 +107,7 @@ def test_arrow_refused():
     whole = Column.numbers("i32", b"abc")
     for column, told in ((apart, ("NotEndToEnd", 0)), (nested, ("NotEndToEnd", 2)), (whole, ("LengthMismatch", 0))):
         try:
-            column.to_arrow(by_offsets=True)
+            column.to_arrow(by_offsets=True, packed=False)
         except Refused as refusal:
             assert (refusal.name, refusal.node) == told, refusal
         else:
@@ -180,6 +182,7 @@ def test_random_columns():
         column, rows = random_column(r, r.randrange(6), 3)
         assert column.to_pylist() == rows, seed
         assert there_and_back(column, False) == rows, seed
+        assert there_and_back(column, False, True) == there_and_back(column, True, True) == rows, seed
         assert column.run([Step.canonical(0)]).to_pylist() == rows, seed
         try:
             assert there_and_back(column, True) == rows, seed

@@ -81,9 +81,9 @@ def test_each_type():
         for count in (len(rows), 0):
             column = made(rows[:count], type)
             assert column.type == type and column.to_pylist() == rows[:count] and list(column) == rows[:count], (type, column)
-            again = Column.from_arrow(column)
+            again = Column.from_arrow(column.to_arrow(packed=False))
             assert again == column and again.type.replace("?", "") == type.replace("?", ""), (type, again)
-            assert column.slice(0) == column
+            assert column.slice(0) == column and Column.from_arrow(column).to_pylist() == rows[:count], type
 
 
 def test_integers():

@@ -455,7 +455,7 @@ def test_requested_schema():
     assert structures(pair)[0].format == b"+l"
     apart = Column.list_views(Column.numbers("u8", b"ab"), Column.numbers("u8", b"\1\0"), Column.numbers("u8", b"\1\1"))
     pair = apart.__arrow_c_array__(of.lists([], of.numbers).__arrow_c_schema__())
-    assert structures(pair)[0].format == b"+vL"
+    assert structures(pair)[0].format == b"+l"
     for wrong in (5, pair[1], None):
         try:
             made = column.__arrow_c_array__(wrong)

@@ -12,7 +12,7 @@ import traceback
 
 import codrask
 import stand_in as of
-from codrask import Column, Refused, library
+from codrask import Column, Refused, Step, library, run
 
 FOLDER = os.path.dirname(os.path.abspath(codrask.__file__))
 
@@ -87,6 +87,8 @@ def test_an_older_library():
     for call in (lambda: Column.from_arrow(*places, columns=["a"]), lambda: Column.from_arrow(whole), out):
         error = with_library(older, call)
         assert isinstance(error, ImportError) and "it is older than this package" in str(error), error
+    error = with_library(library.load(), lambda: run([Column.from_pylist([1], "u8")], [Step._of(99, array=0)]))
+    assert isinstance(error, ImportError) and "has no step 99: it is older than this package" in str(error), error
     array.part.n_buffers = 7
     error = with_library(older, lambda: Column.from_arrow(*places))
     assert isinstance(error, Refused) and str(error) == "BadArrow (number 64) at node 0, row or position 0", error

@@ -7,7 +7,7 @@ import re
 import struct
 from typing import Callable, NamedTuple, Optional
 
-from .nodes import DICTIONARY, FIXED_SIZE_LIST, LIST_VIEW, NON_NULLABLE, NUMBERS, STRUCT, WIDTHS, ends, parts_of
+from .nodes import FIXED_SIZE_LIST, LIST_VIEW, NON_NULLABLE, NUMBERS, STRUCT, WIDTHS, ends, parts_of
 
 NULL, ORDERED, MAPS = "n", "ordered", ("+m", "+m sorted")
 MOST = 2**31 - 1  # the greatest width, and the greatest scale of decimals
@@ -128,7 +128,7 @@ def _has_form(nodes, one):
     if one.word in MAPS:
         return bool(entries_of(nodes, one.inner))
     if one.word == ORDERED:
-        return nodes[one.inner].kind == DICTIONARY
+        return True
     form = format_of(one.word)
     return kept(nodes, one.inner)[0] == (0 if one.word == NULL else form.width if form else None)
 

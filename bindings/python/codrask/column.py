@@ -8,17 +8,19 @@ from .arguments import NO_LISTS, U32, address, choice, each, encoded, instance, 
 from .arrow import Arrow, held
 from .capsules import capsule_of, requested_by_offsets
 from .equal import same_rows
-from .faults import MEMORY, NOT_END_TO_END, TOO_MANY_NODES, Refused, refusal
+from .faults import MEMORY, TOO_MANY_BYTES, TOO_MANY_NODES, Refused, refusal
 from .library import Fault, Limits, load
 from .made import nodes_of
 from .memory import bytes_in, raw, raw_or_numbers
 from .nulls import null_count
+from .packing import takes_more, with_names
 from .reading import Asked, gives_arrays, nodes_at, read_given
 from .rows import rows_of
 from .window import rows_between
 from .words import path_of, type_from, types_of
 
 MOST_VALUES = 2**27
+MOST_PACKED, TIMES_PACKED = 2**30, 8
 AT_ONCE, MOST_AT_ONCE = 2**14, 2**22
 SHOWN_ROWS, SHOWN_VALUES, SHOWN_TYPE = 5, 1000, 80
 
@@ -234,29 +236,34 @@ class Column:
             raise fault
         return self
 
-    def to_arrow(self, by_offsets=False, most_bytes=None):
-        """This column as an `Arrow`, in blocks of its own. Raises `Refused` where it is no column, or takes more bytes than
-        `most_bytes`, by default 8 MiB or 8 times the distinct bytes that it has. Texts, byte lists and lists are written by
-        views, or by offsets, and then `NotEndToEnd` is raised where lists do not lie one after another. A column that was an
-        Arrow array keeps its name."""
-        flags, limits = int(truth("by_offsets", by_offsets)), _limits(most_bytes)
-        nodes, made, fault = self._private(), Arrow(), Fault()
+    def to_arrow(self, by_offsets=False, most_bytes=None, packed=True):
+        """This column as an `Arrow`, in blocks of its own. Packed, its bytes are those of its rows and no others, as `pack` makes
+        them. With `packed=False` the parts go out as they are: elements and buffers of rows that were cut away go along, and a
+        dictionary stays one.
+
+        Texts, byte lists and lists are written by views, or by offsets; only with `packed=False` these may be refused, as
+        `NotEndToEnd`, where lists do not lie one after another. A column that was an Arrow array keeps its name. Raises `Refused`
+        where it is no column, or takes more than `most_bytes`: by default 1 GiB, with `packed=False` 8 MiB, or 8 times the distinct
+        bytes that it has."""
+        flags, most = int(truth("by_offsets", by_offsets)), _most(most_bytes)
+        column = self._packed(most) if truth("packed", packed) else self
+        nodes, limits, made, fault = column._private(), Limits(most), Arrow(), Fault()
         into = made._schema, made._array, ctypes.byref(fault)
-        if load().codrask_write_arrow(of.given(nodes), len(nodes), flags, self._name, limits, *into):
+        if load().codrask_write_arrow(of.given(nodes), len(nodes), flags, self._name, ctypes.byref(limits), *into):
             raise refusal(fault)
-        self._pass(nodes)
+        column._pass(nodes)
         return made
 
+    def _packed(self, most):
+        """The packed form, where it has no more bytes than it may: they are counted before any is made."""
+        if takes_more(self._checked(), most or max(MOST_PACKED, TIMES_PACKED * self.nbytes)):
+            raise Refused(TOO_MANY_BYTES)
+        return self.pack()
+
     def __arrow_c_array__(self, requested_schema=None):
-        """The column in two capsules, of a schema and of an array, in blocks of their own. Texts and lists are laid out by
-        views, or by offsets where the requested schema asks for these and they can be; another request is passed over."""
-        by_offsets = requested_schema is not None and requested_by_offsets(requested_schema)
-        try:
-            made = self.to_arrow(by_offsets)
-        except Refused as refused:
-            if not by_offsets or refused.number != NOT_END_TO_END:
-                raise
-            made = self.to_arrow()
+        """The column in two capsules, of a schema and of an array, in blocks of their own, packed as `to_arrow` does. Texts and
+        lists are laid out by views, or by offsets where the requested schema asks for these; another request is passed over."""
+        made = self.to_arrow(requested_schema is not None and requested_by_offsets(requested_schema))
         return capsule_of(made._schema), capsule_of(made._array)
 
     def __arrow_c_schema__(self):
@@ -317,6 +324,18 @@ class Column:
         """The rows at which a mask is true, a column of truth values or a list of them."""
         return _ran([self, _column_of("mask", mask, "bool")], [_step().filter(0, 1)], self._name)
 
+    def field(self, name):
+        """The first column of a name in records, null also where the record is. It goes out under this name."""
+        name = encoded("name", name)
+        return _ran([self], [_step().field(0, name)], b"" if b"\0" in name else name)
+
+    def pack(self):
+        """The rows in packed form, which is made of the type and the rows alone: with equal rows of one type it is the same, byte
+        for byte. What was cut away before is no part of it; dictionaries become plain, and lists lie one after another."""
+        made = _ran([self], [_step().pack(0)], self._name)
+        made._nodes = with_names(made._nodes, self._nodes)
+        return made
+
     # ---- numpy
 
     def to_numpy(self):
@@ -346,19 +365,18 @@ def _validity(validity, parts):
     raise wrong(TypeError, "validity", "None, True, False or a Column", shown(validity))
 
 
-def _limits(most_bytes):
-    """How many bytes a call may take, None where the library tells."""
-    return None if most_bytes is None else ctypes.byref(Limits(integer("most_bytes", most_bytes, least=1)))
+def _most(most_bytes):
+    """How many bytes a call may take, 0 where that is not said."""
+    return 0 if most_bytes is None else integer("most_bytes", most_bytes, least=1)
 
 
 def _asked(most_bytes, columns):
     """What is asked of the reading of Arrow arrays."""
-    most = 0 if most_bytes is None else integer("most_bytes", most_bytes, least=1)
     names = () if columns is None else tuple(each("columns", columns, "names", encoded))
     for place, name in enumerate(names):
         if b"\0" in name:
             raise wrong(ValueError, f"columns[{place}]", "a name without a byte 0", shown(name))
-    return Asked(most, names, columns is not None)
+    return Asked(_most(most_bytes), names, columns is not None)
 
 
 def _step():

@@ -3,7 +3,7 @@
 from .arguments import U32, integer
 from .library import load
 
-MEMORY, TOO_MANY_NODES, NOT_END_TO_END = 1, 36, 65
+MEMORY, TOO_MANY_NODES, TOO_MANY_BYTES = 1, 36, 66
 
 
 def fault_name(number):

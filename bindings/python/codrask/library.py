@@ -213,8 +213,13 @@ def has(name):
     return hasattr(load(), name)
 
 
+def older(what):
+    """The error that the library has not yet what this package asks of it."""
+    return lacking(find(), f"{find()} has no {what}: it is older than this package")
+
+
 def later(name):
     """A call that a library of before has not. ImportError where it lacks it."""
     if not has(name):
-        raise lacking(find(), f"{find()} has no {name}: it is older than this package")
+        raise older(name)
     return getattr(load(), name)

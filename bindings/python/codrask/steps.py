@@ -6,12 +6,13 @@ from . import nodes as of
 from .arguments import choice, each, encoded, instance, integer, truth
 from .column import Column
 from .faults import Stopped, run_refusal
-from .library import Bytes, Columns, Nodes, RunFault, load
+from .library import Bytes, Columns, Nodes, RunFault, load, older
 from .library import Step as Given
 
 __all__ = ["MODES", "Step", "Stopped", "run"]
 
-IN_COLUMN = 1
+IN_COLUMN, IN_STEP = 1, 2
+UNKNOWN_KIND = 32
 MODES = ("MakeZeroCopyToList", "TrimElements", "MakeExact", "OverlapCompression")
 _nothing = (ctypes.c_uint64 * 2)()
 
@@ -90,6 +91,16 @@ class Step:
         """The nulls of records in their columns; with `remove` no record is null any more."""
         return cls._of(11, array=integer("array", array), mode=int(truth("remove", remove)))
 
+    @classmethod
+    def pack(cls, array):
+        """The rows in packed form: nothing is in it but them."""
+        return cls._of(12, array=integer("array", array))
+
+    @classmethod
+    def field(cls, array, name):
+        """The first column of a name in records, null also where the record is."""
+        return cls._of(13, array=integer("array", array), name=encoded("name", name))
+
     def _fill(self, place):
         """Puts this step where the library reads it. It has to outlive the call."""
         place.kind = self._kind
@@ -137,6 +148,8 @@ def run(columns, steps, wanted=None):
     if load().codrask_run(
         tables, len(columns), given, len(steps), places, len(wanted), ctypes.byref(made), ctypes.byref(fault)
     ):
+        if fault.part == IN_STEP and fault.number == UNKNOWN_KIND:
+            raise older(f"step {steps[fault.which]._kind}")
         told = columns[fault.which]._words(fault.node)[:2] if fault.part == IN_COLUMN else ()
         raise run_refusal(fault, *told)
     try:

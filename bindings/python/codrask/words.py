@@ -49,8 +49,10 @@ def _written_carried(one, part):
     """The text of what is carried, whose column has this one."""
     if one.word in ("", *carried.MAPS):
         text = part
-    elif one.word in (carried.NULL, carried.ORDERED):
-        text = "null" if one.word == carried.NULL else f"ordered {part}"
+    elif one.word == carried.NULL:
+        text = "null"
+    elif one.word == carried.ORDERED:
+        text = f"ordered {part}" if part.startswith("dictionary<") else part
     else:
         text = _format_text(one.word)
     return text if one.extension is None else f"extension<{json.dumps(one.extension, ensure_ascii=False)}, {text}>"
@@ -82,7 +84,8 @@ def types_of(nodes):
             text = parts[0]
         else:
             text = f"map<{parts[0]}, {parts[1]}>" if place in entries else _written(node, parts)
-        made[place] = text + "?" * (node.validity != NON_NULLABLE and place not in entries and place not in nulls)
+        nullable = node.validity != NON_NULLABLE and place not in entries and place not in nulls
+        made[place] = text + "?" * (nullable and text[-1] != "?")
     return made
 
 

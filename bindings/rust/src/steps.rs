@@ -1,5 +1,6 @@
 //! Steps on columns, and what they give.
 
+use std::slice;
 use std::sync::Arc;
 
 use crate::checked::{levels, Checked};
@@ -58,6 +59,10 @@ pub enum Step<'s> {
     RemoveColumn { array: usize, name: &'s str },
     /// The nulls of records in their columns; with `remove` no record is null any more.
     PushValidity { array: usize, remove: bool },
+    /// The rows in packed form: nothing is in it but them.
+    Pack { array: usize },
+    /// The first column of a name in records, null also where the record is.
+    Field { array: usize, name: &'s str },
 }
 
 impl<'s> Step<'s> {
@@ -87,6 +92,8 @@ impl<'s> Step<'s> {
             Step::WithColumn { array, column, .. } => (9, array, column),
             Step::RemoveColumn { array, .. } => (10, array, 0),
             Step::PushValidity { array, .. } => (11, array, 0),
+            Step::Pack { array } => (12, array, 0),
+            Step::Field { array, .. } => (13, array, 0),
         }
     }
 
@@ -112,9 +119,9 @@ impl<'s> Step<'s> {
             Step::Concat { arrays } => raw.arrays = Lent::new(arrays),
             Step::Rebuild { mode, .. } => raw.mode = mode as u32,
             Step::PushValidity { remove, .. } => raw.mode = remove.into(),
-            Step::WithColumn { name, .. } | Step::RemoveColumn { name, .. } => {
-                raw.name = Lent::new(name.as_bytes());
-            }
+            Step::WithColumn { name, .. }
+            | Step::RemoveColumn { name, .. }
+            | Step::Field { name, .. } => raw.name = Lent::new(name.as_bytes()),
             _ => {}
         }
         raw
@@ -138,6 +145,38 @@ impl Owned {
     /// The same rows as a column, to run steps on.
     pub fn as_column(&self) -> Column<'_> {
         Column::of_nodes(self.made.nodes(self.place))
+    }
+}
+
+impl Column<'_> {
+    /// The rows in packed form, which is made of the type and the rows alone: of the same rows, the
+    /// same bytes. What was cut away before is no part of it; dictionaries become plain, and lists
+    /// lie end to end. Refused as `Overflow` is what has more elements or buffers than can be
+    /// counted.
+    ///
+    /// ```
+    /// use codrask::{run, Column, Step};
+    ///
+    /// let lists = Column::list(&[1u8, 2, 3, 4], &[0, 2, 3, 4], None);
+    /// let cut = run(&[lists], &[Step::Slice { array: 0, start: 1, end: 2 }], &[1])?;
+    /// let packed = cut[0].as_column().pack()?;
+    /// assert_eq!(packed.rows().elements().unwrap().numbers::<u8>(), Some(&[3][..]));
+    /// # Ok::<(), codrask::Stopped>(())
+    /// ```
+    pub fn pack(&self) -> Result<Owned, Stopped> {
+        self.ran(Step::Pack { array: 0 })
+    }
+
+    /// The first column of a name in records, null also where the record is. Refused is a name that
+    /// no column has, as `UnknownField`, and what is no records, as `MismatchedTypes`.
+    pub fn field(&self, name: &str) -> Result<Owned, Stopped> {
+        self.ran(Step::Field { array: 0, name })
+    }
+
+    /// What a step makes of this column.
+    fn ran(&self, step: Step<'_>) -> Result<Owned, Stopped> {
+        let mut made = run(slice::from_ref(self), &[step], &[1])?;
+        Ok(made.remove(0))
     }
 }
 

@@ -530,7 +530,7 @@ fn some_question(random: &mut Random, n: usize) -> Asked {
 }
 
 /// What the steps of the test below give, by plain loops.
-fn answers(rows: &[Row], asked: &Asked) -> [Vec<Row>; 7] {
+fn answers(rows: &[Row], asked: &Asked) -> [Vec<Row>; 8] {
     let cut = rows[asked.start..asked.end].to_vec();
     let kept = rows.iter().zip(&asked.kept);
     let filtered = kept
@@ -553,8 +553,9 @@ fn answers(rows: &[Row], asked: &Asked) -> [Vec<Row>; 7] {
         filtered,
         taken,
         masked,
-        joined,
+        joined.clone(),
         rows.to_vec(),
+        joined,
     ]
 }
 
@@ -575,8 +576,9 @@ fn random_columns_are_run_as_plain_loops_say() {
             Step::Mask { array, mask: 1 },
             Step::Concat { arrays: &[0, 3, 5] },
             Step::Canonical { array },
+            Step::Pack { array: 7 },
         ];
-        let made = run(&columns, &steps, &[0, 3, 4, 5, 6, 7, 8]).unwrap();
+        let made = run(&columns, &steps, &[0, 3, 4, 5, 6, 7, 8, 9]).unwrap();
         for (made, wanted) in made.iter().zip(answers(&rows, &asked)) {
             assert_eq!(read(&made.rows()), wanted);
         }

@@ -1,6 +1,6 @@
 //! Steps by hand: what docs/FROM_C.md and docs/SCRIPT.md tell of them.
 
-use codrask::{run, Bits, Column, Owned, Part, Rebuild, Step, Stopped};
+use codrask::{run, Bits, Column, Kind, Owned, Part, Rebuild, Step, Stopped, Validity, Writing};
 
 fn shown(owned: &Owned) -> String {
     format!("{owned:?}")
@@ -123,6 +123,59 @@ fn steps_of_records_give_their_rows() {
     assert_eq!(pushed(true), told);
     let told = "{a: i32, b: utf8}, 2 rows: [null, {a: 2, b: \"yz\"}]";
     assert_eq!(pushed(false), told);
+}
+
+#[test]
+fn packed_columns_have_their_rows_and_no_others() {
+    let packed = lists().pack().unwrap();
+    assert_eq!(shown(&packed), "list<i64>, 3 rows: [[3, 4], [1], [2, 3]]");
+    let (rows, again) = (packed.rows(), packed.as_column().pack().unwrap());
+    assert_eq!(rows.list_at(2), Some(3..5));
+    let elements = rows.elements().unwrap();
+    assert_eq!(elements.numbers::<i64>(), Some(&[3, 4, 1, 2, 3][..]));
+    assert_eq!(shown(&packed), shown(&again));
+    let by_offsets = Writing {
+        by_offsets: true,
+        ..Writing::default()
+    };
+    let refused = lists().check().unwrap().into_ffi(&by_offsets).unwrap_err();
+    assert_eq!(refused.name(), "NotEndToEnd");
+    assert!(packed.rows().into_ffi(&by_offsets).is_ok());
+
+    let cut = run(&[lists()], &[slice(0, 1, 2), Step::Pack { array: 1 }], &[2]).unwrap();
+    assert_eq!(cut[0].rows().elements().unwrap().len(), 1);
+    let values = Column::utf8(&[0, 1, 2], b"xy", None);
+    let named = Column::dictionary(&[1u8, 0], values).pack().unwrap();
+    assert_eq!(named.rows().kind(), Kind::Utf8);
+    let numbers = Column::numbers(&[7u8, 8], Some(Bits::new(&[0b10], 0, 2)));
+    let numbers = numbers.pack().unwrap();
+    assert_eq!(numbers.rows().numbers::<u8>(), Some(&[0, 8][..]));
+}
+
+#[test]
+fn fields_of_records_are_null_where_the_records_are() {
+    assert_eq!(
+        shown(&records().field("b").unwrap()),
+        "utf8, 2 rows: [null, \"yz\"]"
+    );
+    let column = Column::from(&[1i32, 2]);
+    let whole = Column::record([("a", column)], 2, Validity::AllValid);
+    let (array, name) = (0, "a");
+    let made = run(&[whole], &[Step::Field { array, name }], &[1]).unwrap();
+    assert_eq!(shown(&made[0]), "i32, 2 rows: [1, 2]");
+    assert!(!made[0].rows().is_null(0));
+
+    let unknown = records().field("c").unwrap_err();
+    assert_eq!(
+        (unknown.name(), unknown.part()),
+        ("UnknownField", Part::Step(0))
+    );
+    assert_eq!(lists().field("a").unwrap_err().name(), "MismatchedTypes");
+    let nowhere = stopped(&[lists()], &[Step::Pack { array: 7 }], &[0]);
+    assert_eq!(
+        (nowhere.name(), nowhere.part()),
+        ("OutOfBounds", Part::Step(0))
+    );
 }
 
 #[test]
