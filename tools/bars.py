@@ -21,6 +21,7 @@ GROUPS = (
     ('views', ('build_views', 'check_')),
     ('texts', ('texts_',)),
     ('records', ('records_', 'fixed_lists_')),
+    ('rows alone', ('pack_', 'rows_')),
     ('validities and steps', ('validity_', 'steps_')),
     ('bits and masks', ('bits_', 'true_count', 'and_bits', 'equal_bits', 'fill_bits', 'execute_mask',
                         'bools_execute_mask', 'bools_to_mask')),
