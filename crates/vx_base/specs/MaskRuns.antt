@@ -1,9 +1,7 @@
 -- Masks as runs, each a pair of a start and an end: the places from the start up to the end are true.
 use Rattle.std.specs.Prelude.{◌≡◌, ◌≤◌, ◌<◌, ℕ, Bool, true, false, ◌&&◌, ◌||◌, List, [], ◌∷◌, map, length, take, slice_index_or, nat_le, nat_lt}
-use Rattle.std.specs.List.{All, AllPairs, flat_map, range_with_len}
+use Rattle.std.specs.List.{All, AllPairs, range_with_len}
 use Rattle.vx_base.specs.Bits.{bool_at}
-use Rattle.vx_base.specs.Selections.{run_positions}
-use Rattle.vx_base.specs.Trues.{trues}
 
 -- a place lies in a run
 abbrev pub is_in_run : ℕ × ℕ → ℕ → Bool
@@ -23,18 +21,6 @@ pub record AreRuns (len : ℕ) (runs : List (ℕ × ℕ)) : Type 0 where
   pub filled : All (λ run. run.0 < run.1) runs
   pub within : All (λ run. run.1 ≤ len) runs
   pub apart : AllPairs (λ run next. run.1 < next.0) runs
-
--- a row that is marked is true where it lies in a run
-abbrev pub MarkedRowsLieInRuns : Type 0
-MarkedRowsLieInRuns = (len : ℕ) (runs : List (ℕ × ℕ)) (k : ℕ) → k < len → bool_at (marked len runs) k ≡ is_in_runs runs k
-
--- two lists of runs that mark the same rows are one list
-abbrev pub MaximalRunsAreOne : Type 0
-MaximalRunsAreOne = (len : ℕ) (left right : List (ℕ × ℕ)) → AreRuns len left → AreRuns len right → marked len left ≡ marked len right → left ≡ right
-
--- runs whose positions are those at which booleans are true mark these booleans
-abbrev pub RunsOfTruesMark : Type 0
-RunsOfTruesMark = (bits : List Bool) (runs : List (ℕ × ℕ)) → AreRuns (length bits) runs → flat_map run_positions runs ≡ trues bits → marked (length bits) runs ≡ bits
 
 -- up to an edge these are the runs, and from it up to a place all is alike: where that is true, a run begins apart from them, and
 -- else one may begin at the place

@@ -1,8 +1,8 @@
 //! Laws of the definitions that the crates above speak in: functions that do nothing, and whose
 //! contract is the law.
 
-ghost use Rattle.vx_base.specs.MaskRuns.{MarkedRowsLieInRuns, MaximalRunsAreOne, RunsOfTruesMark};
 ghost use Rattle.vx_base.specs.Refusals.{FirstFaultIsLeast};
+ghost use Rattle.vx_base.specs.RunLaws.{MarkedRowsLieInRuns, MaximalRunsAreOne, RunsOfTruesMark};
 
 pub use crate::dtypes::equal_where_same_kind;
 pub use crate::native::{get_then_put, put_then_get};
@@ -18,8 +18,8 @@ pub fn marked_rows_lie_in_runs()
     ensures { MarkedRowsLieInRuns }
 {}
 
-/// Runs that are not empty and have a row between any two are told by the rows that lie in them: two
-/// lists of such runs that mark the same rows are one list.
+/// Runs that are not empty and have a row between any two are told by the rows that lie in them:
+/// two lists of such runs that mark the same rows are one list.
 pub fn maximal_runs_are_one()
     ensures { MaximalRunsAreOne }
 {}

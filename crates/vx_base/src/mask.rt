@@ -178,9 +178,9 @@ impl Mask {
         }
     }
 
-    /// The rows that are true, in order, as runs, each from its start up to its end: none empty, and
-    /// a row that is false between any two. Where all rows are alike, none of them is looked at.
-    /// Fails only for want of memory.
+    /// The rows that are true, in order, as runs, each from its start up to its end: none empty,
+    /// and a row that is false between any two. Where all rows are alike, none of them is looked
+    /// at. Fails only for want of memory.
     pub fn true_runs(&self, alloc: Global) -> Result<Vec<(usize, usize)>, VortexError>
         ensures apart { IfOk result (λ runs. AreRuns (length self.now) runs.items) }
         ensures trues { Gives result (λ runs. flat_map run_positions runs.items ≡ trues self.now) }
