@@ -6,6 +6,7 @@ pub mod Selections
 pub mod Picked
 pub mod Booleans
 pub mod MaskRuns
+pub mod RunLaws
 pub mod Masks
 pub mod Lends
 pub mod Refusals

@@ -108,6 +108,7 @@ impl Mask {
     /// before it ends. Of 4 booleans the runs (0, 1) and (2, 4) make true, false, true, true.
     pub fn from_runs(len: usize, runs: Vec<(usize, usize)>) -> Mask
         requires { AreRuns len runs.items }
+        ensures marked { result ≡ marked len runs.items }
         ensures len { length result ≡ len }
         ensures trues { trues result ≡ flat_map run_positions runs.items }
     {
@@ -177,10 +178,12 @@ impl Mask {
         }
     }
 
-    /// The rows that are true, in order, as runs, each from its start up to its end. Where all rows
-    /// are alike, none of them is looked at. Fails only for want of memory.
+    /// The rows that are true, in order, as runs, each from its start up to its end: none empty,
+    /// and a row that is false between any two. Where all rows are alike, none of them is looked
+    /// at. Fails only for want of memory.
     pub fn true_runs(&self, alloc: Global) -> Result<Vec<(usize, usize)>, VortexError>
-        ensures { Gives result (λ runs. flat_map run_positions runs.items ≡ trues self.now) }
+        ensures apart { IfOk result (λ runs. AreRuns (length self.now) runs.items) }
+        ensures trues { Gives result (λ runs. flat_map run_positions runs.items ≡ trues self.now) }
     {
         Ok(self.runs().to_vec(alloc)?)
     }

@@ -56,7 +56,8 @@ fn views_that_are_checked(rt: HostRuntime) -> Result<(), End> {
     )
 }
 
-// `check_and_empty_views`: the view of the null row becomes zeros where it does not fail.
+// `check_and_empty_views`: the view of the null row becomes zeros where it does not fail, and stays
+// as it was where it does.
 fn emptied(
     alloc: Global,
     views: &mut [BinaryView],
@@ -77,7 +78,8 @@ fn views_that_are_emptied(rt: HostRuntime) -> Result<(), End> {
     let mut views = [view, view];
     let answer = emptied(rt.alloc(), &mut views, &buffers);
     let left = &views[..];
-    let is_kept = left[0] == view && have_same_bytes(&buffers, &copies);
+    let is_untouched = answer.is_ok() || left[1] == view;
+    let is_kept = left[0] == view && is_untouched && have_same_bytes(&buffers, &copies);
     judged(answer, is_kept)
 }
 

@@ -1,11 +1,14 @@
 -- Views whose null rows are emptied one after another.
-use Rattle.std.proofs.Common.{◌≡◌, ℕ, ◌+◌, ◌<◌, ◌≤◌, Bool, true, false, ◌∙◌, sym, ap, refl, inl, inr, List, [], length, get_or, set, replicate, arith}
-use Rattle.std.specs.Prelude.{slice_index_or, if◌then◌else◌}
-use Rattle.std.proofs.lemmas.Bool.{cases_lt}
+use Rattle.std.proofs.Common.{◌≡◌, ◌⊎◌, ℕ, ◌+◌, ◌<◌, ◌≤◌, Bool, true, false, ◌∙◌, sym, ap, subst, refl, inl, inr, List, [], length, get_or, set, replicate, arith}
+use Rattle.std.specs.Prelude.{slice_index_or, if◌then◌else◌, Option, Result, Ok, Err, IfErr, IsSome}
+use Rattle.std.proofs.lemmas.Bool.{cases_lt, false≢true}
 use Rattle.std.proofs.lemmas.Grind.{get_or-set_at}
 use Rattle.std.proofs.lemmas.List.{get_or_default, get_or-set_other, length-set}
 use Rattle.std.proofs.lemmas.List.FromFn.{fill_by_all}
 use Rattle.vx_base.specs.Bits.{bool_at}
+use Rattle.vx_base.specs.Refusals.{Refusal, refusal_of, Tests}
+use Rattle.vx_base.specs.declared.errors.VortexError.{VortexError}
+use Rattle.vx_base.specs.declared.errors.VortexError.TheVariants.{Memory}
 use Rattle.vx_views.specs.Views.{view_of, inlined_view, padded}
 use Rattle.vx_views.specs.Emptied.{valid_view, emptied_views, AreKept}
 
@@ -13,6 +16,11 @@ use Rattle.vx_views.specs.Emptied.{valid_view, emptied_views, AreKept}
 empty_is_zeroes : view_of [] 0 0 ≡ replicate 16 0
 unfolding inlined_view padded
 empty_is_zeroes = refl
+
+-- a view that is kept where a boolean is true is kept or zeroes
+valid_or_zeroes : (b : Bool) (view after : List ℕ) → after ≡ (if b then view else replicate 16 0) → (after ≡ view) ⊎ (after ≡ replicate 16 0)
+valid_or_zeroes true view after e = inl e
+valid_or_zeroes false view after e = inr e
 
 -- the views before a row are emptied, and the others are as they were
 pub record AreEmptied (mask : List Bool) (before : List (List ℕ)) (row : ℕ) (after : List (List ℕ)) : Type 0 where
@@ -65,4 +73,13 @@ module _ (mask : List Bool) (before : List (List ℕ)) where
           | inl past ↦ e.done i past ∙ ap (λ (b : Bool). if b then slice_index_or before i [] else replicate 16 0) valid
           | inr rest ↦ e.rest i rest
         ];
+        either = λ i. elim (cases_lt i row) [
+          | inl past ↦ valid_or_zeroes (bool_at mask i) (slice_index_or before i []) (slice_index_or after i []) (e.done i past)
+          | inr rest ↦ inl (e.rest i rest)
+        ];
       }
+
+-- a call that takes no memory answers no want of it
+pub untouched-from_tests : {A : Type 0} (r : Result A VortexError) (fault : Option Refusal) (before after : List (List ℕ)) → Tests r fault → IfErr r (λ e. e ≡ Memory → after ≡ before)
+untouched-from_tests (Ok x) fault before after tests = tt
+untouched-from_tests (Err e) fault before after tests = λ is. absurd (false≢true (subst (λ (f : VortexError). IsSome (refusal_of f)) is tests.0))

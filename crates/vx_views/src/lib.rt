@@ -15,8 +15,10 @@ pub mod view_laws;
 mod view_parts;
 
 pub use crate::build::{build_views, build_views_from_offsets, offsets_to_lengths};
-pub use crate::text_laws::{boundaries_decide_ranges, table_decides_utf8};
+pub use crate::text_laws::{
+    boundaries_decide_ranges, faultless_views_are_sound, table_decides_utf8,
+};
 pub use crate::view::{BinaryView, MAX_BUFFER_LEN, MAX_INLINED_SIZE};
-pub use crate::view_checks::{check_views, check_views_counted, faultless_views_are_sound};
+pub use crate::view_checks::{check_views, check_views_counted};
 pub use crate::view_emptying::check_and_empty_views;
 pub use crate::view_parts::{Inlined, Ref};

@@ -1,6 +1,6 @@
 //! The check of views that come from outside.
 
-ghost use Rattle.std.specs.Prelude.{◌≡◌, ◌<◌, ◌≤◌, ◌↔◌, ◌&&◌, ℕ, length, OnOk, IfOk, None, IsTrue, IsUtf8, false, true, nat_le, slice_index, slice_range};
+ghost use Rattle.std.specs.Prelude.{◌≡◌, ◌<◌, ◌≤◌, ◌↔◌, ◌&&◌, ℕ, length, OnOk, IfOk, IsTrue, IsUtf8, false, true, nat_le, slice_index, slice_range};
 ghost use Rattle.std.specs.List.{list_any};
 ghost use Rattle.std.specs.Str.{IsAscii};
 ghost use Rattle.vx_base.specs.Refusals.{Refuses, Tests, Gives};
@@ -79,18 +79,6 @@ pub fn check_views_counted(
     let texts = read_ahead(alloc, buffers, budget)?;
     check_rows::<true>(views, mask, buffers, &texts)
 }
-
-/// Views are without a fault exactly where each valid one can be read, begins as it says, and is
-/// text where text is asked.
-pub fn faultless_views_are_sound(
-    views: &[BinaryView],
-    mask: &Mask,
-    buffers: &[ByteBuffer],
-    check_utf8: bool,
-)
-    ensures { (views_fault check_utf8 mask.now buffers.now views.now ≡ None)
-        ↔ AreSoundViews views.now mask.now buffers.now check_utf8 }
-{}
 
 // Whether each valid view may stand there, as a text where text is asked and it is known which
 // buffers are UTF-8; how many values were checked alone.

@@ -1,7 +1,8 @@
 //! The check of views that come from outside and are lent: what null rows say is let go.
 
-ghost use Rattle.std.specs.Prelude.{◌≡◌, length, OnOk, IfOk, IsTrue};
+ghost use Rattle.std.specs.Prelude.{◌≡◌, length, OnOk, IfOk, IfErr, IsTrue};
 ghost use Rattle.vx_base.specs.Refusals.{Refuses, Tests};
+ghost use Rattle.vx_base.specs.declared.errors.VortexError.TheVariants.{Memory};
 ghost use Rattle.vx_views.specs.Alone.{alone_of, views_left, AreWholeTexts};
 ghost use Rattle.vx_views.specs.Emptied.{emptied_views, AreKept};
 ghost use Rattle.vx_views.specs.Faulty.{views_fault};
@@ -16,8 +17,8 @@ use vx_base::{ByteBuffer, Mask, VortexError};
 /// becomes the view of no bytes, 16 zero bytes. What it refuses and counts is told of the views as
 /// they were lent.
 ///
-/// Where it refuses, the views of valid rows are as they were; which of the others were emptied is
-/// not said.
+/// Where it refuses, the views of valid rows are as they were, and each of the others is as it was
+/// or empty. Where memory is refused, all are as they were.
 pub fn check_and_empty_views(
     alloc: Global,
     views: &mut [BinaryView],
@@ -37,6 +38,7 @@ pub fn check_and_empty_views(
 
     // Also where it refuses.
     ensures kept { AreKept mask.now views.old views.new }
+    ensures untouched { IfErr result (λ e. e ≡ Memory → views.new ≡ views.old) }
 {
     if !check_utf8 {
         return check_and_empty_rows::<false>(views, mask, buffers, &[]);

@@ -2,6 +2,7 @@ use Rattle.std.proofs.Common.{◌≡◌, true, false, subst, ◌∙◌}
 use Rattle.std.specs.Prelude.{IfOk}
 use Rattle.vx_views.specs.Alone.{alone_of}
 use Rattle.vx_views.proofs.AloneViews.{are_whole_texts}
+use Rattle.vx_views.proofs.EmptiedViews.{untouched-from_tests}
 use Rattle.vx_views.proofs.FaultyViews.{sound-from_tests}
 use Rattle.vx_views.proofs.view_emptying.check_and_empty_views.Goals as goal
 
@@ -18,3 +19,9 @@ returns-clause-sound c = rw c.if-not-check_utf8.false (sound-from_tests c.check_
 pub returns-clause-left : goal.returns-clause-left
 returns-clause-left c =
     rw c.if-not-check_utf8.false (subst (λ texts. IfOk c.check_and_empty_rows-2.result (λ left. left ≡ alone_of true texts c.args.mask.now c.args.views.now)) (c.deref.ensures.value ∙ c.in_ok-texts.ensures) c.check_and_empty_rows-2.ensures.alone)
+
+pub returns-then-not-check_utf8-clause-untouched : goal.returns-then-not-check_utf8-clause-untouched
+returns-then-not-check_utf8-clause-untouched c = untouched-from_tests c.check_and_empty_rows.result _ _ _ c.check_and_empty_rows.ensures.tests
+
+pub returns-clause-untouched : goal.returns-clause-untouched
+returns-clause-untouched c = untouched-from_tests c.check_and_empty_rows-2.result _ _ _ c.check_and_empty_rows-2.ensures.tests

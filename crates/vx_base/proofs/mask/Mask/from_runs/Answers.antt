@@ -23,21 +23,33 @@ rows_in-true_count-requires-clause-countable c =
     let h = few c.args.len c.args.runs.items c.requires in
     rw c.deref.ensures.value (omega arith)
 
+-- where all rows lie in them, and where none does
+all : (lent runs : List (ℕ × ℕ)) (len n : ℕ) → AreRuns len runs → lent ≡ runs → n ≡ length (flat_map run_positions lent) → n ≡ len → replicate len true ≡ marked len runs
+all lent runs len n are same h full =
+    let long = length-marked len runs in
+    sym (all_true_from_count (marked len runs) (sym (told lent runs len n are same h) ∙ full ∙ sym long) ∙ ap (λ n. replicate n true) long)
+
+none : (lent runs : List (ℕ × ℕ)) (len n : ℕ) → AreRuns len runs → lent ≡ runs → n ≡ length (flat_map run_positions lent) → n ≡ 0 → replicate len false ≡ marked len runs
+none lent runs len n are same h empty =
+    sym (all_false_from_count (marked len runs) (sym (told lent runs len n are same h) ∙ empty) ∙ ap (λ n. replicate n false) (length-marked len runs))
+
+pub returns-then-true_count-len-clause-marked : goal.returns-then-true_count-len-clause-marked
+returns-then-true_count-len-clause-marked c =
+    c.new_true.ensures ∙ all c.deref.result.now c.args.runs.items c.args.len c.rows_in-true_count.result c.requires c.deref.ensures.value c.rows_in-true_count.ensures c.if-true_count-len.true
+
 pub returns-then-true_count-len-clause-trues : goal.returns-then-true_count-len-clause-trues
 returns-then-true_count-len-clause-trues c =
-    let m = marked c.args.len c.args.runs.items in
-    let long = length-marked c.args.len c.args.runs.items in
-    let count = told c.deref.result.now c.args.runs.items c.args.len c.rows_in-true_count.result c.requires c.deref.ensures.value c.rows_in-true_count.ensures in
-    let all = all_true_from_count m (sym count ∙ c.if-true_count-len.true ∙ sym long) in
-    ap trues (c.new_true.ensures ∙ sym (all ∙ ap (λ n. replicate n true) long)) ∙ trues_of_runs c.args.len c.args.runs.items c.requires
+    ap trues (c.new_true.ensures ∙ all c.deref.result.now c.args.runs.items c.args.len c.rows_in-true_count.result c.requires c.deref.ensures.value c.rows_in-true_count.ensures c.if-true_count-len.true)
+    ∙ trues_of_runs c.args.len c.args.runs.items c.requires
+
+pub returns-then-true_count-eq0-clause-marked : goal.returns-then-true_count-eq0-clause-marked
+returns-then-true_count-eq0-clause-marked c =
+    c.new_false.ensures ∙ none c.deref.result.now c.args.runs.items c.args.len c.rows_in-true_count.result c.requires c.deref.ensures.value c.rows_in-true_count.ensures c.if-true_count-eq0.true
 
 pub returns-then-true_count-eq0-clause-trues : goal.returns-then-true_count-eq0-clause-trues
 returns-then-true_count-eq0-clause-trues c =
-    let m = marked c.args.len c.args.runs.items in
-    let long = length-marked c.args.len c.args.runs.items in
-    let count = told c.deref.result.now c.args.runs.items c.args.len c.rows_in-true_count.result c.requires c.deref.ensures.value c.rows_in-true_count.ensures in
-    let none = all_false_from_count m (sym count ∙ c.if-true_count-eq0.true) in
-    ap trues (c.new_false.ensures ∙ sym (none ∙ ap (λ n. replicate n false) long)) ∙ trues_of_runs c.args.len c.args.runs.items c.requires
+    ap trues (c.new_false.ensures ∙ none c.deref.result.now c.args.runs.items c.args.len c.rows_in-true_count.result c.requires c.deref.ensures.value c.rows_in-true_count.ensures c.if-true_count-eq0.true)
+    ∙ trues_of_runs c.args.len c.args.runs.items c.requires
 
 pub new-requires-clause-counted : goal.new-requires-clause-counted
 new-requires-clause-counted c = told c.deref.result.now c.args.runs.items c.args.len c.rows_in-true_count.result c.requires c.deref.ensures.value c.rows_in-true_count.ensures
