@@ -167,7 +167,7 @@ fn fill_typed(
     call_native!(ptype, fill_numbers(bytes, mask, len, out))
 }
 
-// The same for numbers of one type.
+// Writes the positions below `len` that numbers of one type name, 0 where the mask is false.
 fn fill_numbers<T: NativePType>(
     bytes: &[u8],
     mask: &Mask,

@@ -64,7 +64,7 @@ fn lowered_counts(alloc: Global, array: &ArrayRef, by: usize) -> Result<ArrayRef
     Ok(ArrayRef::primitive(alloc, ptype, bytes, Validity::NonNullable)?)
 }
 
-// The same of a constant: its one count is made less.
+// A constant of counts, less by `by`: its one count is made less.
 #[tactic(auto, using(crate::proofs::ListViews::TrimmedViews::constant_counts))]
 fn lowered_constant(alloc: Global, array: &ArrayRef, by: usize) -> Result<ArrayRef, VortexError>
     requires layout { is_constant array.now ≡ true }
