@@ -133,7 +133,8 @@ impl ArrayRef {
     // no memory.
     pub(crate) fn plain_true_count(&self, alloc: Global) -> Result<usize, VortexError>
         requires { kind_of self.now ≡ booleans false }
-        ensures { Gives result (λ n. n ≡ count_by (λ b. b) (map (λ i. truth_of (row_at self.now i)) (range_with_len 0 (tree_len self.now)))) }
+        ensures { Gives result (λ n. n ≡ count_by (λ b. b)
+            (map (λ i. truth_of (row_at self.now i)) (range_with_len 0 (tree_len self.now)))) }
     {
         if self.is_repeated() {
             return Ok(self.plain_mask(alloc)?.true_count());

@@ -275,7 +275,8 @@ pub fn empty_views(
     validity: Validity,
 ) -> Result<ArrayRef, VortexError>
     requires { WellFormed (view_array (replicate len (view_of [] 0 0)) buffers.now (dtype_meaning dtype.now) (valid_of validity)) }
-    ensures { Gives result (λ a. a ≡ view_array (replicate len (view_of [] 0 0)) buffers.now (dtype_meaning dtype.now) (valid_of validity)) }
+    ensures { Gives result (λ a. a
+        ≡ view_array (replicate len (view_of [] 0 0)) buffers.now (dtype_meaning dtype.now) (valid_of validity)) }
 {
     let views = Buffer::from_vec(alloc, vec![in alloc; BinaryView::empty_view(); len]?)?;
     views_over(alloc, views, buffers, dtype, validity)
