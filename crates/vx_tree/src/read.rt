@@ -152,7 +152,7 @@ impl ArrayRef {
         BitBuffer::from_bools(alloc, &truths)
     }
 
-    // Writes them.
+    // Writes the rows of an array of plain booleans, row by row.
     fn fill_truths(&self, out: &mut [bool])
         requires kind { kind_of self.now ≡ booleans false }
         requires room { length out.old ≡ tree_len self.now }

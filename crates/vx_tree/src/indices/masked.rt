@@ -136,7 +136,7 @@ fn valid_numbers(
     Ok(own)
 }
 
-// Writes them, of one type.
+// Writes the numbers of one type whose bit is set, over bytes of their own, with 0 for each other.
 fn put_valid_numbers<T: NativePType>(bytes: &[u8], valid: &BitBuffer, out: &mut [u8])
     requires bits { length valid.now.bits ≡ length (numbers T.PTYPE bytes.now) }
     requires room { length out.old ≡ length (numbers T.PTYPE bytes.now) * byte_width T.PTYPE }
