@@ -1,4 +1,14 @@
 //! The ground of the arrays: refusals, data types, integer types, buffers, bits and masks.
+//!
+//! Read `errors`, `dtypes` and `scalar_value` first, with specs/Kinds, specs/Rows and
+//! specs/Refusals: what a column may hold, and how a call is refused. Then numbers (`native`,
+//! `numbers`, `buffer`, `byte_buffer`), bits (`bit_buffer` over `bit_bytes`, `bit_words` and
+//! `bit_copies`), and `mask`, which keeps runs (`true_runs`, `mask_runs`). Last `selection`:
+//! `gather` and the files `gathered_*` pick rows in each of its forms.
+//!
+//! Data types and values recurse (`#[cycle(dtype)]`, `value`), and so do three walks of them:
+//! whether types are equal (`same_dtype`, in `dtypes` and `struct_fields`), whether a value fits
+//! one (`fits`, in `scalar_value`), and its default (`default`, in `default_value`).
 #![tactic(auto)]
 
 mod bit_ands;

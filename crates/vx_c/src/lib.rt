@@ -1,5 +1,13 @@
 //! The library for C: columns that C hands over are tables of nodes, and every test of them is
 //! proved. A call copies what it is given, and keeps nothing.
+//!
+//! Read `table` first (what C sees), with specs/Tables; then `reading`, which keeps the arrays of a
+//! table on `stack` and makes each by `layouts`. A run is `running`: `steps` and `column_steps` are
+//! what is done, `counting` tells how many nodes a result needs, `writing` makes its table
+//! (`written`), and `lending` hands the blocks over. `laws` are for callers.
+//!
+//! Three walks recurse: `#[cycle(nodes)]` (`counting`) and `write` (`writing`) down an array, and
+//! `least` (`counting`) down a data type. Reading a table does not.
 #![tactic(auto)]
 
 ghost use Rattle.std.specs.Prelude.{◌≡◌, ◌<◌};

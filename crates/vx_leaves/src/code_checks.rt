@@ -82,8 +82,8 @@ fn check_numbers(ptype: PType, bytes: &[u8], mask: &Mask, len: usize) -> Result<
     call_native!(ptype, check_typed(bytes, mask, len))
 }
 
-// The same of numbers of one type. The first that is none is looked for where the least or the
-// greatest of them is none.
+// Whether numbers of one type are positions below `len`, save those at which the mask is false. The
+// first that is none is looked for where the least or the greatest of them is none.
 fn check_typed<T: NativePType>(bytes: &[u8], mask: &Mask, len: usize) -> Result<(), VortexError>
     requires { length mask.now ≡ length (numbers T.PTYPE bytes.now) }
     ensures { Tests result (indices_fault len (masked_numbers T.PTYPE bytes.now mask.now)) }

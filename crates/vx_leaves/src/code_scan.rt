@@ -82,7 +82,7 @@ pub(crate) fn scan_numbers(
     call_native!(ptype, scan_typed(bytes, mask, referenced, out))
 }
 
-// The same of numbers of one type.
+// The scan of codes that are numbers of one type, where they lie.
 fn scan_typed<T: NativePType>(
     bytes: &[u8],
     mask: &Mask,

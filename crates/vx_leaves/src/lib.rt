@@ -1,4 +1,13 @@
-//! Typed arrays of truth values and of whole numbers, and of one row however often.
+//! Typed arrays of truth values and of whole numbers, of values that codes name, and of one row
+//! however often.
+//!
+//! A type has up to three files: its array (`primitive_array`), what it tells of its parts, a trait
+//! (`primitive_ext`), and its data apart from the validity (`primitive_data`). Read these three
+//! first, with specs/Leaves; then `narrow`, with specs/Narrow, and of dictionaries `code_checks`
+//! (which codes are refused) and `code_scan`, with specs/Scan (which values codes name). `collect`,
+//! `number_bytes` and `bool_iterators` read iterators; `spread` lays values over valid rows.
+//!
+//! Nothing recurses: the trees below are walked by vx_tree.
 #![tactic(auto)]
 
 mod bool_array;

@@ -59,7 +59,8 @@ fn span(ptype: PType, bytes: &[u8], mask: &Mask) -> (i128, i128)
     call_native!(ptype, typed_span(bytes, mask))
 }
 
-// The same of numbers of one type, one run after another.
+// The least and the greatest of the numbers of one type at which the mask is true, one run after
+// another.
 pub(crate) fn typed_span<T: NativePType>(bytes: &[u8], mask: &Mask) -> (i128, i128)
     requires { length mask.now ≡ length (numbers T.PTYPE bytes.now) }
     ensures { IsSpan T.PTYPE (kept mask.now (numbers T.PTYPE bytes.now)) result.0 result.1 }
@@ -201,7 +202,7 @@ fn put_narrowed(from: PType, to: PType, bytes: &[u8], mask: &Mask, out: &mut [u8
     call_native!(from, put_numbers_as(to, bytes, mask, out))
 }
 
-// The same of numbers of one type.
+// Writes the numbers of one type as those of `to` where the mask is true, over bytes that are 0.
 fn put_numbers_as<T: NativePType>(to: PType, bytes: &[u8], mask: &Mask, out: &mut [u8])
     requires same_len { length mask.now ≡ length (numbers T.PTYPE bytes.now) }
     requires holds { All (Holds to) (zeroed mask.now (numbers T.PTYPE bytes.now)) }
@@ -212,7 +213,7 @@ fn put_numbers_as<T: NativePType>(to: PType, bytes: &[u8], mask: &Mask, out: &mu
     call_native!(to, put_numbers::<T>(bytes, mask, out))
 }
 
-// The same of numbers of one type, as those of another, one run after another.
+// Writes the numbers of one type as those of another where the mask is true, one run after another.
 fn put_numbers<T: NativePType, U: NativePType>(bytes: &[u8], mask: &Mask, out: &mut [u8])
     requires same_len { length mask.now ≡ length (numbers T.PTYPE bytes.now) }
     requires holds { All (Holds U.PTYPE) (zeroed mask.now (numbers T.PTYPE bytes.now)) }

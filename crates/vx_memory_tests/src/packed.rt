@@ -1,7 +1,7 @@
 // The packed form of an array of each layout. What is wanted was worked by hand.
 
 use crate::samples::{
-    LONG, dictionary, first_and_last, fives, ints, lists_of, lists_of_texts, pairs, some_bools,
+    LONG, dictionary, first_and_last, fives, ints, lists, lists_of_texts, pairs, some_bools,
     some_ints, texts,
 };
 use std::alloc::Global;
@@ -119,11 +119,6 @@ fn end_to_end(alloc: Global, elements: ArrayRef) -> Result<ArrayRef, VortexError
     let lists = ListViewArray::try_new(alloc, elements, offsets, sizes, validity)?;
     let follow = lists.is_consecutive();
     Ok(lists.with_zero_copy_to_list(alloc, follow)?.into_array())
-}
-
-// The lists [3, 4], [1] and [2, 3].
-fn lists(alloc: Global) -> Result<ArrayRef, VortexError> {
-    lists_of(alloc, ints(alloc, &[1u16, 2, 3, 4])?)
 }
 
 #[test]

@@ -75,6 +75,11 @@ pub(crate) fn lists_of(alloc: Global, elements: ArrayRef) -> Result<ArrayRef, Vo
     Ok(ListViewArray::try_new(alloc, elements, offsets, sizes, validity)?.into_array())
 }
 
+// The lists [3, 4], [1] and [2, 3].
+pub(crate) fn lists(alloc: Global) -> Result<ArrayRef, VortexError> {
+    lists_of(alloc, ints(alloc, &[1u16, 2, 3, 4])?)
+}
+
 // The texts hi, null and a long one.
 pub(crate) fn texts(alloc: Global) -> Result<ArrayRef, VortexError> {
     let items = [Some("hi"), None, Some(LONG)];
@@ -132,7 +137,7 @@ pub(crate) fn samples(alloc: Global) -> Result<Vec<ArrayRef>, VortexError> {
     arrays.push(fives(alloc)?)?;
     arrays.push(dictionary(alloc)?)?;
     arrays.push(pairs(alloc)?)?;
-    arrays.push(lists_of(alloc, ints(alloc, &[1u16, 2, 3, 4])?)?)?;
+    arrays.push(lists(alloc)?)?;
     arrays.push(records(alloc)?)?;
     arrays.push(texts(alloc)?)?;
     arrays.push(records_of_lists(alloc)?)?;

@@ -1,6 +1,6 @@
 // Lists of steps, and scripts.
 
-use crate::samples::{bools, ints, lists_of, numbers, one_name, records};
+use crate::samples::{bools, ints, lists, numbers, one_name, records};
 use std::alloc::Global;
 use std::io::Cursor;
 use vx_base::{FieldName, VortexError};
@@ -15,7 +15,7 @@ fn given(alloc: Global) -> Result<Vec<ArrayRef>, VortexError> {
     arrays.push(numbers(alloc)?)?;
     arrays.push(ints(alloc, &[2u8, 0])?)?;
     arrays.push(bools(alloc, &[true, false, true])?)?;
-    arrays.push(lists_of(alloc, ints(alloc, &[1u16, 2, 3, 4])?)?)?;
+    arrays.push(lists(alloc)?)?;
     arrays.push(records(alloc)?)?;
     Ok(arrays)
 }

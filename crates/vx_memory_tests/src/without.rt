@@ -1,7 +1,7 @@
 // Calls that take no memory: the sweep refuses every request once the arrays are made.
 
 use crate::samples::{
-    LONG, dictionary, first_and_last, ints, lists_of, numbers, pairs, records, samples, texts,
+    LONG, dictionary, first_and_last, ints, lists, numbers, pairs, records, samples, texts,
 };
 use crate::typed::typed;
 use std::alloc::Global;
@@ -87,11 +87,6 @@ fn parts_of_leaves(rt: HostRuntime) -> Result<(), End> {
     let (numbers, dictionary) = (numbers(rt.alloc())?, dictionary(rt.alloc())?);
     let texts = texts(rt.alloc())?;
     judged(Ok(typed_leaves_are_read(numbers, dictionary, texts)), true)
-}
-
-// The lists [3, 4], [1] and [2, 3].
-fn lists(alloc: Global) -> Result<ArrayRef, VortexError> {
-    lists_of(alloc, ints(alloc, &[1u16, 2, 3, 4])?)
 }
 
 // What is read of list views.

@@ -1,4 +1,14 @@
-//! Whether two arrays have equal rows, in any two layouts, and the one form that rows alone determine.
+//! Whether two arrays have equal rows, in any two layouts, and the one form that rows alone
+//! determine.
+//!
+//! Read `rows_equal` and `pack` first: the contracts, with specs/Packed. Then `parts` (rows that
+//! are read where they stand) and `same_rows`, which compares two parts; then `pieces` (parts, and
+//! default rows between them) and `pack_rows`, which packs pieces. The files `packed_*` pack one
+//! kind of column each; `stored_bits` and `stored_numbers` tell what can be copied whole. `laws`
+//! are for callers.
+//!
+//! Two walks go down a data type: `#[cycle(same)]` and `pack`. Three follow codes or layouts:
+//! `place_of` in `places`, `truth` in `truths`, and `one_row`.
 #![tactic(auto)]
 
 mod codes;

@@ -1,5 +1,14 @@
 //! Runs scripts that build columnar arrays, rebuild them and print them, and lists of steps on
 //! arrays, and writes rows as text.
+//!
+//! Lists of steps: read `steps` and `run_steps`, with specs/Steps; `record_steps` has the steps on
+//! records. Scripts: read `script`, then `command` (a line as a command, over `words`, `operands`
+//! and `literals`) and `registers` (the arrays, and what each command does). Text: `show` and
+//! `show_scalar` write rows, `parts` the parts of an array, and `written_rows` the first rows of
+//! one.
+//!
+//! Two walks recurse: rows as text (`#[cycle(show)]`, down the tree, in `show`) and one row as text
+//! (`value`, in `show_scalar`).
 #![tactic(auto)]
 
 mod byte_items;

@@ -1,4 +1,11 @@
 //! Columns of records.
+//!
+//! Read `array` first, with specs/Structs/Records; then `checks`, what the constructors test, with
+//! specs/Structs/Faults. `fields` makes records of columns that have names. `columns` chooses, adds
+//! and removes columns; `ext`, `unmasked_fields` and `field` read them; `push` moves the nulls of
+//! records into them; `concat` joins records column by column. `laws` are for callers.
+//!
+//! Nothing recurses: the columns are walked by vx_tree and vx_canonical.
 #![tactic(auto)]
 
 mod array;

@@ -16,7 +16,8 @@ pub(crate) fn bytes_are_text(bytes: &[u8]) -> bool
     is_short_text(bytes)
 }
 
-// The same, read by parts that end with a letter, and no further than the first that is no text.
+// Whether bytes are text, read by parts that end with a letter, and no further than the first that
+// is no text.
 #[inline(never)]
 fn is_long_text(bytes: &[u8]) -> bool
     ensures { IsTrue result ↔ IsUtf8 bytes.now }

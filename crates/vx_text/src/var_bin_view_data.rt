@@ -93,8 +93,8 @@ impl VarBinViewData {
         )
     }
 
-    /// The same, where so many bytes of whole buffers may be read ahead: the answer is the same for
-    /// every budget.
+    /// Whether `try_new` takes these parts, where so many bytes of whole buffers may be read ahead:
+    /// the answer is the same for every budget.
     pub fn validate_with_budget(
         alloc: Global,
         views: &[BinaryView],

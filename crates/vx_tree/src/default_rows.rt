@@ -37,8 +37,8 @@ fn defaults_of(alloc: Global, dtype: &DType, len: usize) -> Result<ArrayRef, Vor
     }
 }
 
-// The same of lists of one size. Where so many items cannot be counted it is one list, again and
-// again.
+// `len` default lists of one size, over the default rows of their items. Where so many items cannot
+// be counted it is one list, again and again.
 #[cycle(defaults)]
 fn default_lists(
     alloc: Global,
@@ -63,7 +63,7 @@ fn default_lists(
     }
 }
 
-// The same of records.
+// `len` default records, over the default rows of their fields.
 #[cycle(defaults)]
 fn default_records(
     alloc: Global,
@@ -77,7 +77,7 @@ fn default_records(
     ArrayRef::structure(alloc, names, columns, Validity::NonNullable, len)
 }
 
-// The same of each data type.
+// A column of `len` default rows for each of these data types.
 #[cycle(defaults)]
 fn default_columns(
     alloc: Global,
@@ -93,7 +93,7 @@ fn default_columns(
     Ok(columns)
 }
 
-// The same as a constant.
+// `len` default rows of a data type, as a constant.
 #[tactic(auto, using(crate::proofs::DefaultRows::constant_defaults))]
 fn default_constant(alloc: Global, dtype: &DType, len: usize) -> Result<ArrayRef, VortexError>
     ensures { Gives result (AreDefaults (dtype_meaning dtype.now) len) }

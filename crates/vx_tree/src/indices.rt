@@ -99,7 +99,8 @@ impl ArrayRef {
         }
     }
 
-    // Writes them, of plain numbers under the mask of their validity.
+    // Writes the positions that the rows name, 0 where one is null. Numbers that lie one after
+    // another are read under the mask of their validity.
     fn fill_positions(
         &self,
         alloc: Global,
@@ -124,7 +125,7 @@ impl ArrayRef {
         }
     }
 
-    // Writes them, in any layout, row by row.
+    // Writes the positions that the rows name, 0 where one is null: in any layout, row by row.
     fn fill_each(&self, len: usize, out: &mut [usize]) -> Result<(), VortexError>
         requires ints { is_integers (kind_of self.now) ≡ true }
         requires room { length out.old ≡ tree_len self.now }
@@ -167,7 +168,7 @@ fn fill_typed(
     call_native!(ptype, fill_numbers(bytes, mask, len, out))
 }
 
-// The same for numbers of one type.
+// Writes the positions below `len` that numbers of one type name, 0 where the mask is false.
 fn fill_numbers<T: NativePType>(
     bytes: &[u8],
     mask: &Mask,
@@ -186,7 +187,7 @@ fn fill_numbers<T: NativePType>(
     }
 }
 
-// Writes them where no number is null.
+// Writes the positions below `len` that numbers of one type name, of which none is null.
 fn fill_plain<T: NativePType>(
     bytes: &[u8],
     len: usize,
@@ -202,7 +203,7 @@ fn fill_plain<T: NativePType>(
     Ok(())
 }
 
-// Writes them, the mask read for each.
+// Writes the positions below `len` that numbers of one type name, the mask read for each.
 fn fill_masked<T: NativePType>(
     bytes: &[u8],
     mask: &Mask,

@@ -1,4 +1,14 @@
 //! Arrays as a closed tree of layouts.
+//!
+//! Read `array` first, with specs/Tree (an array as a tree) and specs/Meaning (its rows), then
+//! `validity`. Then one operation whole: `slice`, with its arms in `layouts/`. `take`, `take_runs`
+//! and `filter` go through `select`, and `mask` through `null_rows`. `indices` reads numbers as
+//! positions; `read` and `execute_scalar` read rows. `laws` and `row_laws` are for callers.
+//!
+//! Recursions go down the tree, and most have arms in `layouts/`: `#[cycle(slice)]`, `select`,
+//! `can_select` (whether so many rows can be counted), `value` and `read` (one row), `validity`,
+//! `nulls` and `null_rows` (these three through dictionaries alone). `defaults`, in `default_rows`,
+//! goes down a data type.
 #![tactic(auto)]
 
 mod array;

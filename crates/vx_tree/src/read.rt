@@ -33,7 +33,7 @@ impl ArrayRef {
         Ok(self.is_valid_within(i))
     }
 
-    // The same of a row below the length.
+    // Whether row `i`, which is below the length, is not null.
     pub(crate) fn is_valid_within(&self, i: usize) -> bool
         requires { i < tree_len self.now }
         ensures { result ≡ is_present (row_at self.now i) }
@@ -133,7 +133,8 @@ impl ArrayRef {
     // no memory.
     pub(crate) fn plain_true_count(&self, alloc: Global) -> Result<usize, VortexError>
         requires { kind_of self.now ≡ booleans false }
-        ensures { Gives result (λ n. n ≡ count_by (λ b. b) (map (λ i. truth_of (row_at self.now i)) (range_with_len 0 (tree_len self.now)))) }
+        ensures { Gives result (λ n. n ≡ count_by (λ b. b)
+            (map (λ i. truth_of (row_at self.now i)) (range_with_len 0 (tree_len self.now)))) }
     {
         if self.is_repeated() {
             return Ok(self.plain_mask(alloc)?.true_count());
@@ -141,7 +142,7 @@ impl ArrayRef {
         Ok(self.plain_bits(alloc)?.true_count())
     }
 
-    // The same in any layout, row by row.
+    // The rows of an array of plain booleans, as bits: in any layout, row by row.
     fn truths(&self, alloc: Global) -> Result<BitBuffer, VortexError>
         requires { kind_of self.now ≡ booleans false }
         ensures { Gives result (λ b. b.bits ≡ map (λ i. truth_of (row_at self.now i)) (range_with_len 0 (tree_len self.now))) }
@@ -151,7 +152,7 @@ impl ArrayRef {
         BitBuffer::from_bools(alloc, &truths)
     }
 
-    // Writes them.
+    // Writes the rows of an array of plain booleans, row by row.
     fn fill_truths(&self, out: &mut [bool])
         requires kind { kind_of self.now ≡ booleans false }
         requires room { length out.old ≡ tree_len self.now }

@@ -40,7 +40,7 @@ impl ArrayRef {
         Ok(self.slice_within(alloc, range.start, range.end)?)
     }
 
-    // The same, where the range lies within.
+    // The rows from `start` up to `end`, which lie within, in the same layout.
     #[cycle(slice)]
     pub(crate) fn slice_within(
         &self,

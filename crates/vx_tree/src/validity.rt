@@ -250,7 +250,8 @@ pub(crate) fn never_true(alloc: Global, len: usize) -> Result<Validity, VortexEr
     Ok(Validity::Array(constant_truth(alloc, false, len)?))
 }
 
-// The same in place of an array: of bits, where that is not told to have one value for all rows.
+// False in place of an array: a constant where that is told to have one value for all rows, else
+// bits.
 #[tactic(auto, using(crate::proofs::Nulled::no_truths))]
 fn nowhere_true(alloc: Global, array: &ArrayRef, len: usize) -> Result<Validity, VortexError>
     requires { ValidFits (by_array array.now) len }

@@ -1,5 +1,11 @@
 //! Views of 16 bytes over values of bytes: their parts and words, the cut of a heap of values into
 //! buffers, the check of views, and what is UTF-8.
+//!
+//! Read `view` first, with specs/Views: what the 16 bytes say; `view_parts` takes them apart. Then
+//! `build`, with specs/Cut: which buffers a heap becomes; `lengths` and `length_checks` read the
+//! lengths and tell their faults. Then `view_checks`, with specs/Faulty and specs/Sound: which
+//! foreign views are taken. `ascii_checks` is its shorter way, and `view_emptying` also empties the
+//! views of null rows. `cut_laws`, `view_laws` and `text_laws` are for callers. Nothing recurses.
 #![tactic(auto)]
 
 mod ascii_checks;

@@ -77,15 +77,6 @@ fn the_greatest_limit(rt: HostRuntime) {
 }
 
 #[test]
-fn nothing(rt: HostRuntime) {
-    let heap = ByteBuffer::copy_from(rt.alloc(), &[]).expect(&rt, "made");
-    let none: [u32; 0] = [];
-    let (buffers, views) = build_views(rt.alloc(), 0, 10, heap, &none).expect(&rt, "made");
-    assert_eq!(rt; buffers.len(), 0);
-    assert_eq!(rt; views.len(), 0);
-}
-
-#[test]
 fn views_name_their_buffers(rt: HostRuntime) {
     let heap = ByteBuffer::copy_from(rt.alloc(), LETTERS).expect(&rt, "made");
     let (buffers, views) = build_views(rt.alloc(), 0, 26, heap, &[13u32, 13, 13, 13]).expect(
@@ -123,39 +114,6 @@ fn a_buffer_one_byte_short_is_cut(rt: HostRuntime) {
     assert_eq!(rt; views.len(), 2);
     assert_eq!(rt; place_of(views.value(0)), Some((0, 0)));
     assert_eq!(rt; place_of(views.value(1)), Some((1, 0)));
-}
-
-#[test]
-fn places_past_sixteen_bits(rt: HostRuntime) {
-    let heap = ByteBuffer::from_vec(
-        rt.alloc(),
-        vec![in rt.alloc(); 0; 9000000].expect(&rt, "made"),
-    )
-    .expect(&rt, "made");
-    let lens = vec![in rt.alloc(); 1000u32; 9000].expect(&rt, "made");
-    let (buffers, views) = build_views(rt.alloc(), 0, MAX_BUFFER_LEN, heap, &lens).expect(
-        &rt, "made",
-    );
-    assert_eq!(rt; buffers.len(), 1);
-    assert_eq!(rt; views.len(), 9000);
-    assert_eq!(rt; place_of(views.value(66)), Some((0, 66000)));
-    assert_eq!(rt; place_of(views.value(8999)), Some((0, 8999000)));
-}
-
-#[test]
-fn views_are_those_of_their_values(rt: HostRuntime) {
-    let heap = ByteBuffer::copy_from(rt.alloc(), b"inlinethis is a long reference value").expect(
-        &rt, "made",
-    );
-    let (_, views) = build_views(rt.alloc(), 0, MAX_BUFFER_LEN, heap, &[6u32, 30, 0]).expect(
-        &rt, "made",
-    );
-    let expected = [
-        BinaryView::make_view(b"inline", 0, 0),
-        BinaryView::make_view(b"this is a long reference value", 0, 6),
-        BinaryView::make_view(b"", 0, 36),
-    ];
-    assert_eq!(rt; views.as_slice(), expected.as_slice());
 }
 
 // The buffers and views of the part of the text between its offsets.

@@ -83,7 +83,7 @@ fn check_list_rows(count: usize, offsets: &ArrayRef, sizes: &ArrayRef) -> Result
     check_each_row(count, offsets, sizes)
 }
 
-// The same of lists in any layout, one after another.
+// Refuses the first row that is negative, or ends past the elements: in any layout, row by row.
 fn check_each_row(count: usize, offsets: &ArrayRef, sizes: &ArrayRef) -> Result<(), VortexError>
     requires offsets { is_plain_integers (kind_of offsets.now) ≡ true }
     requires sizes { is_plain_integers (kind_of sizes.now) ≡ true }
@@ -100,7 +100,8 @@ fn check_each_row(count: usize, offsets: &ArrayRef, sizes: &ArrayRef) -> Result<
     Ok(())
 }
 
-// The same of lists that all have the offset and the size of the first, which alone is tested.
+// Refuses the first row where it is negative, or ends past the elements: all lists have its offset
+// and size, so it alone is tested.
 fn check_first_row(count: usize, offsets: &ArrayRef, sizes: &ArrayRef) -> Result<(), VortexError>
     requires offsets { is_plain_integers (kind_of offsets.now) ≡ true }
     requires sizes { is_plain_integers (kind_of sizes.now) ≡ true }

@@ -41,7 +41,7 @@ impl ListViewData {
         }
     }
 
-    /// The same as `new`: it never fails.
+    /// The data that `new` gives: it never fails.
     pub fn try_new() -> Result<ListViewData, VortexError>
         ensures { IsOkAnd result (λ d. d ≡ false) }
     {

@@ -34,7 +34,7 @@ pub(crate) fn check_number_rows(
     )
 }
 
-// The same for offsets of one type.
+// Refuses the first row that is negative, or ends past the elements: offsets of one type.
 fn check_rows_from<O: NativePType>(
     count: usize,
     offsets: &[u8],
@@ -51,8 +51,8 @@ fn check_rows_from<O: NativePType>(
     call_native!(size_type, check_typed_rows::<O>(count, offsets, sizes))
 }
 
-// The same for offsets of one type and sizes of another: a loop by itself, whose numbers stay in
-// registers.
+// Refuses the first row that is negative, or ends past the elements: offsets of one type and sizes
+// of another, in a loop by itself, whose numbers stay in registers.
 #[inline(never)]
 fn check_typed_rows<O: NativePType, S: NativePType>(
     count: usize,
@@ -91,7 +91,7 @@ pub(crate) fn are_number_rows_consecutive(
     call_native!(offset_type, are_consecutive_from(offsets, size_type, sizes))
 }
 
-// The same for offsets of one type.
+// Whether each row ends where the next one starts: offsets of one type.
 fn are_consecutive_from<O: NativePType>(offsets: &[u8], size_type: PType, sizes: &[u8]) -> bool
     requires same_len { length (numbers size_type sizes.now) ≡ length (numbers O.PTYPE offsets.now) }
     requires offsets { IsCounts (primitive O.PTYPE offsets.now non_nullable) }
@@ -103,7 +103,7 @@ fn are_consecutive_from<O: NativePType>(offsets: &[u8], size_type: PType, sizes:
     call_native!(size_type, are_typed_consecutive::<O>(offsets, sizes))
 }
 
-// The same for offsets of one type and sizes of another.
+// Whether each row ends where the next one starts: offsets of one type and sizes of another.
 #[inline(never)]
 fn are_typed_consecutive<O: NativePType, S: NativePType>(offsets: &[u8], sizes: &[u8]) -> bool
     requires same_len { length (numbers S.PTYPE sizes.now) ≡ length (numbers O.PTYPE offsets.now) }
@@ -146,7 +146,7 @@ pub(crate) fn bounds_of_number_rows(
     call_native!(offset_type, bounds_from(offsets, size_type, sizes))
 }
 
-// The same for offsets of one type.
+// The least offset and the greatest end of lists: offsets of one type.
 fn bounds_from<O: NativePType>(offsets: &[u8], size_type: PType, sizes: &[u8]) -> (usize, usize)
     requires some { 0 < length (numbers O.PTYPE offsets.now) }
     requires offsets { AreCountBytes O.PTYPE offsets.now }
@@ -163,7 +163,7 @@ fn bounds_from<O: NativePType>(offsets: &[u8], size_type: PType, sizes: &[u8]) -
     call_native!(size_type, typed_bounds::<O>(offsets, sizes))
 }
 
-// The same for offsets of one type and sizes of another.
+// The least offset and the greatest end of lists: offsets of one type and sizes of another.
 #[inline(never)]
 fn typed_bounds<O: NativePType, S: NativePType>(offsets: &[u8], sizes: &[u8]) -> (usize, usize)
     requires some { 0 < length (numbers O.PTYPE offsets.now) }

@@ -191,7 +191,7 @@ fn put_list(out: &mut [usize], at: usize, start: usize, size: usize)
     }
 }
 
-// The same one by one.
+// Writes `size` positions from `start` on to the places from `at` on, one by one.
 fn put_each(out: &mut [usize], at: usize, start: usize, size: usize)
     requires room { at + size ≤ length out.old }
     requires end { start + size < 2 ^ 64 }
@@ -203,7 +203,8 @@ fn put_each(out: &mut [usize], at: usize, start: usize, size: usize)
     }
 }
 
-// The same by eights.
+// Writes `size` positions from `start` on to the places from `at` on, by eights. What there is
+// after them may change.
 #[inline]
 fn put_eights(out: &mut [usize], at: usize, start: usize, size: usize)
     requires room { at + size + 8 ≤ length out.old }

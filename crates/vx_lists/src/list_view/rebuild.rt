@@ -202,7 +202,8 @@ impl ListViewArray {
         rows == 0 || total / (rows as u64) < 128
     }
 
-    // The same as `rebuild_by_take` and `rebuild_by_runs` give, the way that `should_use_take` says.
+    // The lists laid end to end, by `rebuild_by_take` or `rebuild_by_runs`, as `should_use_take`
+    // says.
     fn lay_end_to_end(&self, alloc: Global) -> Result<ListViewArray, VortexError>
         ensures rebuilt { IfOk result (IsRebuilt self.now) }
         ensures refuses { Refuses result (rebuild_overflow self.now) }

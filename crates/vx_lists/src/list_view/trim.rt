@@ -19,10 +19,10 @@ use vx_tree::{ArrayRef, Layout, TypedArray, Validity, rows_fit_their_dtype};
 
 impl ListViewArray {
     /// The same rows over the elements from `start` up to `end` alone: each offset is less by
-    /// `start`; the sizes, the types of both, the validity and the flag stay. Asks that no list starts before `start`
-    /// or ends past `end`, null rows counted, that `start` is at most `end`, and `end` at most the
-    /// number of elements. Of lists at 2 and 5, of two elements each, over nine elements, the part
-    /// `2..7` has lists at 0 and 3 over five.
+    /// `start`; the sizes, the types of both, the validity and the flag stay. Asks that no list
+    /// starts before `start` or ends past `end`, null rows counted, that `start` is at most `end`,
+    /// and `end` at most the number of elements. Of lists at 2 and 5, of two elements each, over
+    /// nine elements, the part `2..7` has lists at 0 and 3 over five.
     pub fn trim_elements(
         &self,
         alloc: Global,
@@ -64,7 +64,7 @@ fn lowered_counts(alloc: Global, array: &ArrayRef, by: usize) -> Result<ArrayRef
     Ok(ArrayRef::primitive(alloc, ptype, bytes, Validity::NonNullable)?)
 }
 
-// The same of a constant: its one count is made less.
+// A constant of counts, less by `by`: its one count is made less.
 #[tactic(auto, using(crate::proofs::ListViews::TrimmedViews::constant_counts))]
 fn lowered_constant(alloc: Global, array: &ArrayRef, by: usize) -> Result<ArrayRef, VortexError>
     requires layout { is_constant array.now ≡ true }

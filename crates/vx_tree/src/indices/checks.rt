@@ -23,7 +23,8 @@ pub(crate) fn are_all_positions(ptype: PType, bytes: &[u8], len: usize) -> bool
     call_native!(ptype, are_positions(bytes, len))
 }
 
-// The same for numbers of one type. The first that is not one is looked for where there is one.
+// Whether each number of one type is a position below `len`. The first that is not is looked for
+// where there is one.
 fn check_typed<T: NativePType>(bytes: &[u8], len: usize) -> Result<(), VortexError>
     ensures { Tests result (indices_fault len (primitive T.PTYPE bytes.now non_nullable)) }
 {

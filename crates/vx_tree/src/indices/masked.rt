@@ -44,7 +44,7 @@ pub(crate) fn number_indices<'a>(
     }
 }
 
-// The same where no row is null.
+// The positions below `len` that numbers without nulls name, read where they lie.
 fn plain_indices(ptype: PType, bytes: &[u8], len: usize) -> Result<Indices<'_>, VortexError>
     ensures ok { IfOk result (λ ps. ps ≡ map unsigned_abs (numbers ptype bytes.now)) }
     ensures tests { Tests result (indices_fault len (primitive ptype bytes.now non_nullable)) }
@@ -53,8 +53,9 @@ fn plain_indices(ptype: PType, bytes: &[u8], len: usize) -> Result<Indices<'_>, 
     Ok(Indices::of_numbers(ptype, bytes))
 }
 
-// The same where bits tell which rows are valid: the numbers where they lie, where those of the
-// null rows are positions too, else the valid ones with 0 for each other.
+// The positions below `len` that numbers name of which bits tell the valid ones: the numbers where
+// they lie, where those of the null rows are positions too, else the valid ones with 0 for each
+// other.
 #[tactic(auto, using(crate::proofs::Named::under_bits))]
 fn masked_indices<'a>(
     alloc: Global,
@@ -84,7 +85,7 @@ fn check_valid(ptype: PType, bytes: &[u8], valid: &BitBuffer, len: usize) -> Res
     call_native!(ptype, check_each_valid(bytes, valid, len))
 }
 
-// The same for numbers of one type.
+// Whether each number of one type whose bit is set is a position below `len`.
 fn check_each_valid<T: NativePType>(
     bytes: &[u8],
     valid: &BitBuffer,
@@ -135,7 +136,7 @@ fn valid_numbers(
     Ok(own)
 }
 
-// Writes them, of one type.
+// Writes the numbers of one type whose bit is set, over bytes of their own, with 0 for each other.
 fn put_valid_numbers<T: NativePType>(bytes: &[u8], valid: &BitBuffer, out: &mut [u8])
     requires bits { length valid.now.bits ≡ length (numbers T.PTYPE bytes.now) }
     requires room { length out.old ≡ length (numbers T.PTYPE bytes.now) * byte_width T.PTYPE }

@@ -41,7 +41,7 @@ impl<'a> Indices<'a> {
         }
     }
 
-    // The same of numbers in bytes of its own.
+    // The positions that numbers in bytes of its own are, each without its sign.
     pub(crate) fn of_own_numbers(ptype: PType, bytes: Vec<u8>) -> Indices<'a>
         ensures { result ≡ map unsigned_abs (numbers ptype bytes.items) }
     {

@@ -187,7 +187,8 @@ impl ArrayRef {
         }
     }
 
-    // The same of one truth value for each code: one code, null where it is false, that codes name.
+    // Codes that are all 0, and all null where `valid` is false: one code, which constant codes
+    // name.
     fn repeated_code(alloc: Global, valid: bool, len: usize) -> Result<ArrayRef, VortexError>
         ensures { Gives result (IsZeroCodes len (by_array (constant (booleans false) (boolean valid) len))) }
     {

@@ -275,7 +275,8 @@ pub fn empty_views(
     validity: Validity,
 ) -> Result<ArrayRef, VortexError>
     requires { WellFormed (view_array (replicate len (view_of [] 0 0)) buffers.now (dtype_meaning dtype.now) (valid_of validity)) }
-    ensures { Gives result (λ a. a ≡ view_array (replicate len (view_of [] 0 0)) buffers.now (dtype_meaning dtype.now) (valid_of validity)) }
+    ensures { Gives result (λ a. a
+        ≡ view_array (replicate len (view_of [] 0 0)) buffers.now (dtype_meaning dtype.now) (valid_of validity)) }
 {
     let views = Buffer::from_vec(alloc, vec![in alloc; BinaryView::empty_view(); len]?)?;
     views_over(alloc, views, buffers, dtype, validity)
@@ -311,8 +312,8 @@ fn valid_views(
     Buffer::from_vec(alloc, valid)
 }
 
-// The same: those between the runs of rows that are true are made empty where they lie, or in a
-// copy where another buffer shares the views.
+// The views where the mask is true, and 16 zero bytes elsewhere: these are written where the views
+// lie, or in a copy where another buffer shares them.
 fn masked_views(
     alloc: Global,
     views: Buffer<BinaryView>,
@@ -357,7 +358,7 @@ fn empty_range(views: &mut [BinaryView], start: usize, end: usize)
     }
 }
 
-// Each view has 16 bytes, and each buffer has bytes. It does nothing.
+// Each view has 16 bytes, and each buffer has bytes: learnt from two loops that change nothing.
 pub(crate) fn known_views(views: &[BinaryView], buffers: &[ByteBuffer])
     ensures { AreViews views.now buffers.now }
 {
@@ -365,7 +366,8 @@ pub(crate) fn known_views(views: &[BinaryView], buffers: &[ByteBuffer])
     known_bytes(buffers);
 }
 
-// Each view has 16 bytes. It does nothing, and so compiles to nothing.
+// Each view has 16 bytes. The loop uses nothing that it reads: LLVM leaves it out, Rattle's own
+// compiler does not, and nothing proves either.
 fn known_sizes(views: &[BinaryView])
     ensures { (i : ℕ) → i < length views.now → IsView (slice_index_or views.now i []) }
 {
@@ -374,7 +376,7 @@ fn known_sizes(views: &[BinaryView])
     }
 }
 
-// Each buffer has bytes. It does nothing, and so compiles to nothing.
+// Each buffer has bytes, by such a loop over the buffers.
 fn known_bytes(buffers: &[ByteBuffer])
     ensures { (block : ℕ) → AreBytes (buffer_at buffers.now block) }
 {

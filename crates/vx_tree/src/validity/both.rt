@@ -45,7 +45,7 @@ impl Validity {
     }
 }
 
-// The same of an array.
+// `and` of an array and of any validity.
 fn array_and(alloc: Global, array: ArrayRef, rhs: Validity) -> Result<Validity, VortexError>
     ensures pair { IfOk result (λ w. (n : ℕ) → IsLenOf (by_array array) n → IsLenOf (valid_of rhs) n
         → pair_of (valid_of w) n ≡ both_pairs (pair_of (by_array array) n) (pair_of (valid_of rhs) n)) }
@@ -61,7 +61,7 @@ fn array_and(alloc: Global, array: ArrayRef, rhs: Validity) -> Result<Validity, 
     }
 }
 
-// The same of two arrays.
+// `and` of two arrays, with the last byte cleared.
 #[tactic(auto, using(crate::proofs::Masks::plain_booleans))]
 fn arrays_and(alloc: Global, array: &ArrayRef, other: &ArrayRef) -> Result<Validity, VortexError>
     ensures pair { IfOk result (λ w. (n : ℕ) → IsLenOf (by_array array.now) n → IsLenOf (by_array other.now) n
@@ -85,8 +85,8 @@ fn arrays_and(alloc: Global, array: &ArrayRef, other: &ArrayRef) -> Result<Valid
     Ok(validity)
 }
 
-// The same of two arrays of plain booleans that are as long, by their bits, with the last byte
-// kept.
+// The rows that are true in both of two arrays of plain booleans, as long as each other, with the
+// last byte kept.
 pub(crate) fn plain_and(
     alloc: Global,
     array: &ArrayRef,
@@ -100,7 +100,7 @@ pub(crate) fn plain_and(
     bits_and(alloc, array, other, LastByte::Kept)
 }
 
-// The same, with the last byte kept or cleared.
+// The rows that are true in both, with the last byte kept or cleared.
 fn bits_and(
     alloc: Global,
     array: &ArrayRef,
@@ -139,7 +139,8 @@ fn joined_bits(
     }
 }
 
-// The same of one value for all rows: the other array, or a constant false.
+// The rows of an array that are true, where one value for all rows is too: the array, or a constant
+// false.
 #[tactic(auto, using(crate::proofs::Nulled::repeated_and))]
 fn repeated_and(alloc: Global, value: bool, other: &ArrayRef) -> Result<Validity, VortexError>
     requires { kind_of other.now ≡ booleans false }

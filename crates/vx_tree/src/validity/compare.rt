@@ -37,7 +37,7 @@ impl Validity {
         Ok(self.same_bits(alloc, other, len)?)
     }
 
-    // The same, by the bits of both.
+    // Whether the same of `len` rows are valid in both, by the bits of both.
     fn same_bits(&self, alloc: Global, other: &Validity, len: usize) -> Result<bool, VortexError>
         requires mine { ValidFits (valid_of self.now) len }
         requires theirs { ValidFits (valid_of other.now) len }

@@ -199,7 +199,7 @@ impl ArrayRef {
         self.check_each_patch(offset, len)
     }
 
-    // The same, in any layout, row by row.
+    // Whether each row names a position, less the offset, below `len`: in any layout, row by row.
     fn check_each_patch(&self, offset: usize, len: usize) -> Result<(), VortexError>
         requires { is_plain_integers (kind_of self.now) ≡ true }
         ensures { Tests result (patch_positions_fault offset len self.now) }
@@ -236,7 +236,7 @@ impl ArrayRef {
         }
     }
 
-    // The same, in any layout, row by row.
+    // Overwrites booleans at the positions, less the offset, that the rows of any layout name.
     fn write_each(&self, out: &mut PatchedBits, offset: usize, values: &BitBuffer)
         requires ints { is_plain_integers (kind_of self.now) ≡ true }
         requires named { patch_positions_fault offset (length out.old) self.now ≡ None }
@@ -275,7 +275,8 @@ fn are_all_patches(ptype: PType, bytes: &[u8], offset: usize, len: usize) -> boo
     call_native!(ptype, are_patches(bytes, offset, len))
 }
 
-// The same for numbers of one type: no number ends the loop.
+// Whether each number of one type is a position, less the offset, below `len`: no number ends the
+// loop.
 #[inline(never)]
 fn are_patches<T: NativePType>(bytes: &[u8], offset: usize, len: usize) -> bool
     ensures { IsTrue result → patch_positions_fault offset len (primitive T.PTYPE bytes.now non_nullable) ≡ None }
@@ -314,7 +315,7 @@ fn write_numbers(
     call_native!(ptype, write_typed(bytes, out, offset, values))
 }
 
-// The same for numbers of one type.
+// Overwrites booleans at the positions that numbers of one type are, less the offset.
 #[inline(never)]
 fn write_typed<T: NativePType>(
     bytes: &[u8],

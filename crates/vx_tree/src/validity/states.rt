@@ -50,7 +50,8 @@ impl Validity {
         matches!(self, Validity::AllInvalid)
     }
 
-    /// The same, but under `NonNullable` null may stand from now on.
+    /// The same rows, where null may stand from now on: `NonNullable` becomes `AllValid`, and any
+    /// other stays.
     pub fn into_nullable(self) -> Validity
         ensures { valid_of result ≡ made_nullable (valid_of self) }
     {
