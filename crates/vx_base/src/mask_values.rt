@@ -1,6 +1,6 @@
 // The booleans of a mask where both values stand, as the runs of those that are true.
 
-ghost use Rattle.std.specs.Prelude.{◌≡◌, ◌<◌, length, count_by};
+ghost use Rattle.std.specs.Prelude.{◌≡◌, ◌<◌, length, count_by, IfOk};
 ghost use Rattle.std.specs.List.{flat_map};
 ghost use Rattle.vx_base.specs.Refusals.{Gives};
 ghost use Rattle.vx_base.specs.Bits.{bool_at};
@@ -87,7 +87,8 @@ impl MaskValues {
 
     /// The booleans as bits. Fails only for want of memory.
     pub fn bit_buffer(&self, alloc: Global) -> Result<BitBuffer, VortexError>
-        ensures { Gives result (λ b. b.bits ≡ self.now) }
+        ensures bits { Gives result (λ b. b.bits ≡ self.now) }
+        ensures offset { IfOk result (λ b. b.offset ≡ 0) }
     {
         let mut bytes = vec![in alloc; 0u8; self.len.div_ceil(8)]?;
         mark_runs(&mut bytes, &self.runs);

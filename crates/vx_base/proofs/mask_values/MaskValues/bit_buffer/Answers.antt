@@ -7,8 +7,8 @@ use Rattle.vx_base.specs.MaskRuns.{is_in_runs}
 use Rattle.vx_base.proofs.MaskRuns.{bits_of_marked}
 use Rattle.vx_base.proofs.mask_values.MaskValues.bit_buffer.Goals as goal
 
-pub returns : goal.returns
-returns c =
+pub returns-clause-bits : goal.returns-clause-bits
+returns-clause-bits c =
     let v = c.self.inside in
     let bits = c.mark_runs.new.out in
     let items : (with_items c.in_ok-bytes.bytes bits).items ≡ bits = with_items_is c.in_ok-bytes.bytes bits (omega (arith, c.deref_mut.ensures.len, c.mark_runs.ensures.len)) in
