@@ -42,6 +42,16 @@ uint32_t codrask_keep_name(struct reader *reader, const char *name) {
     return 0;
 }
 
+uint32_t codrask_keep_formats(struct reader *reader) {
+    uint8_t *formats = block_of(reader, reader->count, 1);
+    if (!formats)
+        return no_memory(reader);
+    for (size_t i = 0; i < reader->count; i++)
+        formats[i] = reader->tasks[i].form;
+    reader->memory->formats = formats;
+    return 0;
+}
+
 /* ---- how many bytes ---- */
 
 /* How many bytes a buffer of views has; 0 where that is not told, and where there is no buffer, but for a negative size. */
