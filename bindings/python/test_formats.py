@@ -5,7 +5,7 @@ import struct
 import traceback
 
 import stand_in as of
-from codrask import Column, Step, run
+from codrask import Column, Step, library, run
 from codrask.capsules import clear_release
 from codrask.library import ArrowSchema
 
@@ -251,6 +251,58 @@ def test_schemas_that_ask_for_nothing():
     given = column.__arrow_c_array__(nothing.capsule())
     taker = type("Taker", (), {"__arrow_c_array__": lambda self, requested_schema=None: given})()
     assert out(Column.from_arrow(taker)) == ("+l", ("U",))
+    of.releases()
+
+
+# ---- libraries of before, and without memory
+
+class Library:
+    """The library without some calls, and with others in place of its own."""
+
+    def __init__(self, lacks=(), **calls):
+        self._whole, self._lacks, self._calls = library.load(), lacks, calls
+
+    def __getattr__(self, name):
+        if name in self._lacks:
+            raise AttributeError(name)
+        return self._calls.get(name) or getattr(self._whole, name)
+
+
+def with_library(other, call):
+    """What a call gives or raises with another library."""
+    whole, library._loaded = library.load(), other
+    try:
+        return call()
+    except (ImportError, MemoryError) as error:
+        return error
+    finally:
+        library._loaded = whole
+
+
+def test_a_library_without_formats():
+    older = Library(["codrask_table_formats", "codrask_write_arrow_as", "codrask_run_formats"])
+    whole = of.values(["x", "y"], "U")
+    column = with_library(older, lambda: Column.from_arrow(whole))
+    assert with_library(older, lambda: out(column)) == ("vu",) == with_library(older, lambda: out(column.slice(1)))
+    assert with_library(older, lambda: out(column, by_offsets=True)) == ("u",)
+    asked = with_library(older, lambda: given_for(column, of.values([])))
+    assert isinstance(asked, ImportError) and "has no codrask_write_arrow_as: it is older than this package" in str(asked), asked
+    later = Column.from_arrow(whole)
+    assert with_library(older, lambda: out(later)) == ("vu",) and out(later) == ("U",)
+    of.releases()
+
+
+def test_no_memory_for_formats():
+    given_back = []
+    free = library.load().codrask_columns_free
+    refusing = Library(codrask_run_formats=lambda *_: 1, codrask_columns_free=lambda made: (given_back.append(made), free(made)))
+    column = Column.from_arrow(of.values(["x", "y"], "U"))
+    for call in (column.to_arrow, column.__arrow_c_array__, lambda: column.slice(1)):
+        error = with_library(refusing, call)
+        assert isinstance(error, MemoryError) and str(error) == "the library was refused memory", error
+    assert len(given_back) == 3
+    none = Column.from_pylist(["x"], "text")
+    assert with_library(refusing, lambda: out(none)) == ("vu",)
     of.releases()
 
 
