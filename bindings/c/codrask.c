@@ -14,6 +14,11 @@ const char *codrask_table_name(const struct codrask_table *table) {
     return memory ? memory->name : "";
 }
 
+const uint8_t *codrask_table_formats(const struct codrask_table *table) {
+    const struct table_memory *memory = table->memory;
+    return memory ? memory->formats : NULL;
+}
+
 static const struct codrask_column no_column = {0};
 const struct codrask_columns CODRASK_NO_COLUMNS = {&no_column, 0};
 

@@ -335,6 +335,18 @@ uint32_t codrask_table_from_arrow(const struct ArrowSchema *schema, const struct
 /* The name of the column itself, as the schema has it, or "". */
 const char *codrask_table_name(const struct codrask_table *table);
 
+/* The formats that say of the same values how they lie. */
+enum codrask_format {
+    CODRASK_NO_FORMAT = 0,     /* of all other arrays; of these, of which none is known */
+    CODRASK_SMALL_OFFSETS = 1, /* "u", "z", "+l" */
+    CODRASK_LARGE_OFFSETS = 2, /* "U", "Z", "+L" */
+    CODRASK_SMALL_VIEWS = 3,   /* "vu", "vz", "+vl" */
+    CODRASK_LARGE_VIEWS = 4    /* "+vL"; of texts and byte lists as CODRASK_SMALL_VIEWS */
+};
+
+/* The format with which each node came in, as many as the table has nodes: codrask_write_arrow_as takes them. They go with the table. */
+const uint8_t *codrask_table_formats(const struct codrask_table *table);
+
 /* Gives back what a table has. */
 void codrask_table_free(struct codrask_table *table);
 
@@ -428,7 +440,24 @@ uint32_t codrask_write_arrow(const struct codrask_node *nodes, size_t node_count
                              const struct codrask_limits *limits, struct ArrowSchema *schema, struct ArrowArray *array,
                              struct codrask_fault *fault);
 
-/* The same without a name and without limits of the caller's. */
+/* The same, where each node has a format: texts, byte lists and lists are written with theirs, and by the flags where it is
+ * CODRASK_NO_FORMAT; of other nodes, and of the lists of maps, it says nothing. A null pointer has none at all. What small offsets or the
+ * small views of lists cannot count, past 31 bits, is written by the large ones. Lists that have offsets are refused as
+ * CODRASK_NOT_END_TO_END as above. Refused first is, as CODRASK_BAD_FLAGS, a number that is none of codrask_format, at its node. */
+uint32_t codrask_write_arrow_as(const struct codrask_node *nodes, size_t node_count, const uint8_t *formats, uint32_t flags,
+                                const char *name, const struct codrask_limits *limits, struct ArrowSchema *schema,
+                                struct ArrowArray *array, struct codrask_fault *fault);
+
+/* The formats of what a run wrote: of the same columns, steps and positions, to which codrask_run answered 0. Of each column there are as
+ * many as it has nodes, or a null pointer; so there is room for those of each column that was written.
+ *
+ * A slice, the rows of a take, a filter or a mask, what is made plain, packed, or has other nulls, and a column of records keep them at
+ * every depth; what is joined has those of the first. Lists that were rebuilt have none themselves. Answers 0, or CODRASK_MEMORY. */
+uint32_t codrask_run_formats(const struct codrask_column *columns, const uint8_t *const *formats, size_t column_count,
+                             const struct codrask_step *steps, size_t step_count, const size_t *wanted,
+                             const struct codrask_columns *made, uint8_t *const *made_formats);
+
+/* The same as codrask_write_arrow without a name and without limits of the caller's. */
 uint32_t codrask_to_arrow(const struct codrask_node *nodes, size_t node_count, uint32_t flags, struct ArrowSchema *schema,
                           struct ArrowArray *array, struct codrask_fault *fault);
 

@@ -50,6 +50,8 @@ size_t codrask_multiply(size_t one, size_t other); /* the same */
 
 /* ---- to_arrow.c ---- */
 
+enum { MOST_FORMAT = CODRASK_LARGE_VIEWS };
+
 /* A schema that has nothing yet, and can be released. */
 uint32_t codrask_open_schema(struct ArrowSchema *schema);
 
@@ -120,6 +122,7 @@ struct block {
 struct table_memory {
     struct block *blocks;
     char *name;
+    uint8_t *formats; /* one for each node */
 };
 
 /* What is still to be made of a node, when it is known how many bytes all of them have. */
@@ -141,6 +144,7 @@ struct enclosing {
 
 struct task {
     enum work work;
+    uint8_t form; /* one of codrask_format */
     bool nullable;
     struct enclosing in;
     const struct ArrowSchema *schema;
@@ -200,8 +204,9 @@ void codrask_spend_task(struct budget *budget, const struct codrask_node *node, 
 /* Does all tasks, and counts the nulls. */
 uint32_t codrask_make_rows(struct reader *reader);
 
-/* A copy of a name, which has passed. */
+/* A copy of a name, which has passed; and of the formats of all nodes. */
 uint32_t codrask_keep_name(struct reader *reader, const char *name);
+uint32_t codrask_keep_formats(struct reader *reader);
 
 void codrask_free_memory(struct table_memory *memory);
 

@@ -337,6 +337,7 @@ static uint32_t emit_views(struct reader *r, struct rows rows, const struct form
     node->buffer_count = (size_t)rows.array->n_buffers - 3;
     r->view_buffers += node->buffer_count;
     r->tasks[place].work = MAKE_HEAPS;
+    r->tasks[place].form = CODRASK_SMALL_VIEWS;
     return 0;
 }
 
@@ -368,6 +369,10 @@ static bool heap_end_of(struct rows rows, size_t width, int64_t *end) {
     return true;
 }
 
+static uint8_t form_of_offsets(const struct format *format) {
+    return format->layout == MAPS ? CODRASK_NO_FORMAT : format->width == 4 ? CODRASK_SMALL_OFFSETS : CODRASK_LARGE_OFFSETS;
+}
+
 /* Texts or byte lists by offsets. Their bytes begin where the first one does; where that tells no place, with the heap. */
 static uint32_t emit_values(struct reader *r, struct rows rows, const struct format *format) {
     size_t place;
@@ -376,6 +381,7 @@ static uint32_t emit_values(struct reader *r, struct rows rows, const struct for
     if (error || (error = test_length(r, rows, place, 1, needed_for(rows, 1, format->width))))
         return error;
     struct task *task = &r->tasks[place];
+    task->form = form_of_offsets(format);
     if (!offsets_of(rows, format->width, task))
         return codrask_refuse(r, CODRASK_BAD_ARROW, place, 0);
     if (!task->offsets)
@@ -423,6 +429,7 @@ static uint32_t emit_lists(struct reader *r, struct rows rows, const struct form
         return error;
     if (!offsets_of(rows, format->width, &ends))
         return codrask_refuse(r, CODRASK_BAD_ARROW, first, 0);
+    r->tasks[place].form = form_of_offsets(format);
     bool within = 0 <= ends.base && ends.base <= ends.end && ends.end <= rows.array->children[0]->length;
     ends.base = within ? ends.base : 0;
     if ((error = emit_child(r, rows, 0, no_enclosing, (size_t)ends.base, within ? (size_t)(ends.end - ends.base) : SIZE_MAX)))
@@ -438,7 +445,10 @@ static uint32_t emit_list_views(struct reader *r, struct rows rows, const struct
     size_t place, needed = needed_for(rows, 0, format->width);
     uint32_t error = open_node(r, rows, format->kind, &place);
     if (error || (error = ask_names(r, rows, place)) || (error = test_length(r, rows, place, 1, needed))
-        || (error = test_length(r, rows, place, 2, needed)) || (error = emit_child(r, rows, 0, no_enclosing, 0, SIZE_MAX)))
+        || (error = test_length(r, rows, place, 2, needed)))
+        return error;
+    r->tasks[place].form = format->width == 4 ? CODRASK_SMALL_VIEWS : CODRASK_LARGE_VIEWS;
+    if ((error = emit_child(r, rows, 0, no_enclosing, 0, SIZE_MAX)))
         return error;
     error = emit_numbers(r, buffer(rows.array, 1), rows.from, rows.length, format->width);
     return error ? error : emit_numbers(r, buffer(rows.array, 2), rows.from, rows.length, format->width);
@@ -587,7 +597,7 @@ static uint32_t make_all(struct reader *r, const struct ArrowSchema *schema, con
     if (!r->memory)
         return codrask_refuse(r, CODRASK_MEMORY, 0, 0);
     uint32_t error = test_bytes(r, limits);
-    if (error || (error = codrask_keep_name(r, schema->name)))
+    if (error || (error = codrask_keep_name(r, schema->name)) || (error = codrask_keep_formats(r)))
         return error;
     error = codrask_make_rows(r);
     return error ? refused_of(r, error, r->tasks[r->fault.node].schema) : 0;

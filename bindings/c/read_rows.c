@@ -42,6 +42,16 @@ uint32_t codrask_keep_name(struct reader *reader, const char *name) {
     return 0;
 }
 
+uint32_t codrask_keep_formats(struct reader *reader) {
+    uint8_t *formats = block_of(reader, reader->count, 1);
+    if (!formats)
+        return no_memory(reader);
+    for (size_t i = 0; i < reader->count; i++)
+        formats[i] = reader->tasks[i].form;
+    reader->memory->formats = formats;
+    return 0;
+}
+
 /* ---- how many bytes ---- */
 
 /* How many bytes a buffer of views has; 0 where that is not told, and where there is no buffer, but for a negative size. */
@@ -214,9 +224,8 @@ struct cut {
 /* The view of a value that has no bytes which could be looked at: it names no buffer, and is refused. */
 static const struct codrask_view astray = {{13, 0, 0, 0, 0, 0, 0, 0, 0xff, 0xff, 0xff, 0xff}};
 
-/* Those of a value that passes the end of its heap: one begins past each buffer, one ends there. They are refused too. */
-static const struct codrask_view begins_past = {{13, 0, 0, 0, 0, 0, 0, 0, 0, 0, 0, 0, 0xff, 0xff, 0xff, 0xff}},
-                                 ends_past = {{0xff, 0xff, 0xff, 0xff}};
+/* That of a value which begins past the end of its heap, and past each buffer. It is refused too. */
+static const struct codrask_view begins_past = {{13, 0, 0, 0, 0, 0, 0, 0, 0, 0, 0, 0, 0xff, 0xff, 0xff, 0xff}};
 
 /* Starts a heap. */
 static void open_heap(struct cut *cut, int64_t start) {
@@ -224,53 +233,94 @@ static void open_heap(struct cut *cut, int64_t start) {
     cut->heaps[cut->count++] = (struct codrask_bytes){cut->heap + start, 0};
 }
 
-/* Lets the last heap have the bytes from `start` to `after`, and says in a view where they begin. False where offsets fell before the
- * heap, or too often. */
-static bool refer(struct cut *cut, int64_t start, int64_t after, struct codrask_view *view) {
+/* The four fields of a view, two at a time: so they are stored as they will be loaded. */
+static inline void put_fields(struct codrask_view *view, uint32_t first, uint32_t second, uint32_t third, uint32_t fourth) {
+    const uint64_t halves[] = {first | (uint64_t)second << 32, third | (uint64_t)fourth << 32};
+    memcpy(view->bytes, halves, sizeof halves);
+}
+
+/* Whether the last heap, or a new one, can have the bytes from `start` to `after`: not where offsets fell before it, or too often. It
+ * has them then. */
+static inline bool refer(struct cut *cut, int64_t start, int64_t after) {
     if (after - cut->start > INT32_MAX && cut->count < cut->room)
         open_heap(cut, start);
     if (start < cut->start || after - cut->start > INT32_MAX)
         return false;
     struct codrask_bytes *heap = &cut->heaps[cut->count - 1];
-    const uint32_t block = (uint32_t)(cut->count - 1), place = (uint32_t)(start - cut->start);
     if (heap->count < (size_t)(after - cut->start))
         heap->count = (size_t)(after - cut->start);
-    memcpy(view->bytes + 8, &block, 4);
-    memcpy(view->bytes + 12, &place, 4);
     return true;
 }
 
 /* The view of a value that stands in a heap. */
-static struct codrask_view view_of_long(struct cut *cut, int64_t start, int64_t after) {
-    struct codrask_view view;
-    const uint32_t size = (uint32_t)(after - start);
-    if (!refer(cut, start, after, &view))
-        return astray;
-    memcpy(view.bytes, &size, 4);
-    memcpy(view.bytes + 4, cut->heap + start, 4);
-    return view;
+static inline void put_long(struct cut *cut, int64_t start, int64_t after, struct codrask_view *view) {
+    uint32_t prefix;
+    if (!refer(cut, start, after)) {
+        *view = astray;
+        return;
+    }
+    memcpy(&prefix, cut->heap + start, 4);
+    put_fields(view, (uint32_t)(after - start), prefix, (uint32_t)(cut->count - 1), (uint32_t)(start - cut->start));
 }
 
 /* The view of a value that passes the end of its heap. Where it begins before that, its first byte is lent. */
-static struct codrask_view view_past(struct cut *cut, int64_t start, int64_t end) {
-    struct codrask_view view = ends_past;
+static void put_past(struct cut *cut, int64_t start, int64_t end, struct codrask_view *view) {
     if (start >= end)
-        return begins_past;
-    return refer(cut, start, start + 1, &view) ? view : astray;
+        *view = begins_past;
+    else if (!refer(cut, start, start + 1))
+        *view = astray;
+    else
+        put_fields(view, UINT32_MAX, 0, (uint32_t)(cut->count - 1), (uint32_t)(start - cut->start));
 }
 
-/* The view of a value: a short one stands in its view. */
-static struct codrask_view view_of(struct cut *cut, int64_t start, int64_t after) {
-    struct codrask_view view = {{0}};
-    const uint32_t size = (uint32_t)(after - start);
-    if (size > 12)
-        return view_of_long(cut, start, after);
-    memcpy(view.bytes, &size, 4);
-    memcpy(view.bytes + 4, cut->heap + start, size);
-    return view;
+/* The view of a value that stands in it, with zeroes behind. Where the heap goes on for 12 bytes, they are read at once, and those of
+ * other values cleared. */
+static inline void put_short(struct codrask_view *view, const uint8_t *value, uint32_t size, bool goes_on) {
+    uint64_t first = 0;
+    uint32_t last = 0;
+    if (!goes_on) {
+        *view = (struct codrask_view){{(uint8_t)size}};
+        memcpy(view->bytes + 4, value, size);
+        return;
+    }
+    memcpy(&first, value, 8);
+    memcpy(&last, value + 8, 4);
+    if (size < 8)
+        first &= ~(UINT64_MAX << 8 * size), last = 0;
+    else
+        last &= (uint32_t) ~(UINT64_MAX << 8 * (size - 8));
+    put_fields(view, size, (uint32_t)first, (uint32_t)(first >> 32), last);
 }
 
-/* Values that lie between offsets, as views. */
+/* The view of a value; false of one that no view counts. */
+static inline bool put_view(struct cut *cut, const struct task *task, int64_t start, int64_t after, struct codrask_view *view) {
+    if (task->base > start || start > after)
+        *view = astray;
+    else if (after > task->heap_end)
+        put_past(cut, start, task->end, view);
+    else if (after > task->end)
+        *view = astray;
+    else if (after - start > INT32_MAX)
+        return false;
+    else if (after - start > 12)
+        put_long(cut, start, after, view);
+    else
+        put_short(view, cut->heap + start, (uint32_t)(after - start), task->end - start >= 12);
+    return true;
+}
+
+/* Values that lie between offsets, as views: how many, until one has none. */
+static inline size_t put_views(struct cut *cut, const struct task *task, size_t width, struct codrask_view *views, size_t length) {
+    int64_t start = codrask_offset_at(task->offsets, width, 0);
+    for (size_t row = 0; row < length; row++) {
+        int64_t after = codrask_offset_at(task->offsets, width, row + 1);
+        if (!put_view(cut, task, start, after, &views[row]))
+            return row;
+        start = after;
+    }
+    return length;
+}
+
 static uint32_t make_views(struct reader *r, size_t i, const struct task *task) {
     size_t length = r->nodes[i].length, room = (size_t)(task->end - task->base) / INT32_MAX * 2 + 2;
     struct codrask_view *views = block_of(r, length, sizeof *views);
@@ -278,14 +328,9 @@ static uint32_t make_views(struct reader *r, size_t i, const struct task *task) 
     if (!views || !cut.heaps)
         return no_memory(r);
     open_heap(&cut, task->base);
-    for (size_t row = 0; row < length; row++) {
-        int64_t start = codrask_offset_at(task->offsets, task->width, row), after = codrask_offset_at(task->offsets, task->width, row + 1);
-        bool ordered = task->base <= start && start <= after, inside = ordered && after <= task->end;
-        if (inside && after - start > INT32_MAX)
-            return codrask_refuse(r, CODRASK_OVERFLOW, i, row);
-        bool passes = ordered && after > task->heap_end;
-        views[row] = inside ? view_of(&cut, start, after) : passes ? view_past(&cut, start, task->end) : astray;
-    }
+    size_t made = task->width == 4 ? put_views(&cut, task, 4, views, length) : put_views(&cut, task, 8, views, length);
+    if (made < length)
+        return codrask_refuse(r, CODRASK_OVERFLOW, i, made);
     r->nodes[i].views = views;
     r->nodes[i].view_count = length;
     r->nodes[i].buffers = cut.heaps;
@@ -318,19 +363,24 @@ static int64_t less(int64_t offset, int64_t base) {
     return __builtin_sub_overflow(offset, base, &made) ? INT64_MIN : made;
 }
 
+static inline void put_numbers(const struct task *task, size_t width, int64_t *numbers, size_t length) {
+    bool sizes = task->work == MAKE_SIZES;
+    for (size_t row = 0; row < length; row++) {
+        int64_t before = sizes ? codrask_offset_at(task->offsets, width, row) : task->base;
+        numbers[row] = less(codrask_offset_at(task->offsets, width, row + sizes), before);
+    }
+}
+
 /* The offsets of lists, from 0 on, or their sizes: each offset but the first, less the one before it. */
 static uint32_t make_numbers(struct reader *r, size_t i, const struct task *task) {
     size_t length = r->nodes[i].length;
     int64_t *numbers = block_of(r, length, sizeof *numbers);
     if (!numbers)
         return no_memory(r);
-    for (size_t row = 0; row < length; row++) {
-        int64_t start = codrask_offset_at(task->offsets, task->width, row);
-        if (task->work == MAKE_OFFSETS)
-            numbers[row] = less(start, task->base);
-        else
-            numbers[row] = less(codrask_offset_at(task->offsets, task->width, row + 1), start);
-    }
+    if (task->width == 4)
+        put_numbers(task, 4, numbers, length);
+    else
+        put_numbers(task, 8, numbers, length);
     r->nodes[i].bytes = (const void *)numbers;
     r->nodes[i].byte_count = length * sizeof *numbers;
     return 0;

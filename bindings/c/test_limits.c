@@ -201,6 +201,30 @@ static void numbers_past_arrow(void) {
     tell("lists of a size past 31 bits", is_refused(fixed, 2, CODRASK_OVERFLOW, 0, 0));
 }
 
+/* Two byte lists that have 2^31 bytes together, or one less: offsets of 32 bits do not count the former. */
+static void large_values(void) {
+    static const uint8_t small[] = {CODRASK_SMALL_OFFSETS};
+    const struct codrask_limits limits = {8 * GIB};
+    for (uint32_t more = 0; more < 2; more++) {
+        struct codrask_view views[2] = {{{0}}, {{13}}};
+        const uint32_t size = INT32_MAX - 13 + more;
+        uint8_t *heap = zeroes(size);
+        struct codrask_bytes bytes = {heap, size};
+        struct codrask_node n = node(CODRASK_BINARY_VIEW, 0, 2);
+        struct ArrowSchema schema;
+        struct ArrowArray array;
+        memcpy(views[0].bytes, &size, 4);
+        n.views = views, n.view_count = 2, n.buffers = &bytes, n.buffer_count = 1;
+        bool good = !codrask_write_arrow_as(&n, 1, small, CODRASK_BY_VIEWS, NULL, &limits, &schema, &array, &fault);
+        tell(more ? "2^31 bytes by large offsets" : "2^31 - 1 bytes by small ones", good && !strcmp(schema.format, more ? "Z" : "z"));
+        if (good) {
+            schema.release(&schema);
+            array.release(&array);
+        }
+        munmap(heap, size);
+    }
+}
+
 static struct codrask_node nest[4096];
 
 /* Writes 4096 levels as a stream of two batches, which gives its schema. */
@@ -272,6 +296,7 @@ int main(void) {
     most_nodes();
     stream_on_a_small_stack();
     numbers_past_arrow();
+    large_values();
     small_stack(false);
     small_stack(true);
     printf("%d passed, %d failed\n", passed, failed);

@@ -53,10 +53,11 @@ static uint32_t check(struct codrask_fault *fault) {
     return codrask_check(made.nodes, made.count, fault);
 }
 
-static uint32_t write_table(const struct codrask_node *nodes, size_t count, uint32_t flags, struct codrask_fault *fault) {
+static uint32_t write_table(const struct codrask_node *nodes, size_t count, const uint8_t *formats, uint32_t flags,
+                            struct codrask_fault *fault) {
     struct ArrowSchema schema;
     struct ArrowArray array;
-    uint32_t number = codrask_write_arrow(nodes, count, flags, "a column", NULL, &schema, &array, fault);
+    uint32_t number = codrask_write_arrow_as(nodes, count, formats, flags, "a column", NULL, &schema, &array, fault);
     if (schema.release)
         schema.release(&schema);
     if (array.release)
@@ -65,11 +66,11 @@ static uint32_t write_table(const struct codrask_node *nodes, size_t count, uint
 }
 
 static uint32_t by_offsets(struct codrask_fault *fault) {
-    return write_table(made.nodes, made.count, CODRASK_BY_OFFSETS, fault);
+    return write_table(made.nodes, made.count, NULL, CODRASK_BY_OFFSETS, fault);
 }
 
 static uint32_t by_views(struct codrask_fault *fault) {
-    return write_table(made.nodes, made.count, CODRASK_BY_VIEWS, fault);
+    return write_table(made.nodes, made.count, NULL, CODRASK_BY_VIEWS, fault);
 }
 
 /* Takes all that a stream hands out, and its schema twice. */
@@ -122,13 +123,15 @@ static uint32_t stream_back_in(struct codrask_fault *fault) {
 
 static struct structure structure;
 
-/* Reads an Arrow structure, and writes it again. */
+/* Reads an Arrow structure, and writes it again, by views and in the formats in which it came. */
 static uint32_t there_and_back(struct codrask_fault *fault) {
     struct codrask_table table;
     uint32_t number = codrask_read_arrow(structure.slots[0].schema, structure.slots[0].array, NULL, &table, fault);
     if (number)
         return number;
-    number = write_table(table.nodes, table.count, CODRASK_BY_VIEWS, fault);
+    number = write_table(table.nodes, table.count, NULL, CODRASK_BY_VIEWS, fault);
+    if (!number)
+        number = write_table(table.nodes, table.count, codrask_table_formats(&table), CODRASK_BY_VIEWS, fault);
     codrask_table_free(&table);
     return number;
 }
@@ -163,18 +166,35 @@ static uint32_t read_columns(struct codrask_fault *fault) {
     return number;
 }
 
-static uint32_t run(struct codrask_fault *fault) {
-    struct codrask_column column = {made.nodes, made.count};
+/* Runs steps, and finds the formats of what they gave. */
+static uint32_t run_steps(const struct codrask_column *columns, size_t count, const struct codrask_step *steps, size_t step_count,
+                          const size_t *wanted, size_t wanted_count, struct codrask_fault *fault) {
+    static uint8_t room[16][4096];
+    static const uint8_t given[4096], *const formats[] = {given, NULL, given, NULL};
+    uint8_t *made_formats[COUNT(room)];
     struct codrask_columns results = CODRASK_NO_COLUMNS;
     struct codrask_run_fault told;
+    if (count > COUNT(formats) || wanted_count > COUNT(room))
+        abort();
+    for (size_t i = 0; i < COUNT(room); i++)
+        made_formats[i] = room[i];
+    uint32_t number = codrask_run(columns, count, steps, step_count, wanted, wanted_count, &results, &told);
+    *fault = (struct codrask_fault){told.number, told.node, told.place};
+    if (!number && results.count != wanted_count)
+        abort();
+    if (!number && (number = codrask_run_formats(columns, formats, count, steps, step_count, wanted, &results, made_formats)))
+        *fault = (struct codrask_fault){number, 0, 0};
+    codrask_columns_free(&results);
+    return number;
+}
+
+static uint32_t run(struct codrask_fault *fault) {
+    struct codrask_column column = {made.nodes, made.count};
     size_t both[] = {0, 1}, wanted[] = {3, 0, 1};
     struct codrask_step steps[] = {step(CODRASK_CANONICAL, 0), step(CODRASK_CONCAT, 0), step(CODRASK_SLICE, 2)};
     steps[1].arrays = both, steps[1].array_count = 2;
     steps[2].end = made.nodes[0].length;
-    uint32_t number = codrask_run(&column, 1, steps, 3, wanted, 3, &results, &told);
-    *fault = (struct codrask_fault){told.number, told.node, told.place};
-    codrask_columns_free(&results);
-    return number;
+    return run_steps(&column, 1, steps, 3, wanted, 3, fault);
 }
 
 /* One step of each kind, on records, lists, numbers and truth values; what each gives is written. */
@@ -196,8 +216,6 @@ static uint32_t run_each_kind(struct codrask_fault *fault) {
                                    step(CODRASK_WITH_COLUMN, 0), step(CODRASK_REMOVE_COLUMN, 0), step(CODRASK_PUSH_VALIDITY, 0),
                                    step(CODRASK_PACK, 0),        step(CODRASK_PACK, 1),          step(CODRASK_FIELD, 0)};
     size_t wanted[COUNT(steps)];
-    struct codrask_columns results = CODRASK_NO_COLUMNS;
-    struct codrask_run_fault told;
     records[0].buffers = names, records[0].buffer_count = 2;
     steps[0].end = 2;
     steps[1].other = 2;
@@ -210,12 +228,7 @@ static uint32_t run_each_kind(struct codrask_fault *fault) {
     steps[14].name = names[0].bytes, steps[14].name_size = 1;
     for (size_t i = 0; i < COUNT(steps); i++)
         wanted[i] = COUNT(columns) + i;
-    uint32_t number = codrask_run(columns, COUNT(columns), steps, COUNT(steps), wanted, COUNT(wanted), &results, &told);
-    *fault = (struct codrask_fault){told.number, told.node, told.place};
-    if (number == 0 && results.count != COUNT(wanted))
-        abort();
-    codrask_columns_free(&results);
-    return number;
+    return run_steps(columns, COUNT(columns), steps, COUNT(steps), wanted, COUNT(wanted), fault);
 }
 
 /* Makes a call with one request for memory refused, or with none. */

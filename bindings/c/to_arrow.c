@@ -37,6 +37,7 @@ struct part {
 struct maker {
     const struct codrask_node *nodes;
     size_t at, node_count;
+    const uint8_t *formats; /* none, or one for each node */
     uint32_t flags;
     size_t made, most;
     struct part *waiting;
@@ -169,6 +170,17 @@ static uint32_t open_pair(struct pair p) {
 static bool bit_at(const struct codrask_node *node, size_t i) {
     i += node->offset;
     return node->bytes[i / 8] >> i % 8 & 1;
+}
+
+/* How the node at a place is written. */
+static enum codrask_format format_at(const struct maker *m, size_t at) {
+    if (m->formats && m->formats[at])
+        return m->formats[at];
+    return m->flags & CODRASK_BY_OFFSETS ? CODRASK_SMALL_OFFSETS : CODRASK_LARGE_VIEWS;
+}
+
+static bool is_by_offsets(enum codrask_format format) {
+    return format == CODRASK_SMALL_OFFSETS || format == CODRASK_LARGE_OFFSETS;
 }
 
 static size_t width_of(uint32_t kind) {
@@ -412,7 +424,8 @@ static uint32_t make_values(struct maker *m, struct pair p, const struct codrask
     uint32_t error = set_buffers(p, 3);
     if (error || (error = set_validity(m, p, node, &mask)))
         return error;
-    size_t total = total_of(node, mask), width = total <= INT32_MAX ? 4 : 8, end = 0;
+    size_t total = total_of(node, mask), end = 0;
+    size_t width = total <= INT32_MAX && format_at(m, m->node) == CODRASK_SMALL_OFFSETS ? 4 : 8;
     if (total > INT64_MAX)
         return CODRASK_OVERFLOW;
     if ((error = set_format(p, formats[2 * (node->kind == CODRASK_BINARY_VIEW) + (width == 8)]))
@@ -440,7 +453,8 @@ static uint32_t offsets_of_lists(struct maker *m, struct pair p, const struct co
     size_t n = offsets->length;
     uint64_t end = 0;
     void *made;
-    size_t width = n && (!end_of_list(offsets, sizes, n - 1, &end) || end > INT32_MAX) ? 8 : 4;
+    bool large = n && (!end_of_list(offsets, sizes, n - 1, &end) || end > INT32_MAX);
+    size_t width = !map && (large || format_at(m, m->node) == CODRASK_LARGE_OFFSETS) ? 8 : 4;
     uint32_t error = set_format(p, map ? "+m" : width == 4 ? "+l" : "+L");
     if (error || (error = add_buffer(m, p, 1, n + 1, width, &made)))
         return error;
@@ -455,16 +469,28 @@ static uint32_t offsets_of_lists(struct maker *m, struct pair p, const struct co
     return 0;
 }
 
+/* Whether all lists end where 31 bits tell it. */
+static bool are_small(const struct codrask_node *offsets, const struct codrask_node *sizes) {
+    uint64_t end;
+    for (size_t i = 0; i < offsets->length; i++)
+        if (!end_of_list(offsets, sizes, i, &end) || end > INT32_MAX)
+            return false;
+    return true;
+}
+
 static uint32_t views_of_lists(struct maker *m, struct pair p, const struct codrask_node *offsets, const struct codrask_node *sizes) {
-    uint64_t *starts, *lengths, end;
-    uint32_t error = set_format(p, "+vL");
-    if (error || (error = add_buffer(m, p, 1, offsets->length, 8, &starts)) || (error = add_buffer(m, p, 2, offsets->length, 8, &lengths)))
+    void *starts, *lengths;
+    uint64_t end;
+    size_t width = format_at(m, m->node) == CODRASK_SMALL_VIEWS && are_small(offsets, sizes) ? 4 : 8;
+    uint32_t error = set_format(p, width == 4 ? "+vl" : "+vL");
+    if (error || (error = add_buffer(m, p, 1, offsets->length, width, &starts))
+        || (error = add_buffer(m, p, 2, offsets->length, width, &lengths)))
         return error;
     for (size_t i = 0; i < offsets->length; i++) {
         if (!end_of_list(offsets, sizes, i, &end))
             return refuse_row(m, CODRASK_OVERFLOW, i);
-        starts[i] = count_at(offsets, i);
-        lengths[i] = end - starts[i];
+        put_offset(starts, width, i, count_at(offsets, i));
+        put_offset(lengths, width, i, count_at(sizes, i));
     }
     return 0;
 }
@@ -474,7 +500,7 @@ static uint32_t make_ends(struct maker *m, struct pair p, bool map) {
     const struct codrask_node *offsets = counts(m), *sizes = offsets ? counts(m) : NULL;
     if (!sizes)
         return CODRASK_BAD_ARROW;
-    return map || m->flags & CODRASK_BY_OFFSETS ? offsets_of_lists(m, p, offsets, sizes, map) : views_of_lists(m, p, offsets, sizes);
+    return map || is_by_offsets(format_at(m, m->node)) ? offsets_of_lists(m, p, offsets, sizes, map) : views_of_lists(m, p, offsets, sizes);
 }
 
 /* The elements of lists, under the name that the node has for them. */
@@ -488,7 +514,7 @@ static uint32_t make_elements(struct maker *m, struct pair p, const struct codra
 
 static uint32_t make_lists(struct maker *m, struct pair p, const struct codrask_node *node, bool map) {
     const struct codrask_node *mask;
-    uint32_t error = set_buffers(p, map || m->flags & CODRASK_BY_OFFSETS ? 2 : 3);
+    uint32_t error = set_buffers(p, map || is_by_offsets(format_at(m, m->node)) ? 2 : 3);
     if (error || (error = set_validity(m, p, node, &mask)))
         return error;
     m->waiting[m->waiting_count++] = (struct part){p, map ? ENDS_OF_MAPS : ENDS, m->node};
@@ -645,7 +671,7 @@ static uint32_t make_next(struct maker *m, struct pair p) {
     switch (node->kind) {
     case CODRASK_UTF8_VIEW:
     case CODRASK_BINARY_VIEW:
-        return m->flags & CODRASK_BY_OFFSETS ? make_values(m, p, node) : make_views(m, p, node);
+        return is_by_offsets(format_at(m, m->node)) ? make_values(m, p, node) : make_views(m, p, node);
     case CODRASK_DICTIONARY: return make_dictionary(m, p);
     case CODRASK_FIXED_SIZE_LIST: return make_fixed(m, p, node);
     case CODRASK_LIST_VIEW: return make_lists(m, p, node, false);
@@ -707,13 +733,25 @@ static uint32_t make_column(struct maker *m, const char *name, struct pair p) {
     return error;
 }
 
-uint32_t codrask_write_arrow(const struct codrask_node *nodes, size_t node_count, uint32_t flags, const char *name,
-                             const struct codrask_limits *limits, struct ArrowSchema *schema, struct ArrowArray *array,
-                             struct codrask_fault *fault) {
-    struct maker m = {.nodes = nodes, .node_count = node_count, .flags = flags};
+/* Tests the flags, and the formats of as many nodes as a table can have. */
+static uint32_t test_formats(struct maker *m) {
+    if (m->flags & ~(uint32_t)CODRASK_BY_OFFSETS)
+        return CODRASK_BAD_FLAGS;
+    for (size_t i = 0; m->formats && i < m->node_count && i < MOST_NODES; i++)
+        if (m->formats[i] > MOST_FORMAT) {
+            m->node = i;
+            return CODRASK_BAD_FLAGS;
+        }
+    return 0;
+}
+
+uint32_t codrask_write_arrow_as(const struct codrask_node *nodes, size_t node_count, const uint8_t *formats, uint32_t flags,
+                                const char *name, const struct codrask_limits *limits, struct ArrowSchema *schema,
+                                struct ArrowArray *array, struct codrask_fault *fault) {
+    struct maker m = {.nodes = nodes, .node_count = node_count, .formats = formats, .flags = flags};
     *schema = (struct ArrowSchema){.release = NULL};
     *array = (struct ArrowArray){.release = NULL};
-    uint32_t error = flags & ~(uint32_t)CODRASK_BY_OFFSETS ? CODRASK_BAD_FLAGS : 0;
+    uint32_t error = test_formats(&m);
     if (!error && node_count <= MOST_NODES)
         error = test_bytes(&m, limits);
     if (!error && (error = codrask_check(nodes, node_count, fault)))
@@ -726,6 +764,12 @@ uint32_t codrask_write_arrow(const struct codrask_node *nodes, size_t node_count
         array->release(array);
     *fault = (struct codrask_fault){error, error && error != CODRASK_MEMORY ? m.node : 0, m.row};
     return error;
+}
+
+uint32_t codrask_write_arrow(const struct codrask_node *nodes, size_t node_count, uint32_t flags, const char *name,
+                             const struct codrask_limits *limits, struct ArrowSchema *schema, struct ArrowArray *array,
+                             struct codrask_fault *fault) {
+    return codrask_write_arrow_as(nodes, node_count, NULL, flags, name, limits, schema, array, fault);
 }
 
 uint32_t codrask_to_arrow(const struct codrask_node *nodes, size_t node_count, uint32_t flags, struct ArrowSchema *schema,

@@ -130,21 +130,9 @@ def taken_stream(argument, given):
 
 # ---- handed out
 
-BY_OFFSETS, BY_VIEWS = (b"u", b"U", b"z", b"Z", b"+l", b"+L"), (b"vu", b"vz", b"+vl", b"+vL")
-
-
-def requested_by_offsets(capsule):
-    """Whether the schema of a capsule asks for texts and lists by offsets, and for none by views."""
-    waiting, formats = [ArrowSchema.from_address(address_in("requested_schema", capsule, ArrowSchema))], set()
-    for _ in range(MOST_SCHEMAS):
-        if not waiting:
-            break
-        schema = waiting.pop()
-        if schema.release:
-            formats.add(schema.format)
-            waiting += children_of(schema)
-            waiting += [schema.dictionary.contents] if schema.dictionary else []
-    return not formats.isdisjoint(BY_OFFSETS) and formats.isdisjoint(BY_VIEWS)
+def schema_in(argument, capsule):
+    """The schema of a capsule, which keeps it."""
+    return ArrowSchema.from_address(address_in(argument, capsule, ArrowSchema))
 
 
 def capsule_of(part):

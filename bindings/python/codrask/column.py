@@ -6,10 +6,11 @@ import reprlib
 from . import nodes as of
 from .arguments import NO_LISTS, U32, address, choice, each, encoded, instance, integer, listed, shown, truth, wrong
 from .arrow import Arrow, held
-from .capsules import capsule_of, requested_by_offsets
+from .capsules import capsule_of, schema_in
 from .equal import same_rows
 from .faults import MEMORY, TOO_MANY_BYTES, TOO_MANY_NODES, Refused, refusal
-from .library import Fault, Limits, load
+from .formats import formats_asked
+from .library import Fault, Limits, later, load
 from .made import nodes_of
 from .memory import bytes_in, raw, raw_or_numbers
 from .nulls import null_count
@@ -29,7 +30,7 @@ class Column:
     """A column as a table of nodes: each array stands before its parts. Nothing of it is tested until `check`, but how many
     nodes it has, and that each argument is one."""
 
-    __slots__ = ("_nodes", "_passed", "_name", "__weakref__")
+    __slots__ = ("_nodes", "_passed", "_name", "_formats", "__weakref__")
 
     def __init__(self, *_arguments, **_fields):
         raise TypeError("a Column is made by one of its calls, as Column.numbers or Column.from_arrow")
@@ -41,9 +42,10 @@ class Column:
         raise TypeError("a Column is neither pickled nor copied deeply")
 
     @classmethod
-    def _made(cls, nodes, name=b""):
+    def _made(cls, nodes, name=b"", formats=None):
         column = object.__new__(cls)
         column._nodes, column._passed, column._name = nodes, False, name
+        column._formats = bytes(len(nodes)) if formats is None else formats
         return column
 
     # ---- made of Arrow arrays
@@ -102,7 +104,7 @@ class Column:
         nodes = [of.Node(kind, state, length, **fields)]
         for part in parts:
             nodes += part._nodes
-        return cls._made(tuple(nodes))
+        return cls._made(tuple(nodes), b"", bytes(1) + b"".join(part._formats for part in parts))
 
     @classmethod
     def bools(cls, bits, length, validity=None, offset=0):
@@ -236,22 +238,33 @@ class Column:
             raise fault
         return self
 
-    def to_arrow(self, by_offsets=False, most_bytes=None, packed=True):
+    def to_arrow(self, by_offsets=None, most_bytes=None, packed=True):
         """This column as an `Arrow`, in blocks of its own. Packed, its bytes are those of its rows and no others, as `pack` makes
         them. With `packed=False` the parts go out as they are: elements and buffers of rows that were cut away go along, and a
         dictionary stays one.
 
-        Texts, byte lists and lists are written by views, or by offsets; only with `packed=False` these may be refused, as
-        `NotEndToEnd`, where lists do not lie one after another. A column that was an Arrow array keeps its name. Raises `Refused`
-        where it is no column, or takes more than `most_bytes`: by default 1 GiB, with `packed=False` 8 MiB, or 8 times the distinct
-        bytes that it has."""
-        flags, most = int(truth("by_offsets", by_offsets)), _most(most_bytes)
-        column = self._packed(most) if truth("packed", packed) else self
-        nodes, limits, made, fault = column._private(), Limits(most), Arrow(), Fault()
-        into = made._schema, made._array, ctypes.byref(fault)
-        if load().codrask_write_arrow(of.given(nodes), len(nodes), flags, self._name, ctypes.byref(limits), *into):
+        Texts, byte lists and lists go out in the formats with which they came in, at every depth; by views where they came from no
+        Arrow array, and with `packed=False`. `by_offsets` says which for all of them: True or False. Only with `packed=False` that
+        may be refused, as `NotEndToEnd`, where lists do not lie one after another. A column that was an Arrow array keeps its name.
+        Raises `Refused` where it is no column, or takes more than `most_bytes`: by default 1 GiB, with `packed=False` 8 MiB, or 8
+        times the distinct bytes that it has."""
+        told, most = by_offsets is not None and truth("by_offsets", by_offsets), _most(most_bytes)
+        if not truth("packed", packed):
+            return self._written(None, told, most, self._name)
+        column = self._packed(most)
+        return column._written(column._formats if by_offsets is None else None, told, most, self._name)
+
+    def _written(self, formats, by_offsets, most, name):
+        """An `Arrow` of the column as it is, in some formats or by a flag for all."""
+        nodes, limits, made, fault = self._private(), Limits(most), Arrow(), Fault()
+        how, into = (int(by_offsets), name, ctypes.byref(limits)), (made._schema, made._array, ctypes.byref(fault))
+        if any(formats or ()):
+            number = later("codrask_write_arrow_as")(of.given(nodes), len(nodes), formats, *how, *into)
+        else:
+            number = load().codrask_write_arrow(of.given(nodes), len(nodes), *how, *into)
+        if number:
             raise refusal(fault)
-        column._pass(nodes)
+        self._pass(nodes)
         return made
 
     def _packed(self, most):
@@ -261,9 +274,13 @@ class Column:
         return self.pack()
 
     def __arrow_c_array__(self, requested_schema=None):
-        """The column in two capsules, of a schema and of an array, in blocks of their own, packed as `to_arrow` does. Texts and
-        lists are laid out by views, or by offsets where the requested schema asks for these; another request is passed over."""
-        made = self.to_arrow(requested_schema is not None and requested_by_offsets(requested_schema))
+        """The column in two capsules, of a schema and of an array, in blocks of their own, packed and in the formats in which
+        `to_arrow` writes it. Where the requested schema has another format that holds the same values, one of `u`, `U` and `vu`, of
+        `z`, `Z` and `vz`, or of `+l`, `+L`, `+vl` and `+vL`, that is what goes out; other requests are passed over."""
+        asked = None if requested_schema is None else schema_in("requested_schema", requested_schema)
+        column = self._packed(0)
+        formats = column._formats if asked is None else formats_asked(column._nodes, column._formats, asked)
+        made = column._written(formats, False, 0, self._name)
         return capsule_of(made._schema), capsule_of(made._array)
 
     def __arrow_c_schema__(self):

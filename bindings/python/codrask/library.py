@@ -163,6 +163,15 @@ LATER = {
         _number,
         [ctypes.c_void_p, ctypes.c_void_p, _to(Reading), _to(Table), _to(ArrowFault)],
     ),
+    "codrask_table_formats": (ctypes.c_void_p, [_to(Table)]),
+    "codrask_write_arrow_as": (
+        _number,
+        [_to(Node), _count, ctypes.c_char_p, _number, ctypes.c_char_p, _to(Limits), _to(ArrowSchema), _to(ArrowArray), _to(Fault)],
+    ),
+    "codrask_run_formats": (
+        _number,
+        [_to(Nodes), _to(ctypes.c_char_p), _count, _to(Step), _count, _to(_count), _to(Columns), _to(ctypes.c_void_p)],
+    ),
     "codrask_capsules": (None, [ctypes.c_void_p]),
     "codrask_new_capsule": (ctypes.c_void_p, [_count]),
     "codrask_take": (None, [ctypes.c_void_p, ctypes.c_void_p, _count, _count]),

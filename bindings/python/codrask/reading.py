@@ -8,6 +8,7 @@ from . import nodes as of
 from .arguments import shown, wrong
 from .capsules import children_of, taken, taken_array, taken_stream
 from .faults import refusal
+from .formats import formats_of
 from .lengths import DEEPEST, lengths_of, parts_of
 from .library import ArrowArray, ArrowFault, ArrowSchema, Fault, Limits, Reading, Table, has, later, load
 from .words import name_text
@@ -50,14 +51,14 @@ def _read(schema, array, asked, lengths, table):
 
 
 def nodes_at(schema, array, asked, lengths=None):
-    """The nodes of the Arrow array at two addresses, over copies of what they have, and the name of the column. Raises
-    `Refused` where it is read as no table, or as one of too many bytes."""
+    """The nodes of the Arrow array at two addresses, over copies of what they have, the name of the column, and the formats of the
+    nodes. Raises `Refused` where it is read as no table, or as one of too many bytes."""
     table = Table()
     refused = _read(schema, array, asked, lengths, table)
     if refused:
         raise refused
     try:
-        return of.copied(table), load().codrask_table_name(ctypes.byref(table))
+        return of.copied(table), load().codrask_table_name(ctypes.byref(table)), formats_of(table)
     finally:
         load().codrask_table_free(ctypes.byref(table))
 
@@ -143,7 +144,7 @@ def _at(schema, array, asked, lengths=None):
 
 
 def _of_stream(given, asked, even_none):
-    """The nodes and the name of each batch of a stream; of no rows, where it has no batch and one is asked for."""
+    """The nodes, the name and the formats of each batch of a stream; of no rows, where it has no batch and one is asked for."""
     count = 0
     with taken_stream("given", given) as (schema, next_array):
         while True:
@@ -157,14 +158,14 @@ def _of_stream(given, asked, even_none):
 
 
 def _of_known(part, asked):
-    """The nodes and the name of an array or a batch that tells its buffers."""
+    """The same of an array or a batch that tells its buffers."""
     with taken_array("given", part) as (schema, array):
         lengths, _kept = lengths_of(schema, array, part)
         return _at(schema, array, asked, lengths)
 
 
 def read_given(given, asked, even_none):
-    """The nodes and the name of each array that an object gives. Where it tells its buffers, no byte past them is read."""
+    """The nodes, the name and the formats of each array that an object gives. Where it tells its buffers, no byte past them is read."""
     parts = parts_of(given)
     if parts:
         yield from (_of_known(part, asked) for part in parts)

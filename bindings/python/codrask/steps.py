@@ -6,6 +6,7 @@ from . import nodes as of
 from .arguments import choice, each, encoded, instance, integer, truth
 from .column import Column
 from .faults import Stopped, run_refusal
+from .formats import formats_after
 from .library import Bytes, Columns, Nodes, RunFault, load, older
 from .library import Step as Given
 
@@ -153,7 +154,8 @@ def run(columns, steps, wanted=None):
         told = columns[fault.which]._words(fault.node)[:2] if fault.part == IN_COLUMN else ()
         raise run_refusal(fault, *told)
     try:
-        results = [Column._made(of.copied(made.columns[i])) for i in range(made.count)]
+        formats = formats_after(tables, [column._formats for column in columns], given, places, made) if made.count else []
+        results = [Column._made(of.copied(made.columns[i]), b"", formats[i]) for i in range(made.count)]
     finally:
         load().codrask_columns_free(ctypes.byref(made))
     for column, nodes in zip(columns, private):

@@ -7,7 +7,7 @@ use std::sync::Arc;
 use crate::column::{Column, Kind, Number};
 use crate::faults::{Refused, BAD_ARROW};
 use crate::raw::arrow::{self, FFI_ArrowArray, FFI_ArrowSchema};
-use crate::raw::{self, Node};
+use crate::raw::{self, Format, Node};
 
 /// The rows of a column that has passed the proved check, which cannot change as long as this is
 /// there. A copy costs nothing.
@@ -23,6 +23,8 @@ pub struct Checked<'c> {
 /// The nodes of a column, each before its parts.
 struct Passed<'c> {
     nodes: Vec<Node<'c>>,
+    /// Of each node, the format with which it came in.
+    formats: Vec<Format>,
     /// Of each node, the place after the last of its parts.
     ends: Vec<usize>,
     /// How deep they are nested.
@@ -32,8 +34,10 @@ struct Passed<'c> {
 /// How a column is written as an Arrow array. The default asks for nothing.
 #[derive(Clone, Copy, Debug, Default)]
 pub struct Writing<'w> {
-    /// Texts and lists are written by offsets, as older readers take them, and not by views.
-    pub by_offsets: bool,
+    /// Texts, byte lists and lists are all written by offsets, as older readers take them, or all
+    /// by views. By default, in the formats with which they came in, at every depth; by views where
+    /// they came from no Arrow array.
+    pub by_offsets: Option<bool>,
     /// The name of the column.
     pub name: &'w str,
     /// How many bytes may be written: by default 8 MiB or 8 times the distinct bytes of the column.
@@ -41,7 +45,7 @@ pub struct Writing<'w> {
 }
 
 impl<'c> Passed<'c> {
-    fn new(nodes: Vec<Node<'c>>) -> Passed<'c> {
+    fn new(nodes: Vec<Node<'c>>, formats: Vec<Format>) -> Passed<'c> {
         let mut ends = vec![0; nodes.len()];
         let (mut waiting, mut levels): (Vec<(usize, usize)>, _) = (Vec::new(), 0);
         for (at, node) in nodes.iter().enumerate().rev() {
@@ -54,6 +58,7 @@ impl<'c> Passed<'c> {
         }
         Passed {
             nodes,
+            formats,
             ends,
             levels,
         }
@@ -74,21 +79,21 @@ fn parts(node: &Node) -> usize {
 
 /// How deep nodes are nested.
 pub(crate) fn levels(nodes: &[Node]) -> usize {
-    Passed::new(nodes.to_vec()).levels
+    Passed::new(nodes.to_vec(), Vec::new()).levels
 }
 
 impl<'c> Checked<'c> {
     /// The rows of nodes, where they are a column.
-    pub(crate) fn of(nodes: Vec<Node<'c>>) -> Result<Checked<'c>, Refused> {
-        let rows = Checked::passed(nodes);
+    pub(crate) fn of(nodes: Vec<Node<'c>>, formats: Vec<Format>) -> Result<Checked<'c>, Refused> {
+        let rows = Checked::passed(nodes, formats);
         raw::check(&rows.table.nodes, rows.table.levels)?;
         Ok(rows)
     }
 
     /// The rows of nodes that have passed.
-    pub(crate) fn passed(nodes: Vec<Node<'c>>) -> Checked<'c> {
+    pub(crate) fn passed(nodes: Vec<Node<'c>>, formats: Vec<Format>) -> Checked<'c> {
         Checked {
-            table: Arc::new(Passed::new(nodes)),
+            table: Arc::new(Passed::new(nodes, formats)),
             at: 0,
         }
     }
@@ -270,16 +275,26 @@ impl<'c> Checked<'c> {
 
     /// The same rows as a column, to run steps on.
     pub fn as_column(&self) -> Column<'c> {
-        Column::of_nodes(&self.table.nodes[self.at..self.table.ends[self.at]])
+        let (nodes, formats) = self.own();
+        Column::of_nodes(nodes, formats)
     }
 
-    /// Writes the rows as an Arrow array, in blocks of its own. Refused is what Arrow cannot say,
-    /// as lists by offsets that do not lie end to end, or more bytes than may be written.
+    /// The nodes of this column, and their formats.
+    fn own(&self) -> (&[Node<'c>], &[Format]) {
+        let all = self.at..self.table.ends[self.at];
+        (&self.table.nodes[all.clone()], &self.table.formats[all])
+    }
+
+    /// Writes the rows as an Arrow array, in blocks of its own, with all parts as they are. Refused
+    /// is what Arrow cannot say, as lists by offsets that do not lie end to end, or more bytes than
+    /// may be written. What [`pack`](Column::pack) made lies end to end.
     pub fn into_ffi(self, how: &Writing) -> Result<(FFI_ArrowArray, FFI_ArrowSchema), Refused> {
         let name = CString::new(how.name).map_err(|_| Refused::new(BAD_ARROW, 0, 0))?;
-        let nodes = &self.table.nodes[self.at..self.table.ends[self.at]];
-        let flags = u32::from(how.by_offsets);
-        arrow::write(nodes, self.table.levels, flags, &name, how.most_bytes)
+        let (nodes, formats) = self.own();
+        let formats = how.by_offsets.is_none().then_some(formats);
+        let flags = u32::from(how.by_offsets == Some(true));
+        let table = (nodes, formats, self.table.levels);
+        arrow::write(table, flags, &name, how.most_bytes)
     }
 
     /// Where the value of a row stands: a node that is no dictionary, and its row. None where the

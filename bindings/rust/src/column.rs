@@ -5,7 +5,7 @@ use std::borrow::Cow;
 use crate::checked::Checked;
 use crate::faults::Refused;
 use crate::offsets;
-use crate::raw::{self, Bytes, Lent, Node, View};
+use crate::raw::{self, Bytes, Format, Lent, Node, View, NO_FORMAT};
 
 /// What an array is.
 #[derive(Clone, Copy, Debug, PartialEq, Eq)]
@@ -150,6 +150,7 @@ struct Part<'a> {
     kind: u32,
     validity: u32,
     size: u32,
+    format: Format,
     length: usize,
     offset: usize,
     bytes: Cow<'a, [u8]>,
@@ -163,6 +164,7 @@ impl<'a> Part<'a> {
             kind: kind as u32,
             validity: 0,
             size: 0,
+            format: NO_FORMAT,
             length,
             offset: 0,
             bytes: Cow::Borrowed(&[]),
@@ -186,12 +188,13 @@ impl<'a> Part<'a> {
     }
 }
 
-impl<'a> From<&Node<'a>> for Part<'a> {
-    fn from(node: &Node<'a>) -> Part<'a> {
+impl<'a> From<(&Node<'a>, &Format)> for Part<'a> {
+    fn from((node, &format): (&Node<'a>, &Format)) -> Part<'a> {
         Part {
             kind: node.kind,
             validity: node.validity,
             size: node.size,
+            format,
             length: node.length,
             offset: node.offset,
             bytes: Cow::Borrowed(node.bytes.get()),
@@ -202,10 +205,16 @@ impl<'a> From<&Node<'a>> for Part<'a> {
 }
 
 impl<'a> Column<'a> {
-    pub(crate) fn of_nodes(nodes: &[Node<'a>]) -> Column<'a> {
+    /// The column of a table, and of the formats with which its nodes came in.
+    pub(crate) fn of_nodes(nodes: &[Node<'a>], formats: &[Format]) -> Column<'a> {
         Column {
-            parts: nodes.iter().map(Part::from).collect(),
+            parts: nodes.iter().zip(formats).map(Part::from).collect(),
         }
+    }
+
+    /// The formats with which the nodes came in.
+    pub(crate) fn formats(&self) -> Vec<Format> {
+        self.parts.iter().map(|part| part.format).collect()
     }
 
     /// The table of the column, over what it has.
@@ -438,7 +447,7 @@ impl<'a> Column<'a> {
     /// The rows, where this is a column: the proved code tests it at every depth. Else its first
     /// fault. What passed cannot change, since all slices stay lent as long as the rows are there.
     pub fn check(&self) -> Result<Checked<'_>, Refused> {
-        Checked::of(self.nodes())
+        Checked::of(self.nodes(), self.formats())
     }
 }
 

@@ -89,6 +89,12 @@ pub(crate) struct RawStep<'a> {
     pub(crate) name: Bytes<'a>,
 }
 
+/// How texts, byte lists and lists lie in Arrow: a number of `enum codrask_format`.
+pub(crate) type Format = u8;
+
+/// The format of all other arrays, and where none is known.
+pub(crate) const NO_FORMAT: Format = 0;
+
 /// A column, as `struct codrask_column` has it.
 pub(crate) type Nodes<'a> = Lent<'a, Node<'a>>;
 
@@ -125,6 +131,16 @@ extern "C" {
         wanted_count: usize,
         made: *mut Lent<'static, Nodes<'static>>,
         fault: *mut RunFault,
+    ) -> u32;
+    fn codrask_run_formats(
+        columns: *const Nodes,
+        formats: *const *const Format,
+        column_count: usize,
+        steps: *const RawStep,
+        step_count: usize,
+        wanted: *const usize,
+        made: *const Lent<'static, Nodes<'static>>,
+        made_formats: *const *mut Format,
     ) -> u32;
     fn codrask_columns_free(made: *mut Lent<'static, Nodes<'static>>);
     fn codrask_fault_name(number: u32) -> *const c_char;
@@ -227,12 +243,17 @@ fn stopped(fault: &RunFault) -> Stopped {
 }
 
 /// The columns that a run wrote. They are given back once.
-pub(crate) struct Made(Lent<'static, Nodes<'static>>);
+pub(crate) struct Made {
+    columns: Lent<'static, Nodes<'static>>,
+    /// Of each column, the format of each node.
+    formats: Vec<Vec<Format>>,
+}
 
 impl Made {
-    /// Runs steps on columns; `levels` is no less than how deep any array of the run is nested.
+    /// Runs steps on columns, of which each node has a format; `levels` is no less than how deep any
+    /// array of the run is nested.
     pub(crate) fn run(
-        columns: &[Nodes],
+        (columns, formats): (&[Nodes], &[Vec<Format>]),
         steps: &[RawStep],
         wanted: &[usize],
         levels: usize,
@@ -247,19 +268,61 @@ impl Made {
             codrask_run(columns, c, steps, s, wanted, w, written, told)
         };
         match on_a_stack(levels, call) {
-            Some(0) => Ok(Made(made)),
+            Some(0) => {
+                let made = Made {
+                    columns: made,
+                    formats: Vec::new(),
+                };
+                made.with_formats((columns, formats), steps, wanted)
+            }
             Some(_) => Err(stopped(&fault)),
             None => Err(Stopped::new(MEMORY, (0, 0), 0, 0)),
         }
     }
 
+    /// The same with the formats of what was written, by those of the columns of the run.
+    fn with_formats(
+        mut self,
+        (columns, formats): (&[Nodes], &[Vec<Format>]),
+        steps: &[RawStep],
+        wanted: &[usize],
+    ) -> Result<Made, Stopped> {
+        let made = self.columns.get().iter();
+        self.formats = made.map(|nodes| vec![NO_FORMAT; nodes.count]).collect();
+        let own: Vec<_> = formats.iter().map(|formats| formats.as_ptr()).collect();
+        let into: Vec<_> = self.formats.iter_mut().map(|to| to.as_mut_ptr()).collect();
+        // SAFETY: columns, steps and positions are those of the run that wrote the columns. There is
+        // a format for each node of theirs, and room for one for each that was written.
+        let number = unsafe {
+            codrask_run_formats(
+                columns.as_ptr(),
+                own.as_ptr(),
+                columns.len(),
+                steps.as_ptr(),
+                steps.len(),
+                wanted.as_ptr(),
+                &self.columns,
+                into.as_ptr(),
+            )
+        };
+        match number {
+            0 => Ok(self),
+            _ => Err(Stopped::new(MEMORY, (0, 0), 0, 0)),
+        }
+    }
+
     pub(crate) fn count(&self) -> usize {
-        self.0.count
+        self.columns.count
     }
 
     /// The nodes of a column, as long as they are not given back.
     pub(crate) fn nodes(&self, place: usize) -> &[Node<'_>] {
-        self.0.get()[place].get()
+        self.columns.get()[place].get()
+    }
+
+    /// The formats of the nodes of a column.
+    pub(crate) fn formats(&self, place: usize) -> &[Format] {
+        &self.formats[place]
     }
 }
 
@@ -267,7 +330,7 @@ impl Drop for Made {
     fn drop(&mut self) {
         // SAFETY: the call that wrote the columns gave them to us; nothing that is lent of them
         // outlives `self`.
-        unsafe { codrask_columns_free(&mut self.0) }
+        unsafe { codrask_columns_free(&mut self.columns) }
     }
 }
 

@@ -139,12 +139,13 @@ pub struct Owned {
 impl Owned {
     /// The rows.
     pub fn rows(&self) -> Checked<'_> {
-        Checked::passed(self.made.nodes(self.place).to_vec())
+        let formats = self.made.formats(self.place).to_vec();
+        Checked::passed(self.made.nodes(self.place).to_vec(), formats)
     }
 
     /// The same rows as a column, to run steps on.
     pub fn as_column(&self) -> Column<'_> {
-        Column::of_nodes(self.made.nodes(self.place))
+        Column::of_nodes(self.made.nodes(self.place), self.made.formats(self.place))
     }
 }
 
@@ -199,6 +200,7 @@ pub fn run(
 ) -> Result<Vec<Owned>, Stopped> {
     let nodes: Vec<_> = columns.iter().map(Column::nodes).collect();
     let tables: Vec<_> = nodes.iter().map(|nodes| Lent::new(nodes)).collect();
+    let formats: Vec<_> = columns.iter().map(Column::formats).collect();
     let names: Vec<_> = steps.iter().map(Step::names).collect();
     let raw: Vec<_> = steps
         .iter()
@@ -206,7 +208,8 @@ pub fn run(
         .map(|(step, names)| step.raw(names))
         .collect();
     let deepest = nodes.iter().map(|nodes| levels(nodes)).max().unwrap_or(0);
-    let made = Arc::new(Made::run(&tables, &raw, wanted, deepest + steps.len())?);
+    let levels = deepest + steps.len();
+    let made = Arc::new(Made::run((&tables, &formats), &raw, wanted, levels)?);
     let owned = |place| Owned {
         made: Arc::clone(&made),
         place,

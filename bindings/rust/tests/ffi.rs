@@ -1,11 +1,12 @@
 //! Arrow's C structures, handed over and back: read, refused, written, and released exactly once.
 
 use std::ffi::{c_char, c_void, CStr};
-use std::ptr;
 use std::sync::atomic::{AtomicUsize, Ordering};
+use std::{ptr, slice};
 
 use codrask::{
-    from_ffi, Bits, Column, FFI_ArrowArray, FFI_ArrowSchema, Foreign, Reading, Refused, Writing,
+    from_ffi, run, Bits, Checked, Column, FFI_ArrowArray, FFI_ArrowSchema, Foreign, Reading,
+    Refused, Step, Writing,
 };
 
 /// Arrow's structs as another library has them.
@@ -261,12 +262,108 @@ fn columns_go_out_and_come_in() {
     assert_eq!(written, ("vu".into(), "".into(), 2, 4));
     assert_eq!(shown, "utf8, 2 rows: [\"abc\", \"a longer text\"]");
     let by_offsets = Writing {
-        by_offsets: true,
+        by_offsets: Some(true),
         ..Writing::default()
     };
     let (written, shown) = there_and_back(&texts, &by_offsets);
     assert_eq!(written, ("u".into(), "".into(), 2, 3));
     assert_eq!(shown, "utf8, 2 rows: [\"abc\", \"a longer text\"]");
+}
+
+/// The format with which rows go out by default.
+fn format_of(rows: &Checked<'_>) -> String {
+    let (array, schema) = rows.clone().into_ffi(&Writing::default()).unwrap();
+    seen(&array, &schema).0
+}
+
+/// The format of texts that came in by another one, of their slice, and of that packed.
+fn formats_after_steps(format: &'static CStr, offsets: *const c_void) -> [String; 4] {
+    let bytes = b"abca longer text";
+    let buffers = vec![ptr::null(), offsets, bytes.as_ptr().cast()];
+    let mut theirs = Theirs::new(format, 0, 2, buffers);
+    let (array, schema) = theirs.give();
+    let foreign = read(array, &schema).unwrap();
+    let column = foreign.as_column();
+    let (array, start, end) = (0, 1, 2);
+    let steps = [Step::Slice { array, start, end }, Step::Pack { array: 1 }];
+    let made = run(slice::from_ref(&column), &steps, &[1, 2]).unwrap();
+    let again = made[1].as_column().pack().unwrap();
+    [
+        format_of(&column.check().unwrap()),
+        format_of(&made[0].rows()),
+        format_of(&made[1].rows()),
+        format_of(&again.rows()),
+    ]
+}
+
+#[test]
+fn what_goes_out_has_the_format_that_came_in() {
+    let (small, large) = ([0i32, 3, 16], [0i64, 3, 16]);
+    assert_eq!(formats_after_steps(c"u", small.as_ptr().cast()), ["u"; 4]);
+    assert_eq!(formats_after_steps(c"Z", large.as_ptr().cast()), ["Z"; 4]);
+}
+
+#[test]
+fn parts_go_out_in_their_formats() {
+    let lists = Column::list(&[1u8, 2, 3], &[0, 2, 3], None);
+    let texts = Column::utf8(&[0, 3, 16], b"abca longer text", None);
+    let records = Column::record([("lists", lists), ("texts", texts)], 2, None);
+    let by_offsets = Writing {
+        by_offsets: Some(true),
+        ..Writing::default()
+    };
+    let (array, schema) = records.check().unwrap().into_ffi(&by_offsets).unwrap();
+    let foreign = read(array, &schema).unwrap();
+    let rows = foreign.check().unwrap();
+    let formats = |rows: &Checked<'_>| {
+        let columns = rows.columns();
+        columns
+            .iter()
+            .map(|(_, of)| format_of(of))
+            .collect::<Vec<_>>()
+    };
+    assert_eq!(formats(&rows), ["+l", "u"]);
+    assert_eq!(formats(&records.check().unwrap()), ["+vL", "vu"]);
+    assert_eq!(
+        format_of(&foreign.as_column().field("texts").unwrap().rows()),
+        "u"
+    );
+    let lists = rows.column("lists").unwrap();
+    assert_eq!(format_of(&lists.as_column().check().unwrap()), "+l");
+    let views = Writing {
+        by_offsets: Some(false),
+        ..Writing::default()
+    };
+    let (array, schema) = lists.into_ffi(&views).unwrap();
+    assert_eq!(seen(&array, &schema).0, "+vL");
+}
+
+#[test]
+fn lists_that_lie_apart_go_out_by_offsets_when_they_are_packed() {
+    let (numbers, offsets) = ([1u8, 2, 3, 4], [0i32, 2, 3, 4]);
+    let lists = Column::list(&numbers, &offsets, None);
+    let by_offsets = Writing {
+        by_offsets: Some(true),
+        ..Writing::default()
+    };
+    let (array, schema) = lists.check().unwrap().into_ffi(&by_offsets).unwrap();
+    let foreign = read(array, &schema).unwrap();
+    let columns = [foreign.as_column(), Column::from(&[2u8, 0])];
+    let made = run(
+        &columns,
+        &[Step::Take {
+            array: 0,
+            indices: 1,
+        }],
+        &[2],
+    )
+    .unwrap();
+    let refused = made[0].rows().into_ffi(&Writing::default()).unwrap_err();
+    assert_eq!(
+        (refused.name(), refused.node(), refused.row()),
+        ("NotEndToEnd", 0, 1)
+    );
+    assert_eq!(format_of(&made[0].as_column().pack().unwrap().rows()), "+l");
 }
 
 #[test]
@@ -299,7 +396,7 @@ fn what_arrow_cannot_say_is_refused() {
         (refused.name(), refused.node(), refused.row())
     };
     let by_offsets = Writing {
-        by_offsets: true,
+        by_offsets: Some(true),
         ..Writing::default()
     };
     let (offsets, sizes) = ([2i32, 0], [1i32, 1]);

@@ -593,7 +593,7 @@ fn random_columns_go_out_and_come_in() {
         let (rows, stored) = some_column(&mut random);
         let column = stored.column();
         let how = Writing {
-            by_offsets: random.chance(2),
+            by_offsets: [None, Some(false), Some(true)][random.below(3)],
             ..Writing::default()
         };
         let (array, schema) = match column.check().unwrap().into_ffi(&how) {

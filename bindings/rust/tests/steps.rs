@@ -135,7 +135,7 @@ fn packed_columns_have_their_rows_and_no_others() {
     assert_eq!(elements.numbers::<i64>(), Some(&[3, 4, 1, 2, 3][..]));
     assert_eq!(shown(&packed), shown(&again));
     let by_offsets = Writing {
-        by_offsets: true,
+        by_offsets: Some(true),
         ..Writing::default()
     };
     let refused = lists().check().unwrap().into_ffi(&by_offsets).unwrap_err();

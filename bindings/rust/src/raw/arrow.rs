@@ -4,7 +4,7 @@ use std::ffi::{c_char, c_void, CStr};
 use std::marker::PhantomData;
 use std::{fmt, ptr, slice};
 
-use super::{on_a_stack, refused, Fault, Node};
+use super::{on_a_stack, refused, Fault, Format, Node};
 use crate::checked::Checked;
 use crate::column::Column;
 use crate::data::Reading;
@@ -184,10 +184,12 @@ extern "C" {
         fault: *mut ArrowFault,
     ) -> u32;
     fn codrask_table_name(table: *const RawTable) -> *const c_char;
+    fn codrask_table_formats(table: *const RawTable) -> *const Format;
     fn codrask_table_free(table: *mut RawTable);
-    fn codrask_write_arrow(
+    fn codrask_write_arrow_as(
         nodes: *const Node,
         count: usize,
+        formats: *const Format,
         flags: u32,
         name: *const c_char,
         limits: *const Limits,
@@ -218,6 +220,12 @@ impl Table<'_> {
         unsafe { slice::from_raw_parts(self.raw.nodes, self.raw.count) }
     }
 
+    /// The formats with which the nodes came in.
+    fn formats(&self) -> &[Format] {
+        // SAFETY: the library wrote one for each node, and they are given back with the table.
+        unsafe { slice::from_raw_parts(codrask_table_formats(&self.raw), self.raw.count) }
+    }
+
     /// The name of the column, as its schema has it.
     pub fn name(&self) -> &[u8] {
         // SAFETY: the library answers a text that ends at a byte 0 and lives as long as the table.
@@ -226,12 +234,12 @@ impl Table<'_> {
 
     /// The column, over the same buffers.
     pub fn as_column(&self) -> Column<'_> {
-        Column::of_nodes(self.nodes())
+        Column::of_nodes(self.nodes(), self.formats())
     }
 
     /// The rows, where the table is a column.
     pub fn check(&self) -> Result<Checked<'_>, Refused> {
-        Checked::of(self.nodes().to_vec())
+        Checked::of(self.nodes().to_vec(), self.formats().to_vec())
     }
 }
 
@@ -518,10 +526,10 @@ impl Crossing<'_> {
     }
 }
 
-/// Writes nodes as an Arrow array; `levels` is no less than how deep they are nested.
+/// Writes nodes as an Arrow array, in their formats where there are some, one for each; `levels` is
+/// no less than how deep they are nested.
 pub(crate) fn write(
-    nodes: &[Node],
-    levels: usize,
+    (nodes, formats, levels): (&[Node], Option<&[Format]>, usize),
     flags: u32,
     name: &CStr,
     most_bytes: Option<usize>,
@@ -534,12 +542,14 @@ pub(crate) fn write(
     let (told, into) = (&mut fault, Crossing(&mut array, &mut schema));
     let call = move || {
         let (array, schema) = into.pointers();
-        // SAFETY: the nodes and the name live during the call; the rest can be written to, and the
-        // structs have nothing that would be lost.
+        let formats = formats.map_or(ptr::null(), <[Format]>::as_ptr);
+        // SAFETY: the nodes, as many formats, and the name live during the call; the rest can be
+        // written to, and the structs have nothing that would be lost.
         unsafe {
-            codrask_write_arrow(
+            codrask_write_arrow_as(
                 nodes.as_ptr(),
                 nodes.len(),
+                formats,
                 flags,
                 name.as_ptr(),
                 &limits,
