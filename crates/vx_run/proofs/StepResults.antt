@@ -19,6 +19,7 @@ use Rattle.vx_canonical.specs.Joined.{joined_state}
 use Rattle.vx_tree.specs.Layouts.{is_constant, is_list_view, is_primitive}
 use Rattle.vx_tree.specs.OneValue.{HasOneValue}
 use Rattle.vx_tree.specs.Operations.{IsSlice, IsSelected, IsNulled, picks, positions, filtered, masked, truths}
+use Rattle.vx_tree.specs.Plain.{IsPlain}
 use Rattle.vx_tree.specs.Shapes.{tree_state}
 use Rattle.vx_tree.proofs.RowLists.{length-valid_mask}
 use Rattle.vx_leaves.specs.Narrow.{IsNarrowed}
@@ -88,13 +89,13 @@ step-mask arrays array mask t u r is at kind same nulled one =
     }
 
 pub step-canonical : (arrays : List Tree) (array : ℕ) (t r : Tree) → t ≡ array_at arrays array → rows r ≡ rows t → IsCanonical t r
-    → IsStep (Canonical array) arrays r
-step-canonical arrays array t r is same canonical =
+    → (IsPlain t → r ≡ t) → IsStep (Canonical array) arrays r
+step-canonical arrays array t r is same canonical shared =
     let of = canonical.same.kind ∙ ap kind_of is in
     record {
       same_rows = named_rows-same _ _ _ _ (ap names_in of) (same ∙ ap rows is);
       kind = of;
-      layout = subst (λ u. IsCanonical u r) is canonical;
+      layout = (subst (λ u. IsCanonical u r) is canonical, subst (λ u. IsPlain u → r ≡ u) is shared);
     }
 
 -- the mask of an array is its truth values

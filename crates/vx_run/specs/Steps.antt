@@ -22,6 +22,7 @@ use Rattle.vx_tree.specs.Layouts.{is_constant, is_list_view, is_primitive}
 use Rattle.vx_tree.specs.Needs.{HasNeedsOf}
 use Rattle.vx_tree.specs.OneValue.{HasOneValue}
 use Rattle.vx_tree.specs.Operations.{IsSlice, IsSelected, IsNulled, picks, positions, filtered, masked, truths}
+use Rattle.vx_tree.specs.Plain.{IsPlain}
 use Rattle.vx_tree.specs.Shapes.{tree_state, shape_of, taken_shape}
 use Rattle.vx_tree.specs.Validities.{is_full_state}
 use Rattle.vx_leaves.specs.Narrow.{narrowed_type, numbers_among, IsNarrowed}
@@ -139,7 +140,8 @@ HasLayout (Mask array mask) arrays r =
     × (is_constant (array_at arrays array) ≡ true → HasOneValue r)
 HasLayout (Concat is) arrays r =
     IsConcatenated (arrays_at arrays is.items) r × (tree_state r ≡ joined_state (arrays_at arrays is.items)) × (is_flagged r ≡ false)
-HasLayout (Canonical array) arrays r = IsCanonical (array_at arrays array) r
+HasLayout (Canonical array) arrays r =
+    IsCanonical (array_at arrays array) r × (IsPlain (array_at arrays array) → r ≡ array_at arrays array)
 HasLayout (Rebuild array mode) arrays r = (is_list_view r ≡ true) × IsRebuiltBy mode (array_at arrays array) r
 HasLayout (Narrow array) arrays r = (is_primitive r ≡ true) × IsNarrowed (array_at arrays array) r
 HasLayout (Project array names) arrays r = IsProjected (array_at arrays array) names.items r
