@@ -1,6 +1,6 @@
 -- What steps append to a list of arrays, and why a step is refused.
-use Rattle.std.specs.Prelude.{◌≡◌, ◌+◌, ◌-◌, ◌++◌, ◌⊎◌, ◌<◌, ◌≤◌, ℕ, Bool, true, false, List, [], ◌∷◌, length, take, map, slice_range, slice_get}
-use Rattle.std.specs.Prelude.{slice_index_or, Option, Some, None, IsSomeAnd, if◌then◌else◌}
+use Rattle.std.specs.Prelude.{◌≡◌, ◌+◌, ◌-◌, ◌++◌, ◌⊎◌, ◌<◌, ◌≤◌, ℕ, Bool, true, false, List, [], ◌∷◌, length, take, map}
+use Rattle.std.specs.Prelude.{slice_range, slice_get, slice_index_or, Option, Some, None, IsSomeAnd, if◌then◌else◌}
 use Rattle.std.specs.List.{flat_map, remove}
 use Rattle.vx_base.specs.declared.errors.VortexError.{VortexError}
 use Rattle.vx_base.specs.declared.errors.VortexError.TheVariants.{Memory}

@@ -1,5 +1,6 @@
 -- What the words of a script line stand for.
-use Rattle.std.specs.Prelude.{◌≡◌, ◌≢◌, ◌⊎◌, ◌<◌, ℕ, ◌+◌, ◌-◌, ◌*◌, ◌^◌, ◌≤◌, ℤ, pos, ◌-ℤ◌, List, [], ◌∷◌, length, All, if◌then◌else◌, nat_eq}
+use Rattle.std.specs.Prelude.{◌≡◌, ◌≢◌, ◌⊎◌, ◌<◌, ℕ, ◌+◌, ◌-◌, ◌*◌, ◌^◌, ◌≤◌, ℤ, pos, ◌-ℤ◌}
+use Rattle.std.specs.Prelude.{List, [], ◌∷◌, length, All, if◌then◌else◌, nat_eq}
 use Rattle.vx_base.specs.Integers.{Holds}
 use Rattle.vx_base.specs.declared.ptypes.PType.{PType}
 use Rattle.vx_run.specs.declared.operands.TheConstants.{MOST_DIGITS}

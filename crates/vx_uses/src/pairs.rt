@@ -11,8 +11,8 @@ use vx_base::VortexError;
 use vx_tree::{ArrayRef, Layout, Validity};
 
 /// The rows of a column in pairs, as a reader of points has them: pair `i` is the list of the rows
-/// `i * 2` and `i * 2 + 1`. Of 1, 2, 3, 4 the pairs `[1, 2]`, `[3, 4]`. Asks an even number of rows:
-/// the parts then fit, so none is tested, and only want of memory refuses.
+/// `i * 2` and `i * 2 + 1`. Of 1, 2, 3, 4 the pairs `[1, 2]`, `[3, 4]`. Asks an even number of
+/// rows: the parts then fit, so none is tested, and only want of memory refuses.
 pub fn pairs(alloc: Global, column: ArrayRef) -> Result<ArrayRef, VortexError>
     requires { tree_len column % 2 ≡ 0 }
     ensures len { IfOk result (λ a. tree_len a ≡ tree_len column / 2) }
