@@ -1,4 +1,4 @@
-use Rattle.vx_uses.proofs.Pairs.{pair_rows}
+use Rattle.vx_uses.proofs.RowPairs.{pair_rows}
 use Rattle.vx_uses.proofs.pairs.pairs.Goals as goal
 
 pub returns-clause-rows : goal.returns-clause-rows
