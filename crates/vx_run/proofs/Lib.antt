@@ -6,3 +6,5 @@ pub mod StepResults
 pub mod StepPositions
 pub mod RecordSteps
 pub mod WrittenLines
+pub mod Streams
+pub mod HeldIntegers

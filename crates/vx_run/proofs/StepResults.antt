@@ -19,7 +19,8 @@ use Rattle.vx_canonical.specs.Joined.{joined_state}
 use Rattle.vx_tree.specs.Layouts.{is_constant, is_list_view, is_primitive}
 use Rattle.vx_tree.specs.OneValue.{HasOneValue}
 use Rattle.vx_tree.specs.Operations.{IsSlice, IsSelected, IsNulled, picks, positions, filtered, masked, truths}
-use Rattle.vx_tree.specs.Shapes.{tree_state, shape_of, taken_shape}
+use Rattle.vx_tree.specs.Plain.{IsPlain}
+use Rattle.vx_tree.specs.Shapes.{tree_state}
 use Rattle.vx_tree.proofs.RowLists.{length-valid_mask}
 use Rattle.vx_leaves.specs.Narrow.{IsNarrowed}
 use Rattle.vx_lists.specs.declared.list_view.rebuild.ListViewRebuildMode.{ListViewRebuildMode}
@@ -30,7 +31,7 @@ use Rattle.vx_lists.specs.ListViews.{flag_of, with_flag, IsRebuilt}
 use Rattle.vx_structs.specs.Structs.Records.{names_in}
 use Rattle.vx_lists.specs.ListViews.Modes.{IsMadeBy, IsRebuiltBy}
 use Rattle.vx_run.specs.declared.steps.Step.TheVariants.{Slice, Take, Filter, Mask, Concat, Canonical, Rebuild, Narrow}
-use Rattle.vx_run.specs.Steps.{named_rows, rows_of, joined_names, array_at, arrays_at, joined_kind, narrowed_kind, IsStep}
+use Rattle.vx_run.specs.Steps.{named_rows, rows_of, joined_names, array_at, arrays_at, joined_kind, narrowed_kind, IsStep, IsTaken}
 
 pub named_rows-same : (ns ms : List (List ℕ)) (rs ss : List Row) → ns ≡ ms → rs ≡ ss → named_rows ns rs ≡ named_rows ms ss
 named_rows-same ns ms rs ss names same = λ i. named_rows (names i) (same i)
@@ -55,16 +56,16 @@ names_in-or_nullable c (fixed_lists k size n) = refl
 names_in-or_nullable c (records ns ks n) = refl
 
 pub step-take : (arrays : List Tree) (array indices : ℕ) (t u r : Tree) → t ≡ array_at arrays array → u ≡ array_at arrays indices
-    → kind_of r ≡ or_nullable (is_nullable_kind (kind_of u)) (kind_of t) → rows r ≡ picks (rows t) (positions (rows u))
-    → shape_of r ≡ taken_shape (shape_of t) (tree_state u) → (is_constant t ≡ true → HasOneValue r) → IsStep (Take array indices) arrays r
-step-take arrays array indices t u r is at kind same shape one =
+    → kind_of r ≡ or_nullable (is_nullable_kind (kind_of u)) (kind_of t) → rows r ≡ picks (rows t) (positions (rows u)) → IsTaken t u r
+    → IsStep (Take array indices) arrays r
+step-take arrays array indices t u r is at kind same taken =
     let of : kind_of r ≡ or_nullable (is_nullable_kind (kind_of (array_at arrays indices))) (kind_of (array_at arrays array)) =
     kind ∙ (λ i. or_nullable (is_nullable_kind (kind_of (at i))) (kind_of (is i))) in
     record {
       same_rows = named_rows-same _ _ _ _ (ap names_in of ∙ names_in-or_nullable (is_nullable_kind (kind_of (array_at arrays indices))) (kind_of (array_at arrays array)))
           (same ∙ (λ i. picks (rows (is i)) (positions (rows (at i)))));
       kind = of;
-      layout = (shape ∙ (λ i. taken_shape (shape_of (is i)) (tree_state (at i))), λ constant. one (ap is_constant is ∙ constant));
+      layout = subst (λ w. IsTaken w (array_at arrays indices) r) is (subst (λ w. IsTaken t w r) at taken);
     }
 
 pub step-filter : (arrays : List Tree) (array mask : ℕ) (t r : Tree) (bs : List Bool) → t ≡ array_at arrays array → bs ≡ truths (rows (array_at arrays mask))
@@ -88,13 +89,13 @@ step-mask arrays array mask t u r is at kind same nulled one =
     }
 
 pub step-canonical : (arrays : List Tree) (array : ℕ) (t r : Tree) → t ≡ array_at arrays array → rows r ≡ rows t → IsCanonical t r
-    → IsStep (Canonical array) arrays r
-step-canonical arrays array t r is same canonical =
+    → (IsPlain t → r ≡ t) → IsStep (Canonical array) arrays r
+step-canonical arrays array t r is same canonical shared =
     let of = canonical.same.kind ∙ ap kind_of is in
     record {
       same_rows = named_rows-same _ _ _ _ (ap names_in of) (same ∙ ap rows is);
       kind = of;
-      layout = subst (λ u. IsCanonical u r) is canonical;
+      layout = (subst (λ u. IsCanonical u r) is canonical, subst (λ u. IsPlain u → r ≡ u) is shared);
     }
 
 -- the mask of an array is its truth values

@@ -1,6 +1,6 @@
 -- What steps append to a list of arrays, and why a step is refused.
-use Rattle.std.specs.Prelude.{◌≡◌, ◌+◌, ◌-◌, ◌++◌, ◌⊎◌, ◌≤◌, ℕ, Bool, true, false, List, [], ◌∷◌, length, take, map, slice_range, slice_get}
-use Rattle.std.specs.Prelude.{slice_index_or, Option, Some, None, IsSomeAnd, if◌then◌else◌}
+use Rattle.std.specs.Prelude.{◌≡◌, ◌+◌, ◌-◌, ◌++◌, ◌⊎◌, ◌<◌, ◌≤◌, ℕ, Bool, true, false, List, [], ◌∷◌, length, take, map}
+use Rattle.std.specs.Prelude.{slice_range, slice_get, slice_index_or, Option, Some, None, IsSomeAnd, if◌then◌else◌}
 use Rattle.std.specs.List.{flat_map, remove}
 use Rattle.vx_base.specs.declared.errors.VortexError.{VortexError}
 use Rattle.vx_base.specs.declared.errors.VortexError.TheVariants.{Memory}
@@ -15,11 +15,14 @@ use Rattle.vx_canonical.specs.Canonical.{IsCanonical}
 use Rattle.vx_canonical.specs.Concatenated.{concat_fault, IsConcatenated}
 use Rattle.vx_tree.specs.CanonicalFaults.{canonical_fault}
 use Rattle.vx_tree.specs.Faults.{position_fault, length_fault, valid_type_fault, validity_fault, slice_fault, take_fault}
+use Rattle.vx_tree.specs.Extents.{extent_of}
 use Rattle.vx_tree.specs.Flags.{is_flagged}
 use Rattle.vx_canonical.specs.Joined.{joined_state}
 use Rattle.vx_tree.specs.Layouts.{is_constant, is_list_view, is_primitive}
+use Rattle.vx_tree.specs.Needs.{HasNeedsOf}
 use Rattle.vx_tree.specs.OneValue.{HasOneValue}
 use Rattle.vx_tree.specs.Operations.{IsSlice, IsSelected, IsNulled, picks, positions, filtered, masked, truths}
+use Rattle.vx_tree.specs.Plain.{IsPlain}
 use Rattle.vx_tree.specs.Shapes.{tree_state, shape_of, taken_shape}
 use Rattle.vx_tree.specs.Validities.{is_full_state}
 use Rattle.vx_leaves.specs.Narrow.{narrowed_type, numbers_among, IsNarrowed}
@@ -119,19 +122,26 @@ step_kind (RemoveColumn array name) arrays = kind_without_column name (kind_of (
 step_kind (PushValidity array remove) arrays =
     pushed_kind (is_full_state (tree_state (array_at arrays array))) remove (kind_of (array_at arrays array))
 
+-- what `take` promises beside rows and kind: the layout, and of a constant one value; where there are rows to take from, the
+-- same elements and buffers at every depth, and, but of a constant, the same faults where it is taken from or made plain
+pub record IsTaken (t indices r : Tree) : Type 0 where
+  pub shape : shape_of r ≡ taken_shape (shape_of t) (tree_state indices)
+  pub one_value : is_constant t ≡ true → HasOneValue r
+  pub extent : 0 < tree_len t → extent_of r ≡ extent_of t
+  pub needs : 0 < tree_len t → is_constant t ≡ false → HasNeedsOf t r
+
 -- what the call of a step promises of the array beside its rows and its kind: layout, state, flag, and what stays of its parts
 abbrev pub HasLayout : Step → List Tree → Tree → Type 0
 HasLayout (Slice array start end) arrays r = IsSlice (array_at arrays array) start (end - start) r
-HasLayout (Take array indices) arrays r =
-    (shape_of r ≡ taken_shape (shape_of (array_at arrays array)) (tree_state (array_at arrays indices)))
-    × (is_constant (array_at arrays array) ≡ true → HasOneValue r)
+HasLayout (Take array indices) arrays r = IsTaken (array_at arrays array) (array_at arrays indices) r
 HasLayout (Filter array mask) arrays r = IsSelected (array_at arrays array) (trues (truths (rows (array_at arrays mask)))) r
 HasLayout (Mask array mask) arrays r =
     IsNulled (array_at arrays array) (by_array (array_at arrays mask)) r
     × (is_constant (array_at arrays array) ≡ true → HasOneValue r)
 HasLayout (Concat is) arrays r =
     IsConcatenated (arrays_at arrays is.items) r × (tree_state r ≡ joined_state (arrays_at arrays is.items)) × (is_flagged r ≡ false)
-HasLayout (Canonical array) arrays r = IsCanonical (array_at arrays array) r
+HasLayout (Canonical array) arrays r =
+    IsCanonical (array_at arrays array) r × (IsPlain (array_at arrays array) → r ≡ array_at arrays array)
 HasLayout (Rebuild array mode) arrays r = (is_list_view r ≡ true) × IsRebuiltBy mode (array_at arrays array) r
 HasLayout (Narrow array) arrays r = (is_primitive r ≡ true) × IsNarrowed (array_at arrays array) r
 HasLayout (Project array names) arrays r = IsProjected (array_at arrays array) names.items r

@@ -1,8 +1,8 @@
 // The kinds of word that a command takes.
 
-ghost use Rattle.std.specs.Prelude.{◌≡◌, IfSome};
+ghost use Rattle.std.specs.Prelude.{◌≡◌, ◌⊎◌, ◌≤◌, ◌^◌, IfSome, MatchOption};
 ghost use Rattle.vx_base.specs.Integers.{Holds};
-ghost use Rattle.vx_run.specs.Words.{decimal, integer_written};
+ghost use Rattle.vx_run.specs.Words.{IsDecimal, IsNumber, IsNoNumber, IsInteger, IsNoInteger, IsNoIntegerOf, decimal};
 
 use crate::words::{decimal_value, is_decimal};
 use vx_base::{DType, NativePType, Nullability, PType};
@@ -42,7 +42,10 @@ pub(crate) struct RegisterWord {
 
 impl RegisterWord {
     // The register that a word names, or `None` where the word is not decimal digits alone.
-    pub(crate) fn from_word(word: &[u8]) -> Option<RegisterWord> {
+    pub(crate) fn from_word(word: &[u8]) -> Option<RegisterWord>
+        ensures { MatchOption result (¬ IsDecimal word.now) (λ register.
+            MatchOption register.number (2 ^ 64 ≤ decimal word.now) (λ number. number ≡ decimal word.now)) }
+    {
         if !is_decimal(word) {
             return None;
         }
@@ -52,7 +55,9 @@ impl RegisterWord {
     }
 
     // The register's number, or `None` where it passes every count of registers.
-    pub(crate) fn number(self) -> Option<usize> {
+    pub(crate) fn number(self) -> Option<usize>
+        ensures { result ≡ self.number }
+    {
         self.number
     }
 }
@@ -102,7 +107,7 @@ pub(crate) fn named_register(word: &[u8]) -> Option<(&str, RegisterWord)> {
 // The number that a word of decimal digits writes, or `None` where the word is no such number or
 // it passes `usize`.
 pub(crate) fn whole_number(word: &[u8]) -> Option<usize>
-    ensures { IfSome result (λ number. number ≡ decimal word.now) }
+    ensures { MatchOption result (IsNoNumber word.now) (IsNumber word.now) }
 {
     if is_decimal(word) {
         decimal_value(word)
@@ -114,7 +119,7 @@ pub(crate) fn whole_number(word: &[u8]) -> Option<usize>
 // The size of each list of a column that a word of decimal digits writes, or `None` where the word
 // is no such number or it passes `u32`.
 pub(crate) fn list_size(word: &[u8]) -> Option<u32>
-    ensures { IfSome result (λ size. size ≡ decimal word.now) }
+    ensures { MatchOption result (IsNoNumber word.now ⊎ (2 ^ 32 ≤ decimal word.now)) (IsNumber word.now) }
 {
     u32::try_from(whole_number(word)?).ok()
 }
@@ -122,7 +127,7 @@ pub(crate) fn list_size(word: &[u8]) -> Option<u32>
 // The integer that a word writes by an optional `-` and one to twenty digits, or `None` where the
 // word writes none or its digits pass `usize`.
 fn integer(word: &[u8]) -> Option<i128>
-    ensures { IfSome result (λ number. number ≡ integer_written word.now) }
+    ensures { MatchOption result (IsNoInteger word.now) (IsInteger word.now) }
 {
     let (is_negative, digits) = match word {
         [b'-', digits @ ..] => (true, digits),
@@ -137,7 +142,7 @@ fn integer(word: &[u8]) -> Option<i128>
 
 // The integer that a word writes, or `None` where it writes none or `ptype` does not hold it.
 pub(crate) fn integer_of(ptype: PType, word: &[u8]) -> Option<i128>
-    ensures written { IfSome result (λ number. number ≡ integer_written word.now) }
+    ensures written { MatchOption result (IsNoIntegerOf ptype word.now) (IsInteger word.now) }
     ensures held { IfSome result (Holds ptype) }
 {
     let number = integer(word)?;
@@ -150,7 +155,7 @@ pub(crate) fn integer_of(ptype: PType, word: &[u8]) -> Option<i128>
 
 // The integer that a word writes, or `None` where it writes none or `T` does not hold it.
 pub(crate) fn integer_within<T: NativePType>(word: &[u8]) -> Option<T>
-    ensures { IfSome result (λ number. T.value number ≡ integer_written word.now) }
+    ensures { MatchOption result (IsNoIntegerOf T.PTYPE word.now) (λ number. IsInteger word.now (T.value number)) }
 {
     T::from_i128(integer(word)?)
 }

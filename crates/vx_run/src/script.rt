@@ -1,10 +1,14 @@
 // Runs a script line by line as it is read.
 
-ghost use Rattle.std.specs.Prelude.{◌≡◌, ◌≤◌, OnOk};
-ghost use Rattle.std.specs.Io.KnownBytes.{Appends};
+ghost use Rattle.std.specs.Prelude.{◌≡◌, ◌≤◌, ◌*◌, OnOk};
+ghost use Rattle.std.specs.Io.KnownBytes.{Appends, IsAtEnd};
 ghost use Rattle.vx_base.specs.declared.errors.VortexError.TheVariants.{Memory};
 ghost use Rattle.vx_run.specs.declared.faults.LineFault.TheVariants.{Refused};
+ghost use Rattle.vx_run.specs.declared.counted_reader.TheConstants.{MOST_READS};
+ghost use Rattle.vx_run.specs.declared.script.TheConstants.{BLOCK_BYTES};
 ghost use Rattle.vx_run.specs.declared.script.Stop.TheVariants.{Fault};
+ghost use Rattle.vx_run.specs.Script.{ConsumesAtMost};
+ghost use Rattle.vx_run.specs.Shown.{Grows};
 
 use crate::command::parse_command;
 use crate::counted_reader::{CountedReader, MOST_READS};
@@ -47,8 +51,8 @@ impl From<AllocError> for Stop {
 }
 
 /// Runs a script: reads its lines from `input`, runs each as soon as it is complete, and writes
-/// what it prints to `output`. The answer is an exit status: 0 where the script ends without
-/// fault, else 1.
+/// what it prints to `output`, behind what stood there. The answer is an exit status: 0 where the
+/// script ends without fault, which is only where the input is at its end, else 1.
 ///
 /// Each command makes the next register, numbered from 0, save `show` and `parts`, which print a
 /// line each. A fault in line n, counted from 1, writes `error n NAME` and ends the script. NAME
@@ -57,8 +61,9 @@ impl From<AllocError> for Stop {
 ///
 /// A line has at most 1,048,576 bytes without its line feed, and is `Syntax` as soon as it has
 /// more. A failed read, also one that was interrupted, is `Read`, and so is a reader that has
-/// answered 1,048,576 read calls without an end. A failed write or flush, also one that was
-/// interrupted, ends the script at once, and nothing more is written.
+/// answered 1,048,576 read calls without an end; each asks for 65,536 bytes, so no more than 2^36
+/// are read. A failed write or flush, also one that was interrupted, ends the script at once, and
+/// nothing more is written.
 ///
 /// ```text
 /// ints i32 1,2,3
@@ -70,7 +75,11 @@ impl From<AllocError> for Stop {
 ///
 /// prints `[[1,2,3],[2,3]]`.
 pub fn run_script<R: Read, W: Write>(alloc: Global, input: &mut R, output: &mut W) -> u8
-    ensures { result ≤ 1 }
+    ensures status { result ≤ 1 }
+    ensures ended { result ≡ 0 → IsAtEnd (R.remaining input.new) }
+    ensures read { ConsumesAtMost (MOST_READS * BLOCK_BYTES)
+        (R.remaining input.old) (R.remaining input.new) }
+    ensures written { Grows (W.contents output.old) (W.contents output.new) }
 {
     let mut script = Script::new(alloc);
     match script.run_all(alloc, &mut CountedReader::new(input), output) {
@@ -105,7 +114,14 @@ impl Script {
         alloc: Global,
         input: &mut CountedReader<'_, R>,
         output: &mut W,
-    ) -> Result<(), Stop> {
+    ) -> Result<(), Stop>
+        requires unread { input.old.reads ≡ 0 }
+        ensures same_reference { input.new.input.ghost_name ≡ input.old.input.ghost_name }
+        ensures ended { OnOk result (IsAtEnd (R.remaining input.new.input.now)) }
+        ensures read { ConsumesAtMost (MOST_READS * BLOCK_BYTES)
+            (R.remaining input.old.input.now) (R.remaining input.new.input.now) }
+        ensures written { Grows (W.contents output.old) (W.contents output.new) }
+    {
         let mut block = vec![in alloc; 0u8; BLOCK_BYTES]?;
         for _ in 0..MOST_READS {
             let count = input.read(block.as_mut_slice())?;
@@ -123,21 +139,23 @@ impl Script {
         alloc: Global,
         block: &[u8],
         output: &mut W,
-    ) -> Result<(), Stop> {
-        for piece in block.split_inclusive(|byte| *byte == b'\n') {
-            match piece {
-                [end_of_line @ .., b'\n'] => {
-                    self.line.extend(end_of_line)?;
-                    self.run_line(alloc, output)?;
-                }
-                beginning => self.line.extend(beginning)?,
-            }
+    ) -> Result<(), Stop>
+        ensures { Grows (W.contents output.old) (W.contents output.new) }
+    {
+        let mut rest = block;
+        while let Some(end) = rest.iter().position(|byte| *byte == b'\n') {
+            self.line.extend(&rest[..end])?;
+            self.run_line(alloc, output)?;
+            rest = &rest[end + 1..];
         }
+        self.line.extend(rest)?;
         Ok(())
     }
 
     // Runs the line that was read, and goes on to the next.
-    fn run_line<W: Write>(&mut self, alloc: Global, output: &mut W) -> Result<(), Stop> {
+    fn run_line<W: Write>(&mut self, alloc: Global, output: &mut W) -> Result<(), Stop>
+        ensures { Grows (W.contents output.old) (W.contents output.new) }
+    {
         if let Some(command) = parse_command(alloc, self.line.as_slice())? {
             if let Some(text) = self.registers.run(alloc, command)? {
                 write_line(text.as_bytes(), output)?;
@@ -150,14 +168,17 @@ impl Script {
 
 // Writes a whole line, its line feed included. A write that was interrupted is not tried again.
 fn write_line<W: Write>(line: &[u8], output: &mut W) -> Result<(), Stop>
-    ensures { OnOk result (Appends (W.contents output.old) (W.contents output.new) line.now) }
+    ensures whole { OnOk result (Appends (W.contents output.old) (W.contents output.new) line.now) }
+    ensures grown { Grows (W.contents output.old) (W.contents output.new) }
 {
     write_whole(line, output).map_err(|_| Stop::Output)?;
     output.flush().map_err(|_| Stop::Output)
 }
 
 // Writes the line that tells a fault. It takes no memory.
-fn write_fault<W: Write>(number: u64, fault: LineFault, output: &mut W) -> Result<(), Stop> {
+fn write_fault<W: Write>(number: u64, fault: LineFault, output: &mut W) -> Result<(), Stop>
+    ensures { Grows (W.contents output.old) (W.contents output.new) }
+{
     let mut line = Cursor::new([0u8; FAULT_LINE_BYTES]);
     let name = fault.name();
     if writeln!(line, "error {number} {name}").is_err() {

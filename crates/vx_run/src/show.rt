@@ -249,11 +249,12 @@ fn show_fixed_lists(
     requires mask { length mask.now ≡ end - start }
     requires in_bounds { end * size ≤ tree_len elements.now }
 {
+    let len = elements.len();
     let mut valid = mask.rows();
     for row in start..end {
         separate(row - start, text)?;
         if valid.value(row - start) {
-            let (first, last) = list_range(elements, size, row);
+            let (first, last) = list_range(len, size, row);
             text.push('[')?;
             show_rows(alloc, elements, first, last, text)?;
             text.push(']')?;
@@ -264,14 +265,14 @@ fn show_fixed_lists(
     Ok(())
 }
 
-// Where the elements of a list start and end, where each list has `size` of them.
-fn list_range(elements: &ArrayRef, size: usize, row: usize) -> (usize, usize)
-    requires { (row + 1) * size ≤ tree_len elements.now }
+// Where list `row` starts and ends among so many elements, where each list has `size` of them.
+fn list_range(len: usize, size: usize, row: usize) -> (usize, usize)
+    requires { (row + 1) * size ≤ len }
     ensures ordered { result.0 ≤ result.1 }
-    ensures within { result.1 ≤ tree_len elements.now }
+    ensures within { result.1 ≤ len }
 {
-    let _len = elements.len();
     let start = row * size;
+    prove!(start <= len && size <= len - start);
     (start, start + size)
 }
 

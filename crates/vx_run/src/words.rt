@@ -1,8 +1,8 @@
 // The words of a line, and the numbers that their digits write.
 
-ghost use Rattle.std.specs.Prelude.{◌≡◌, ◌↔◌, ◌≢◌, ◌≤◌, ◌^◌, [], length, All, IsTrue, MatchOption};
+ghost use Rattle.std.specs.Prelude.{◌≡◌, ◌↔◌, ◌≤◌, ◌^◌, length, All, IsTrue, MatchOption};
 ghost use Rattle.std.specs.Iterator.{at_most};
-ghost use Rattle.vx_run.specs.Words.{IsDigit, decimal, with_digit};
+ghost use Rattle.vx_run.specs.Words.{IsDecimal, IsDigit, decimal, with_digit};
 
 // The words of a line, in order: the longest runs of bytes other than spaces.
 //
@@ -39,7 +39,7 @@ impl<'a> Iterator for Words<'a> {
 
 // Whether a word is decimal digits alone, at least one.
 pub(crate) fn is_decimal(word: &[u8]) -> bool
-    ensures { IsTrue result ↔ (word.now ≢ []) × All IsDigit word.now }
+    ensures { IsTrue result ↔ IsDecimal word.now }
 {
     !word.is_empty() && word.iter().all(|byte| byte.is_ascii_digit())
 }

@@ -14,7 +14,7 @@ mod tables;
 
 use std::test::Fail;
 use vx_base::{BitBuffer, Buffer, ByteBuffer, Mask, Nullability, PType, Scalar, VortexError};
-use vx_lists::ListViewArray;
+use vx_lists::{FixedSizeListArray, FixedSizeListArrayExt, ListViewArray};
 use vx_test_help::{bools, has_numbers_or_nulls};
 use vx_tree::{TypedArray, Validity};
 use vx_uses::converter::lists_end_to_end;
@@ -22,8 +22,9 @@ use vx_uses::first::{column, third_list};
 use vx_uses::kernel::{
     inner_page, list_of_row, ordered_page, repeated_row, rows_above, valid_count, vector_at,
 };
+use vx_uses::pairs::pairs;
 use vx_uses::reader::{Lists, column_of_bytes, nullable_column, read_lists};
-use vx_uses::texts::text_of_row;
+use vx_uses::texts::{are_checked_whole, text_of_row};
 use vx_views::BinaryView;
 
 #[test]
@@ -160,6 +161,19 @@ fn vectors_are_parts_of_their_column(rt: HostRuntime) {
 }
 
 #[test]
+fn rows_two_by_two_are_pairs(rt: HostRuntime) -> Result<(), Fail> {
+    let alloc = rt.alloc();
+    let points = pairs(alloc, column::<i32>(alloc, &[1, 2, 3, 4])?)?;
+    let Ok(points) = FixedSizeListArray::try_from_array(points) else {
+        panic!(rt; "no lists of one size");
+    };
+    assert!(rt; points.len() == 2);
+    let last = points.fixed_size_list_elements_at(alloc, 1)?;
+    assert!(rt; has_numbers_or_nulls(&last, &[Some(3), Some(4)]));
+    Ok(())
+}
+
+#[test]
 fn rows_of_lists_are_their_elements(rt: HostRuntime) {
     let alloc = rt.alloc();
     let elements = column::<i32>(alloc, &[1, 2, 3]).expect(&rt, "made");
@@ -213,5 +227,25 @@ fn texts_are_read_once_checked(rt: HostRuntime) -> Result<(), Fail> {
     assert!(rt; text == Some(b"a longer text".as_slice()));
     let refused = text_of_row(alloc, &views, &mask, &[], 0);
     assert!(rt; refused == Err(VortexError::BadBuffer { row: 1 }));
+    Ok(())
+}
+
+#[test]
+fn a_budget_for_the_buffer_leaves_no_view(rt: HostRuntime) -> Result<(), Fail> {
+    let alloc = rt.alloc();
+    let bytes = b"aaaaaaaaaaaa\xC3\xA9bbbbbbbbbbbbb";
+    let buffers = [ByteBuffer::copy_from(alloc, bytes)?];
+    let views = [BinaryView::make_view(&bytes[..14], 0, 0)];
+    let mask = Mask::new_true(1);
+    assert_eq!(rt;
+        are_checked_whole(alloc, &views, &mask, &buffers, 27),
+        Ok(true)
+    );
+    assert_eq!(rt;
+        are_checked_whole(alloc, &views, &mask, &buffers, 26),
+        Ok(false)
+    );
+    let refused = are_checked_whole(alloc, &views, &mask, &[], 27);
+    assert!(rt; refused == Err(VortexError::BadBuffer { row: 0 }));
     Ok(())
 }

@@ -23,3 +23,4 @@ pub mod FaultyCodes
 pub mod TableColumns
 pub mod FaultyLists
 pub mod CollectedTexts
+pub mod RowPairs

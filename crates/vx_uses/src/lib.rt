@@ -24,6 +24,7 @@ pub mod kernel_laws;
 pub mod list_laws;
 pub mod modes;
 pub mod packing;
+pub mod pairs;
 pub mod part_by_steps;
 pub mod picked_rows;
 pub mod reader;

@@ -5,4 +5,9 @@ pub returns-clause-ok : goal.returns-clause-ok
 returns-clause-ok c =
     let made = c.in_ok-take.ensures in
     step-take c.args.arrays.now c.args.array c.args.indices c.in_ok-array.array.now c.in_ok-indices.indices.now c.in_ok-take.field-0
-    c.in_ok-array.ensures.found c.in_ok-indices.ensures.found made.kind made.rows made.shape made.one_value
+    c.in_ok-array.ensures.found c.in_ok-indices.ensures.found made.kind made.rows (record {
+      shape = made.shape;
+      one_value = made.one_value;
+      extent = made.extent;
+      needs = made.needs;
+    })
