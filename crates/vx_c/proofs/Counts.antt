@@ -32,7 +32,7 @@ value_count true n = refl
 value_count false n = refl
 
 pub some_node : (t : Tree) → 1 ≤ node_count t
-some_node (bools bits v) = omega arith
+some_node (bools b bits v) = omega arith
 some_node (primitive t bs v) = omega arith
 some_node (constant k r n) = omega arith
 some_node (dictionary c v f) = omega arith
@@ -43,7 +43,7 @@ some_node (view_array vs bs k v) = omega arith
 
 mutual
   pub least_nodes : (t : Tree) → AllFormed t → IsPlain t → least_count (kind_of t) ≤ node_count t
-  least_nodes (bools bits v) formed plain = omega arith
+  least_nodes (bools b bits v) formed plain = omega arith
   least_nodes (primitive t bs v) formed plain = omega arith
   least_nodes (constant k r n) formed plain = absurd plain
   least_nodes (dictionary c v f) formed plain = absurd plain

@@ -109,7 +109,7 @@ lent_there results w lent a item is =
     slice_get-get_or results w a.now here.3.0 ∙ ap Some (sym here.1)
 
 array_there : (results : List Tree) (w : ℕ) (a : Tree) → slice_get results w ≡ Some a → array_at results w ≡ a
-array_there results w a is = get_or_from_slice_get results w a (bools [] non_nullable) is
+array_there results w a is = get_or_from_slice_get results w a (bools 0 [] non_nullable) is
 
 -- why an array that stands there has no table
 abbrev array_fault : Tree → Option NodeFault

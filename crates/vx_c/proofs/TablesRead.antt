@@ -1,5 +1,5 @@
 -- The table of a plain array is read back as the array without its flags.
-use Rattle.std.proofs.Common.{◌≡◌, ◌+◌, ◌*◌, ◌^◌, ◌<◌, ◌≤◌, ℕ, zero, suc, Bool, false, List, [], ◌∷◌, ◌++◌, length, map, refl, sym, ◌∙◌, ap, subst, arith, length-append}
+use Rattle.std.proofs.Common.{◌≡◌, ◌+◌, ◌*◌, ◌%◌, ◌^◌, ◌<◌, ◌≤◌, ℕ, zero, suc, Bool, false, List, [], ◌∷◌, ◌++◌, length, map, replicate, refl, sym, ◌∙◌, ap, subst, arith, length-append}
 use Rattle.std.specs.Prelude.{Some, None, Ok, slice_index_or}
 use Rattle.std.specs.Int.{w128, from_le_bytes, to_le_bytes}
 use Rattle.vx_base.specs.Bits.{unpacked}
@@ -29,12 +29,12 @@ use Rattle.vx_c.specs.declared.table.NodeKind.{NodeKind}
 use Rattle.vx_c.specs.declared.table.NodeKind.TheVariants.{Bool as bool_kind, Number, FixedSizeList, ListView, Struct}
 use Rattle.vx_c.specs.NodeKinds.{kind_numbered}
 use Rattle.vx_c.specs.Tables.{bits_fault, names_fault, node_made, layout_made, view_bytes, buffers_in, column_of}
-use Rattle.vx_c.specs.TablesOf.{view_with, bytes_with, bits_bytes, bytes_node, views_node, parent_node, table_of, tables_of, valid_table}
+use Rattle.vx_c.specs.TablesOf.{view_with, bytes_with, bits_bytes, bits_node, bytes_node, views_node, parent_node, table_of, tables_of, valid_table}
 use Rattle.vx_c.specs.TablesOf.{IsHeld, AreHeld, IsHeldValid}
 use Rattle.vx_c.specs.Unflagged.{unflagged, unflagged_trees, unflagged_valid, node_count, trees_count, valid_count}
 use Rattle.vx_c.specs.Written.{AreTablesOf, valid_number, valid_trees, view_kind}
 use Rattle.vx_c.proofs.LayoutParts.{made_by}
-use Rattle.vx_c.proofs.PackedBytes.{length-bits_bytes, unpacked-bits_bytes}
+use Rattle.vx_c.proofs.PackedBytes.{length-begun, unpacked-begun}
 use Rattle.vx_c.proofs.Sixteen.{le_bytes_16}
 use Rattle.vx_c.proofs.Unflagged.{kept_len, unflagged-trees_from}
 use Rattle.vx_c.proofs.WrittenLayouts.{known, validity_none, bits_none, whole_none, count_none, lists_none, length-unflagged, column_count-from, struct_none, records-read, values-layout}
@@ -66,19 +66,19 @@ tables-leaf n k v vs t is number valid made len =
 
 -- ---- leaves
 
-bools-table : (bits : List Bool) (v : Valid) (vs : List CodraskNode) → WellFormed (bools bits v) → length bits < 2 ^ 64
-    → AreTablesOf vs (valid_trees (unflagged_valid v)) → AreTablesOf (bytes_node bool_kind v (length bits) (bits_bytes bits) ∷ vs) (bools bits (unflagged_valid v) ∷ [])
-bools-table bits v vs fits short valid =
+bools-table : (b : ℕ) (bits : List Bool) (v : Valid) (vs : List CodraskNode) → WellFormed (bools b bits v) → b < 8 → b + length bits < 2 ^ 64
+    → AreTablesOf vs (valid_trees (unflagged_valid v)) → AreTablesOf (bits_node v b bits ∷ vs) (bools b bits (unflagged_valid v) ∷ [])
+bools-table b bits v vs fits low short valid =
     let u = unflagged_valid v in
-    let bs = bits_bytes bits in
+    let bs = bits_bytes (replicate b false ++ bits) in
     let n = length bits in
-    let inside : 0 + n ≤ 8 * length bs = omega (arith, length-bits_bytes bits) in
-    let counted : 0 + n < 2 ^ 64 = omega (arith, short) in
-    let none : or_else (bits_fault bs 0 n) (validity_fault u n) ≡ None =
-    or_else-second (bits_fault bs 0 n) (validity_fault u n) None (bits_none bs 0 n inside counted) (validity_none v n n fits refl) in
-    tables-leaf (bytes_node bool_kind v n bs) bool_kind v vs (bools bits u) (known bool_kind) refl valid
-    (λ others. made_by (or_else (bits_fault bs 0 n) (validity_fault u n)) (bools (unpacked bs 0 n) u) (bools bits u) others none
-    (ap (λ (b : List Bool). bools b u) (sym (unpacked-bits_bytes bits)))) refl
+    let inside : b + n ≤ 8 * length bs = omega (arith, length-begun b bits) in
+    let none : or_else (bits_fault bs b n) (validity_fault u n) ≡ None =
+    or_else-second (bits_fault bs b n) (validity_fault u n) None (bits_none bs b n inside short) (validity_none v n n fits refl) in
+    let begins : b % 8 ≡ b = omega (arith, low) in
+    let same : bools (b % 8) (unpacked bs b n) u ≡ bools b bits u = λ j. bools (begins j) (unpacked-begun b bits j) u in
+    tables-leaf (bits_node v b bits) bool_kind v vs (bools b bits u) (known bool_kind) refl valid
+    (λ others. made_by (or_else (bits_fault bs b n) (validity_fault u n)) (bools (b % 8) (unpacked bs b n) u) (bools b bits u) others none (sym same)) refl
 
 numbers-table : (t : PType) (bs : List ℕ) (v : Valid) (vs : List CodraskNode) → WellFormed (primitive t bs v) → AreTablesOf vs (valid_trees (unflagged_valid v))
     → AreTablesOf (bytes_node (Number t) v (length (numbers t bs)) bs ∷ vs) (primitive t bs (unflagged_valid v) ∷ [])
@@ -162,7 +162,7 @@ struct-table names ts v n vs cs formed named valid parts =
 
 mutual
   table_read : (t : Tree) → AllFormed t → IsPlain t → IsHeld t → AreTablesOf (table_of t) (unflagged t ∷ [])
-  table_read (bools bits v) formed plain held = bools-table bits v (valid_table v) formed.0 held.0 (validity_read v formed.1 plain held.1)
+  table_read (bools b bits v) formed plain held = bools-table b bits v (valid_table v) formed.0 held.0 held.1 (validity_read v formed.1 plain held.2)
   table_read (primitive t bs v) formed plain held = numbers-table t bs v (valid_table v) formed.0 (validity_read v formed.2 plain held)
   table_read (constant k r n) formed plain held = absurd plain
   table_read (dictionary c v f) formed plain held = absurd plain
@@ -191,7 +191,7 @@ mutual
 
 mutual
   table_count : (t : Tree) → IsPlain t → length (table_of t) ≡ node_count t
-  table_count (bools bits v) plain = ap suc (validity_count v plain)
+  table_count (bools b bits v) plain = ap suc (validity_count v plain)
   table_count (primitive t bs v) plain = ap suc (validity_count v plain)
   table_count (constant k r n) plain = absurd plain
   table_count (dictionary c v f) plain = absurd plain

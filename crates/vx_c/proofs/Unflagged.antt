@@ -14,7 +14,7 @@ use Rattle.vx_tree.specs.Plain.{IsPlain, ArePlain, IsPlainValid}
 use Rattle.vx_c.specs.Unflagged.{unflagged, unflagged_trees, unflagged_valid, node_count, trees_count, valid_count, nodes_of}
 
 pub kept_len : (t : Tree) → tree_len (unflagged t) ≡ tree_len t
-kept_len (bools bits v) = refl
+kept_len (bools b bits v) = refl
 kept_len (primitive t bs v) = refl
 kept_len (constant k r n) = refl
 kept_len (dictionary c v f) = kept_len c
@@ -31,7 +31,7 @@ kept_nullable (by_array t) = refl
 
 mutual
   pub kept_kind : (t : Tree) → kind_of (unflagged t) ≡ kind_of t
-  kept_kind (bools bits v) = ap booleans (kept_nullable v)
+  kept_kind (bools b bits v) = ap booleans (kept_nullable v)
   kept_kind (primitive t bs v) = ap (integers t) (kept_nullable v)
   kept_kind (constant k r n) = refl
   kept_kind (dictionary c v f) = λ j. or_nullable (is_nullable_kind (kept_kind c j)) (kept_kind v j)
@@ -46,7 +46,7 @@ mutual
 
 mutual
   pub kept_row : (t : Tree) → row_at (unflagged t) ≡ row_at t
-  kept_row (bools bits v) = λ j i. if kept_valid v j i then boolean (bool_at bits i) else null
+  kept_row (bools b bits v) = λ j i. if kept_valid v j i then boolean (bool_at bits i) else null
   kept_row (primitive t bs v) = λ j i. if kept_valid v j i then whole (number_nth (numbers t bs) i) else null
   kept_row (constant k r n) = refl
   kept_row (dictionary c v f) = λ j i. picked (kept_row v j) (position_in (kept_row c j i))
@@ -74,7 +74,7 @@ unflagged-rows t = record { len = kept_len t; kind = kept_kind t; rows = λ i in
 
 mutual
   pub kept_plain : (t : Tree) → IsPlain t → IsPlain (unflagged t)
-  kept_plain (bools bits v) plain = kept_plain_valid v plain
+  kept_plain (bools b bits v) plain = kept_plain_valid v plain
   kept_plain (primitive t bs v) plain = kept_plain_valid v plain
   kept_plain (constant k r n) plain = absurd plain
   kept_plain (dictionary c v f) plain = absurd plain
@@ -103,7 +103,7 @@ unflagged-trees_from (t ∷ ts) = ap (tree (unflagged t)) (unflagged-trees_from 
 
 mutual
   pub kept_count : (t : Tree) → node_count (unflagged t) ≡ node_count t
-  kept_count (bools bits v) = ap suc (kept_valid_count v)
+  kept_count (bools b bits v) = ap suc (kept_valid_count v)
   kept_count (primitive t bs v) = ap suc (kept_valid_count v)
   kept_count (constant k r n) = refl
   kept_count (dictionary c v f) = λ j. suc (kept_count c j + kept_count v j)

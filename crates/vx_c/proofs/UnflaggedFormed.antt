@@ -74,7 +74,7 @@ views_kept vs bs k v h = record {
 
 mutual
   pub kept_formed : (t : Tree) → AllFormed t → AllFormed (unflagged t)
-  kept_formed (bools bits v) h = (fits_kept v (length bits) h.0, kept_validity v h.1)
+  kept_formed (bools b bits v) h = (fits_kept v (length bits) h.0, kept_validity v h.1)
   kept_formed (primitive t bs v) h = ((fits_kept v (length (numbers t bs)) h.0.0, h.0.1), h.1, kept_validity v h.2)
   kept_formed (constant k r n) h = h
   kept_formed (dictionary c v f) h = (dictionary_kept c v f h.0, kept_formed c h.1, kept_formed v h.2)

@@ -93,14 +93,14 @@ validity_none (by_array t) n m fits same = masked_none (unflagged t) m (kept_kin
 
 -- ---- truth values
 
-pub bools_written : (w : WrittenNode) (bits : List Bool) (v : Valid) (old new : List WrittenNode) → IsBitsNode bits (valid_number v) w → ValidFits v (length bits)
-    → IsPut w v old new → IsWritten old (bools bits (unflagged_valid v) ∷ []) new
-bools_written w bits v old new node fits put =
+pub bools_written : (w : WrittenNode) (first : ℕ) (bits : List Bool) (v : Valid) (old new : List WrittenNode) → IsBitsNode first bits (valid_number v) w → ValidFits v (length bits)
+    → IsPut w v old new → IsWritten old (bools first bits (unflagged_valid v) ∷ []) new
+bools_written w first bits v old new node fits put =
     let u = unflagged_valid v in
     let none : or_else (bits_fault w.bytes.items w.offset w.length) (validity_fault u w.length) ≡ None =
     or_else-second (bits_fault w.bytes.items w.offset w.length) (validity_fault u w.length) None node.faultless (validity_none v (length bits) w.length fits node.len) in
-    leaf-written w bool_kind v old new (bools bits u) (known_as w bool_kind node.kind) node.number put
-    (λ others. made_by (or_else (bits_fault w.bytes.items w.offset w.length) (validity_fault u w.length)) (bools (unpacked w.bytes.items w.offset w.length) u) (bools bits u) others none (ap (λ b. bools b u) (sym node.is)))
+    leaf-written w bool_kind v old new (bools first bits u) (known_as w bool_kind node.kind) node.number put
+    (λ others. made_by (or_else (bits_fault w.bytes.items w.offset w.length) (validity_fault u w.length)) (bools (w.offset % 8) (unpacked w.bytes.items w.offset w.length) u) (bools first bits u) others none (sym (λ j. bools (node.begins j) (node.is j) u)))
     (sym node.len) (leaf-count u)
 
 -- ---- numbers
@@ -412,23 +412,25 @@ parent_put w k size len names v old new kind number sized long named put =
 pub bits_none : (bytes : List ℕ) (from len : ℕ) → from + len ≤ 8 * length bytes → from + len < 2 ^ 64 → bits_fault bytes from len ≡ None
 bits_none bytes from len inside counted = search (rules, arith, inside, counted)
 
-pub bits_node : (w : WrittenNode) (bits : List Bool) (number offset len : ℕ) (bytes : List ℕ) → w.kind ≡ bool_kind → w.validity ≡ number → w.offset ≡ offset → w.length ≡ len
-    → w.bytes.items ≡ bytes → len ≡ length bits → offset + len ≤ 8 * length bytes → offset + len < 2 ^ 64 → bits ≡ unpacked bytes offset len → IsBitsNode bits number w
-bits_node w bits number offset len bytes kind validity from long same count inside counted is = record {
-  kind = kind;
-  number = validity;
-  len = long ∙ count;
-  is = (λ j. unpacked (same j) (from j) (long j)) ∙ sym is;
-  faultless = (λ j. bits_fault (same j) (from j) (long j)) ∙ bits_none bytes offset len inside counted;
-}
+pub bits_node : (w : WrittenNode) (first : ℕ) (bits : List Bool) (number offset len : ℕ) (bytes : List ℕ) → w.kind ≡ bool_kind → w.validity ≡ number → w.offset ≡ offset → w.length ≡ len
+    → w.bytes.items ≡ bytes → len ≡ length bits → offset + len ≤ 8 * length bytes → offset + len < 2 ^ 64 → offset ≡ first → offset < 8 → bits ≡ unpacked bytes offset len → IsBitsNode first bits number w
+bits_node w first bits number offset len bytes kind validity from long same count inside counted starts low is =
+    let small : offset % 8 ≡ offset = omega (arith, low) in record {
+      kind = kind;
+      number = validity;
+      len = long ∙ count;
+      begins = ap (λ k. k % 8) from ∙ small ∙ starts;
+      is = (λ j. unpacked (same j) (from j) (long j)) ∙ sym is;
+      faultless = (λ j. bits_fault (same j) (from j) (long j)) ∙ bits_none bytes offset len inside counted;
+    }
 
-pub mask_written : (w : WrittenNode) (bits : List Bool) (v : Valid) (t : Tree) (old new : List WrittenNode) → t ≡ bools bits v → kind_of t ≡ booleans false → IsBitsNode bits 0 w
+pub mask_written : (w : WrittenNode) (first : ℕ) (bits : List Bool) (v : Valid) (t : Tree) (old new : List WrittenNode) → t ≡ bools first bits v → kind_of t ≡ booleans false → IsBitsNode first bits 0 w
     → new ≡ old ++ w ∷ [] → IsWritten old (unflagged t ∷ []) new
-mask_written w bits non_nullable t old new is kind node pushed =
-    subst (λ x. IsWritten old (unflagged x ∷ []) new) (sym is) (bools_written w bits non_nullable old new node tt (put_alone w non_nullable old new pushed refl))
-mask_written w bits all_valid t old new is kind node pushed = let other = sym (ap kind_of is) ∙ kind in absurd (cc)
-mask_written w bits all_invalid t old new is kind node pushed = let other = sym (ap kind_of is) ∙ kind in absurd (cc)
-mask_written w bits (by_array m) t old new is kind node pushed = let other = sym (ap kind_of is) ∙ kind in absurd (cc)
+mask_written w first bits non_nullable t old new is kind node pushed =
+    subst (λ x. IsWritten old (unflagged x ∷ []) new) (sym is) (bools_written w first bits non_nullable old new node tt (put_alone w non_nullable old new pushed refl))
+mask_written w first bits all_valid t old new is kind node pushed = let other = sym (ap kind_of is) ∙ kind in absurd (cc)
+mask_written w first bits all_invalid t old new is kind node pushed = let other = sym (ap kind_of is) ∙ kind in absurd (cc)
+mask_written w first bits (by_array m) t old new is kind node pushed = let other = sym (ap kind_of is) ∙ kind in absurd (cc)
 
 -- ---- columns, one after another
 

@@ -1,6 +1,6 @@
 -- Which column a table of nodes is, and which fault it has.
-use Rattle.std.specs.Prelude.{◌+◌, ◌*◌, ◌^◌, ◌==◌, ℕ, suc, false, List, [], ◌∷◌, length, map, take, drop, nat_lt, nat_le, if◌then◌else◌}
-use Rattle.std.specs.Prelude.{Option, Some, None, Result, Ok, Err, slice_index_or}
+use Rattle.std.specs.Prelude.{◌+◌, ◌*◌, ◌%◌, ◌^◌, ◌==◌, ℕ, suc, false, List, [], ◌∷◌, length, map, take, drop, nat_lt, nat_le}
+use Rattle.std.specs.Prelude.{if◌then◌else◌, Option, Some, None, Result, Ok, Err, slice_index_or}
 use Rattle.std.specs.Int.{w128, from_le_bytes, to_le_bytes}
 use Rattle.std.specs.Str.{is_utf8}
 use Rattle.vx_base.specs.Bits.{unpacked}
@@ -90,11 +90,11 @@ records_made n v ts =
     else unless (or_else (names_fault names) (struct_fault names (take (length names) ts) v n.length))
     (structure names (trees_from (take (length names) ts)) v n.length) (drop (length names) ts)
 
--- the array of a node of a kind, under a validity, and the arrays that are not its parts
+-- the array of a node of a kind, under a validity, and the arrays that are not its parts: whole bytes before the first bit go
 abbrev pub layout_made : NodeKind → CodraskNode → Valid → List Tree → Result (Tree × List Tree) NodeFault
 layout_made Bool n v ts =
     unless (or_else (bits_fault n.bytes.now n.offset n.length) (validity_fault v n.length))
-    (bools (unpacked n.bytes.now n.offset n.length) v) ts
+    (bools (n.offset % 8) (unpacked n.bytes.now n.offset n.length) v) ts
 layout_made (Number t) n v ts =
     unless (or_else (whole_fault t n.bytes.now) (validity_fault v (length (numbers t n.bytes.now)))) (primitive t n.bytes.now v) ts
 layout_made Utf8 n v ts = views_made n (texts (nullable v)) v ts

@@ -1,5 +1,6 @@
 -- The table of a plain array, as a list of nodes.
-use Rattle.std.specs.Prelude.{◌≡◌, ◌+◌, ◌*◌, ◌/◌, ◌^◌, ◌<◌, ◌≤◌, ◌++◌, ℕ, Bool, List, [], ◌∷◌, length, map, take, drop, Ok, None}
+use Rattle.std.specs.Prelude.{◌≡◌, ◌+◌, ◌*◌, ◌/◌, ◌^◌, ◌<◌, ◌≤◌, ◌++◌, ℕ, Bool, false, List, [], ◌∷◌, length, map}
+use Rattle.std.specs.Prelude.{replicate, take, drop, Ok, None}
 use Rattle.std.specs.List.{range_with_len}
 use Rattle.vx_base.specs.Bits.{byte_of}
 use Rattle.vx_base.specs.Integers.{numbers}
@@ -57,12 +58,16 @@ parent_node k v len each names = node_numbered (kind_number k) (valid_number v) 
 abbrev pub bits_bytes : List Bool → List ℕ
 bits_bytes bits = map (λ j. byte_of (take 8 (drop (8 * j) bits))) (range_with_len 0 ((length bits + 7) / 8))
 
+-- a node of booleans that begin at a bit of the first byte, which is false before it
+abbrev pub bits_node : Valid → ℕ → List Bool → CodraskNode
+bits_node v b bits = node_numbered (kind_number bool_kind) (valid_number v) (length bits) 0 b (bits_bytes (replicate b false ++ bits)) [] []
+
 -- ---- a table
 
 -- the node of an array, that of its validity array, then those of its parts in order
 abbrev mutual
   pub table_of : Tree → List CodraskNode
-  table_of (bools bits v) = bytes_node bool_kind v (length bits) (bits_bytes bits) ∷ valid_table v
+  table_of (bools b bits v) = bits_node v b bits ∷ valid_table v
   table_of (primitive t bs v) = bytes_node (Number t) v (length (numbers t bs)) bs ∷ valid_table v
   table_of (constant k r n) = []
   table_of (dictionary c v f) = []
@@ -84,10 +89,10 @@ abbrev mutual
 
 -- ---- what a machine holds
 
--- at each depth rows that a machine word counts, and names that are texts
+-- at each depth rows that a machine word counts, bits that begin in the first byte, and names that are texts
 abbrev mutual
   pub IsHeld : Tree → Type 0
-  IsHeld (bools bits v) = (length bits < 2 ^ 64) × IsHeldValid v
+  IsHeld (bools b bits v) = (b < 8) × (b + length bits < 2 ^ 64) × IsHeldValid v
   IsHeld (primitive t bs v) = IsHeldValid v
   IsHeld (constant k r n) = Unit {0}
   IsHeld (dictionary c v f) = Unit {0}

@@ -10,7 +10,7 @@ use Rattle.vx_tree.specs.Tree.{view_array, Trees, no_trees, tree, Valid, non_nul
 -- the same array, the flags of lists and dictionaries not set, at any depth
 abbrev mutual
   pub unflagged : Tree → Tree
-  unflagged (bools bits v) = bools bits (unflagged_valid v)
+  unflagged (bools b bits v) = bools b bits (unflagged_valid v)
   unflagged (primitive t bs v) = primitive t bs (unflagged_valid v)
   unflagged (constant k r n) = constant k r n
   unflagged (dictionary c v f) = dictionary (unflagged c) (unflagged v) false
@@ -32,7 +32,7 @@ abbrev mutual
 -- how many nodes the table of an array has
 abbrev mutual
   pub node_count : Tree → ℕ
-  node_count (bools bits v) = suc (valid_count v)
+  node_count (bools b bits v) = suc (valid_count v)
   node_count (primitive t bs v) = suc (valid_count v)
   node_count (constant k r n) = 1
   node_count (dictionary c v f) = suc (node_count c + node_count v)

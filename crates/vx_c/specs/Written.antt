@@ -1,5 +1,5 @@
 -- The tables of arrays, as they are written.
-use Rattle.std.specs.Prelude.{◌≡◌, ◌+◌, ◌++◌, ℕ, Bool, true, false, List, [], ◌∷◌, length, map, Ok, None}
+use Rattle.std.specs.Prelude.{◌≡◌, ◌+◌, ◌%◌, ◌++◌, ℕ, Bool, true, false, List, [], ◌∷◌, length, map, Ok, None}
 use Rattle.vx_base.specs.Bits.{unpacked}
 use Rattle.vx_tree.specs.Tree.{Tree, Valid, non_nullable, all_valid, all_invalid, by_array}
 use Rattle.vx_c.specs.declared.table.CodraskNode.{CodraskNode}
@@ -87,10 +87,11 @@ pub record IsParent (k : NodeKind) (size len : ℕ) (names : List (List ℕ)) (v
   pub names_are : map (λ b. b.items) node.buffers.blocks.items ≡ names
   pub put : IsPut node v old new
 
--- a node of truth values under the validity of a number
-pub record IsBitsNode (bits : List Bool) (validity : ℕ) (node : WrittenNode) : Type 0 where
+-- a node of truth values that begin at a bit of their first byte, under the validity of a number
+pub record IsBitsNode (first : ℕ) (bits : List Bool) (validity : ℕ) (node : WrittenNode) : Type 0 where
   pub kind : node.kind ≡ kind.Bool
   pub number : node.validity ≡ validity
   pub len : node.length ≡ length bits
+  pub begins : node.offset % 8 ≡ first
   pub is : unpacked node.bytes.items node.offset node.length ≡ bits
   pub faultless : bits_fault node.bytes.items node.offset node.length ≡ None

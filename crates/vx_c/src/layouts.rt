@@ -1,6 +1,6 @@
 // The array of a node, by its kind.
 
-ghost use Rattle.std.specs.Prelude.{◌≡◌, ◌≤◌, ◌<◌, ◌⊎◌, ◌++◌, Ok, IfOk, IfErr, length, map, take, drop};
+ghost use Rattle.std.specs.Prelude.{◌≡◌, ◌≤◌, ◌<◌, ◌%◌, ◌⊎◌, ◌++◌, Ok, IfOk, IfErr, length, map, take, drop};
 ghost use Rattle.vx_base.specs.declared.dtypes.DType.TheVariants as DType;
 ghost use Rattle.vx_base.specs.declared.errors.VortexError.TheVariants.{Memory};
 ghost use Rattle.vx_c.specs.declared.faults.NodeError.TheVariants.{Refused, MissingNodes};
@@ -69,7 +69,8 @@ fn truth_values(
     node: &CodraskNode<'_>,
     validity: Validity,
 ) -> Result<ArrayRef, VortexError>
-    ensures ok { IfOk result (λ array. array ≡ bools (unpacked node.now.bytes.now node.now.offset node.now.length) (valid_of validity)) }
+    ensures ok { IfOk result (λ array. array
+        ≡ bools (node.now.offset % 8) (unpacked node.now.bytes.now node.now.offset node.now.length) (valid_of validity)) }
     ensures refuses { Refuses result (or_else (bits_fault node.now.bytes.now node.now.offset node.now.length)
         (validity_fault (valid_of validity) node.now.length)) }
 {
@@ -82,6 +83,7 @@ fn truth_values(
 #[tactic(auto, using(vx_base::proofs::PackedBits::length_unpacked))]
 fn bits_of(alloc: Global, node: &CodraskNode<'_>) -> Result<BitBuffer, VortexError>
     ensures ok { IfOk result (λ b. b.bits ≡ unpacked node.now.bytes.now node.now.offset node.now.length) }
+    ensures offset { IfOk result (λ b. b.offset ≡ node.now.offset % 8) }
     ensures len { IfOk result (λ b. length b.bits ≡ node.now.length) }
     ensures refuses { Refuses result (bits_fault node.now.bytes.now node.now.offset node.now.length) }
 {

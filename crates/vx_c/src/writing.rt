@@ -154,7 +154,7 @@ fn put_bits(
     requires fits { ValidFits (valid_of validity.now) (length bits.now.bits) }
     requires plain { IsPlainValid (valid_of validity.now) }
     ensures { Gives result (λ _. IsWritten nodes.old.items
-        (bools bits.now.bits (unflagged_valid (valid_of validity.now)) ∷ []) nodes.new.items) }
+        (bools bits.now.offset bits.now.bits (unflagged_valid (valid_of validity.now)) ∷ []) nodes.new.items) }
 {
     let node = bits_node(alloc, bits, number_of(validity))?;
     Ok(put(alloc, node, validity, nodes)?)
@@ -163,7 +163,7 @@ fn put_bits(
 // A node of truth values under the validity of a number.
 #[tactic(auto, using(crate::proofs::WrittenLayouts::bits_node))]
 fn bits_node(alloc: Global, bits: &BitBuffer, validity: u32) -> Result<WrittenNode, VortexError>
-    ensures { Gives result (IsBitsNode bits.now.bits validity) }
+    ensures { Gives result (IsBitsNode bits.now.offset bits.now.bits validity) }
 {
     let (offset, length, bytes) = bits.try_clone(alloc)?.into_inner();
     Ok(WrittenNode {

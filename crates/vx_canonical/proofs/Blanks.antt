@@ -39,7 +39,7 @@ covers true b h = refl
 covers false true h = h refl
 covers false false h = refl
 
-pub bools_blank : (t r : Tree) (bits zeroes : List Bool) (v w : Valid) (n : ℕ) → t ≡ bools bits v → r ≡ bools zeroes w → MayHaveNulls t w → IsPlainValid w → length zeroes ≡ n → IsBlank (or_nullable (nullable w) (kind_of t)) (extent_of t) n w r
+pub bools_blank : {a b : ℕ} (t r : Tree) (bits zeroes : List Bool) (v w : Valid) (n : ℕ) → t ≡ bools a bits v → r ≡ bools b zeroes w → MayHaveNulls t w → IsPlainValid w → length zeroes ≡ n → IsBlank (or_nullable (nullable w) (kind_of t)) (extent_of t) n w r
 bools_blank t r bits zeroes v w n a b may p long =
     let c : nullable w ≡ (nullable w || nullable v) = covers (nullable w) (nullable v) (rw a at may) in
     rw (a, b) (record { len = long; kind = ap booleans c; plain = p; state = refl; extent = refl; flag = refl; nulls = λ i l. null_row (is_valid_at w i) _ })

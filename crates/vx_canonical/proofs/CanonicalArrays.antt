@@ -31,7 +31,7 @@ rows_canonical t r h = (rows_by_place r t).1 (h.same.len, λ i l. h.same.rows i 
 pub same_nullable : (v w : Valid) → state_of w ≡ state_of v → nullable w ≡ nullable v
 same_nullable v w e = nullable-state w ∙ ap is_nullable_state e ∙ sym (nullable-state v)
 
-pub array_canonical : (v w : Valid) (t : Tree) (bits : List Bool) (n : ℕ) → v ≡ by_array t → w ≡ by_array (bools bits non_nullable) → bits ≡ map (λ i. truth_of (row_at t i)) (range_with_len 0 (tree_len t))
+pub array_canonical : {b : ℕ} (v w : Valid) (t : Tree) (bits : List Bool) (n : ℕ) → v ≡ by_array t → w ≡ by_array (bools b bits non_nullable) → bits ≡ map (λ i. truth_of (row_at t i)) (range_with_len 0 (tree_len t))
     → ValidFits v n → IsCanonicalValid v n w
 array_canonical v w t bits n a b e fits =
     let mask : IsMask t n = rw a at fits in

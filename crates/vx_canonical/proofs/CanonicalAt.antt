@@ -24,7 +24,7 @@ use Rattle.vx_canonical.proofs.CanonicalArrays.{same_nullable, valid_row, all_pl
 -- ---- picked, then made plain
 
 unflagged : (t : Tree) → is_flagged t ≡ false → kept_flag t ≡ false
-unflagged (bools bits v) h = refl
+unflagged (bools b bits v) h = refl
 unflagged (primitive t bs v) h = refl
 unflagged (constant k r n) h = refl
 unflagged (dictionary c v f) h = refl

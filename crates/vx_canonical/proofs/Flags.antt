@@ -14,7 +14,7 @@ shape_flag (list_view_shape e o z s f) = f
 shape_flag _ = false
 
 flag_told : (t : Tree) → is_flagged t ≡ shape_flag (shape_of t)
-flag_told (bools bits v) = refl
+flag_told (bools b bits v) = refl
 flag_told (primitive t bs v) = refl
 flag_told (constant k r n) = refl
 flag_told (dictionary c v f) = refl

@@ -17,7 +17,7 @@ plain_values true m e = cc
 plain_values false m e = cc
 
 pub plain_integers : (t : Tree) → IsPlain t → AllFormed t → is_plain_integers (kind_of t) ≡ true → is_primitive t ≡ true
-plain_integers (bools bits v) p f k = cc
+plain_integers (bools b bits v) p f k = cc
 plain_integers (primitive q bs v) p f k = refl
 plain_integers (constant q r m) p f k = absurd p
 plain_integers (dictionary c v g) p f k = absurd p
@@ -40,7 +40,7 @@ fixed_of_size e s k m v same long =
 
 pub fixed_lists_of_kind : (t : Tree) (kd : Kind) (k : ℕ) (n : Bool) → IsPlain t → AllFormed t → kind_of t ≡ fixed_lists kd k n → AreFixedLists k t
 unfolding size_in
-fixed_lists_of_kind (bools bits v) kd k n p f e = cc
+fixed_lists_of_kind (bools b bits v) kd k n p f e = cc
 fixed_lists_of_kind (primitive q bs v) kd k n p f e = cc
 fixed_lists_of_kind (constant q r m) kd k n p f e = absurd p
 fixed_lists_of_kind (dictionary c v g) kd k n p f e = absurd p
@@ -54,7 +54,7 @@ fixed_lists_of_kind (view_array vs bs q v) kd k n p f e = absurd (no_values (is_
     no_values false m e = cc
 
 pub lists_of_kind : (t : Tree) (kd : Kind) (n : Bool) → IsPlain t → AllFormed t → kind_of t ≡ lists kd n → AreLists t
-lists_of_kind (bools bits v) kd n p f e = cc
+lists_of_kind (bools b bits v) kd n p f e = cc
 lists_of_kind (primitive q bs v) kd n p f e = cc
 lists_of_kind (constant q r m) kd n p f e = absurd p
 lists_of_kind (dictionary c v g) kd n p f e = absurd p
@@ -90,7 +90,7 @@ records_of_names ms ns ts v m same f =
 
 pub records_of_kind : (t : Tree) (ns : List (List ℕ)) (ks : Kinds) (n : Bool) → IsPlain t → AllFormed t → kind_of t ≡ records ns ks n → AreRecords ns t
 unfolding names_in
-records_of_kind (bools bits v) ns ks n p f e = cc
+records_of_kind (bools b bits v) ns ks n p f e = cc
 records_of_kind (primitive q bs v) ns ks n p f e = cc
 records_of_kind (constant q r m) ns ks n p f e = absurd p
 records_of_kind (dictionary c v g) ns ks n p f e = absurd p

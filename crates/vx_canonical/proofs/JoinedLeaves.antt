@@ -28,19 +28,19 @@ shown false r e = refl
 -- ---- booleans
 
 bools-hold : (t : Tree) → is_bools t ≡ true → length (bits_in t) ≡ tree_len t
-bools-hold (bools bits v) h = refl
+bools-hold (bools b bits v) h = refl
 bools-hold _ h = cc
 
 bools-content : (t : Tree) → is_bools t ≡ true → HasContent (λ u j. boolean (bool_at (bits_in u) j)) t
-bools-content (bools bits v) h = λ j l. shown (is_valid_at v j) (boolean (bool_at bits j)) refl
+bools-content (bools b bits v) h = λ j l. shown (is_valid_at v j) (boolean (bool_at bits j)) refl
 bools-content _ h = cc
 
 -- so many bits as rows
 pub length-bits : (ts : List Tree) → All (λ t. is_bools t ≡ true) ts → length (flat_map bits_in ts) ≡ joined_len ts
 length-bits ts h = length-joined bits_in ts (λ k d l. bools-hold (get_or ts k d) (h k d l))
 
-pub bools_joined : (ts : List Tree) (v : Valid) (bits : List Bool) → All (λ t. is_bools t ≡ true) ts → bits ≡ flat_map bits_in ts → IsValidJoined (nullable v) ts v → IsJoined (booleans (nullable v)) ts (bools bits v)
-bools_joined ts v bits h e valid =
+pub bools_joined : {b : ℕ} (ts : List Tree) (v : Valid) (bits : List Bool) → All (λ t. is_bools t ≡ true) ts → bits ≡ flat_map bits_in ts → IsValidJoined (nullable v) ts v → IsJoined (booleans (nullable v)) ts (bools b bits v)
+bools_joined {b} ts v bits h e valid =
     let hold : HoldEach bits_in ts = λ k d l. bools-hold (get_or ts k d) (h k d l) in
     rw e (record {
       len = length-joined bits_in ts hold;
@@ -50,7 +50,7 @@ bools_joined ts v bits h e valid =
       extent = refl;
       flag = refl;
       rows = λ i l.
-          rows_of_content (λ u j. boolean (bool_at (bits_in u) j)) (bools (flat_map bits_in ts) v) ts (λ k d m. bools-content (get_or ts k d) (h k d m)) i l
+          rows_of_content (λ u j. boolean (bool_at (bits_in u) j)) (bools b (flat_map bits_in ts) v) ts (λ k d m. bools-content (get_or ts k d) (h k d m)) i l
           (is_valid_at v i) (boolean (bool_at (flat_map bits_in ts) i)) (valid.bits i l) (joined_item bits_in boolean false null ts hold i l) refl;
     })
 
@@ -155,7 +155,7 @@ primitives_joined p ts v bs h e valid =
 -- ---- plain arrays of a kind
 
 pub bools_of_kind : (t : Tree) (n : Bool) → IsPlain t → AllFormed t → kind_of t ≡ booleans n → is_bools t ≡ true
-bools_of_kind (bools bits v) n p f k = refl
+bools_of_kind (bools b bits v) n p f k = refl
 bools_of_kind (primitive q bs v) n p f k = cc
 bools_of_kind (constant q r m) n p f k = absurd p
 bools_of_kind (dictionary c v g) n p f k = absurd p
@@ -181,7 +181,7 @@ type_in (integers q n) p = q
 type_in _ p = p
 
 pub numbers_of_kind : (t : Tree) (p : PType) (n : Bool) → IsPlain t → AllFormed t → kind_of t ≡ integers p n → AreNumbers p t
-numbers_of_kind (bools bits v) p n a f k = cc
+numbers_of_kind (bools b bits v) p n a f k = cc
 numbers_of_kind (primitive q bs v) p n a f k = numbers_of_type q p bs v (ap (λ kd. type_in kd p) k) f.0.1
 numbers_of_kind (constant q r m) p n a f k = absurd a
 numbers_of_kind (dictionary c v g) p n a f k = absurd a

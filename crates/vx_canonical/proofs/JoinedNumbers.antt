@@ -285,7 +285,7 @@ constant_faultless (records names ks m) r n e = cc
 
 -- numbers are made plain without a fault
 pub numbers_faultless : (t : Tree) → is_integers (kind_of t) ≡ true → canonical_fault t ≡ None
-numbers_faultless (bools bits v) e = refl
+numbers_faultless (bools b bits v) e = refl
 numbers_faultless (primitive p bs v) e = refl
 numbers_faultless (constant k r n) e = constant_faultless k r n e
 numbers_faultless (dictionary c v f) e =

@@ -49,7 +49,7 @@ all-map P f ts h = λ k d l.
     rw (get_or-map f ts k d d m) (h k d m)
 
 element-plain : (t : Tree) → IsPlain t → IsPlain (elements_in t)
-element-plain (bools bits v) p = p
+element-plain (bools b bits v) p = p
 element-plain (primitive q bs v) p = p
 element-plain (constant q r m) p = p
 element-plain (dictionary c v g) p = p
@@ -59,7 +59,7 @@ element-plain (structure ns ts v m) p = p
 element-plain (view_array vs bs q v) p = p
 
 element-formed : (t : Tree) → AllFormed t → AllFormed (elements_in t)
-element-formed (bools bits v) f = f
+element-formed (bools b bits v) f = f
 element-formed (primitive q bs v) f = f
 element-formed (constant q r m) f = f
 element-formed (dictionary c v g) f = f

@@ -273,7 +273,7 @@ of_one_state n ts parts v h e same all =
       bits = states-valid v ts parts h all;
     }
 
-of_booleans : (ts : List Tree) (parts : List (Validity × ℕ)) → ArePartsOf ts parts → told ≡ joined_state ts → IsValidJoined true ts (by_array (bools (joined_mask parts) non_nullable))
+of_booleans : (ts : List Tree) (parts : List (Validity × ℕ)) → ArePartsOf ts parts → told ≡ joined_state ts → IsValidJoined true ts (by_array (bools 0 (joined_mask parts) non_nullable))
 of_booleans ts parts h state =
     record {
       fits = record { len = length-joined_mask ts parts h; kind = refl };
@@ -295,7 +295,7 @@ valid_joined n (t ∷ ts) (p ∷ parts) w h nulls e = tested n (are_all (valid_o
         let same : valid_of p.0 ≡ w = some_same (valid_of p.0) w (rw all at e) in
         rw (sym same) (of_one_state m (t ∷ ts) (p ∷ parts) (valid_of p.0) h (h.0.kind ∙ nulls 0 t (omega arith)) (both-first (is_unchanged (valid_of p.0) (valid_of p.0)) (are_all (valid_of p.0) parts) all) all)
     tested true false all nulls =
-        let same : by_array (bools (joined_mask (p ∷ parts)) non_nullable) ≡ w = some_same (by_array (bools (joined_mask (p ∷ parts)) non_nullable)) w (rw all at e) in
+        let same : by_array (bools 0 (joined_mask (p ∷ parts)) non_nullable) ≡ w = some_same (by_array (bools 0 (joined_mask (p ∷ parts)) non_nullable)) w (rw all at e) in
         rw (sym same) (of_booleans (t ∷ ts) (p ∷ parts) h (told_state t ts p parts h all))
     tested false false all nulls =
         let plain : valid_of p.0 ≡ non_nullable = plain_state (valid_of p.0) (h.0.kind ∙ nulls 0 t (omega arith)) in

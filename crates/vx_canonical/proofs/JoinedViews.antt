@@ -246,9 +246,9 @@ pub values_of_kind : (t : Tree) (u n : Bool) (k : Kind) → k ≡ value_kind u n
 values_of_kind (view_array vs bs q v) u n k h p f e = same_kind q k vs bs v e f
 values_of_kind (constant q r m) u n k h p f e = absurd p
 values_of_kind (dictionary c v g) u n k h p f e = absurd p
-values_of_kind (bools bits v) u n k h p f e = absurd (no_booleans u (e ∙ h))
+values_of_kind (bools b bits v) u n k h p f e = absurd (no_booleans u (e ∙ h))
   where
-    no_booleans : (b : Bool) → kind_of (bools bits v) ≡ value_kind b n → ⊥
+    no_booleans : (c : Bool) → kind_of (bools b bits v) ≡ value_kind c n → ⊥
     no_booleans true x = cc
     no_booleans false x = cc
 values_of_kind (primitive q bs v) u n k h p f e = absurd (no_numbers u (e ∙ h))

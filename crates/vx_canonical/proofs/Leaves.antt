@@ -12,7 +12,7 @@ use Rattle.vx_canonical.specs.Canonical.{IsCanonical, IsCanonicalValid}
 use Rattle.vx_canonical.proofs.CanonicalArrays.{same_nullable, valid_row}
 
 pub leaf_fits : (t : Tree) (w : Valid) → is_leaf t ≡ true → WellFormed t → IsCanonicalValid (validity_of t) (tree_len t) w → WellFormed (under_validity t w)
-leaf_fits (bools bits v) w k f h = h.fits
+leaf_fits (bools b bits v) w k f h = h.fits
 leaf_fits (primitive t bs v) w k f h = (h.fits, f.1)
 leaf_fits (constant q r n) w k f h = absurd (cc)
 leaf_fits (dictionary c v b) w k f h = absurd (cc)
@@ -30,7 +30,7 @@ leaf_fits (view_array vs bs q v) w k f h =
     )
 
 canonical : (t : Tree) (w : Valid) → is_leaf t ≡ true → IsCanonicalValid (validity_of t) (tree_len t) w → IsCanonical t (under_validity t w)
-canonical (bools bits v) w k h =
+canonical (bools b bits v) w k h =
     record {
       same = record {
         len = refl;
@@ -86,8 +86,8 @@ shape_extent _ = leaf_extent
 
 pub leaf_picked : (t s : Tree) → is_leaf t ≡ true → shape_of s ≡ selected_shape (shape_of t) → (is_leaf s ≡ true) × (extent_of s ≡ extent_of t)
 unfolding shape_extent
-leaf_picked (bools b v) (bools c w) k e = (refl, refl)
-leaf_picked (bools b v) _ k e = absurd (cc)
+leaf_picked (bools a b v) (bools d c w) k e = (refl, refl)
+leaf_picked (bools a b v) _ k e = absurd (cc)
 leaf_picked (primitive p b v) (primitive q c w) k e = (refl, refl)
 leaf_picked (primitive p b v) _ k e = absurd (cc)
 leaf_picked (view_array vs bs q v) (view_array ws cs l w) k e = (refl, ap shape_extent e)

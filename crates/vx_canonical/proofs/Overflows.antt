@@ -84,7 +84,7 @@ mutual
 
 mutual
   pub plain_only : (t : Tree) → IsOverflow (canonical_fault t)
-  plain_only (bools bits v) = inl refl
+  plain_only (bools b bits v) = inl refl
   plain_only (primitive q bs v) = inl refl
   plain_only (constant k r n) = either (plain_overflow k n) (kept_fault k (r ∷ [])) (rows_only k n) (kept_only k (r ∷ []))
   plain_only (dictionary c v f) = either (canonical_fault v) (plain_overflow (kind_of v) (tree_len c)) (plain_only v) (rows_only (kind_of v) (tree_len c))

@@ -31,7 +31,7 @@ value_overflow false m n = refl
 
 mutual
   pub take_overflow-plain : (t : Tree) → AllFormed t → IsPlain t → (n : ℕ) → take_overflow t n ≡ plain_overflow (kind_of t) n
-  take_overflow-plain (bools bits v) h p n = refl
+  take_overflow-plain (bools b bits v) h p n = refl
   take_overflow-plain (primitive t bs v) h p n = refl
   take_overflow-plain (constant k r m) h p n = absurd p
   take_overflow-plain (dictionary c v f) h p n = absurd p

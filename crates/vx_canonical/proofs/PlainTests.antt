@@ -17,7 +17,7 @@ both_true false b h = cc
 
 mutual
   pub plain_told : (t : Tree) → is_plain t ≡ true → IsPlain t
-  plain_told (bools bits v) h = plain_valid_told v h
+  plain_told (bools b bits v) h = plain_valid_told v h
   plain_told (primitive t bs v) h = plain_valid_told v h
   plain_told (constant k r n) h = cc
   plain_told (dictionary c v f) h = cc
@@ -52,7 +52,7 @@ rows_same : (t : Tree) → HasRowsOf t t
 rows_same t = record { len = refl; kind = refl; rows = λ i l. refl }
 
 itself : (t : Tree) → IsPlain t → IsCanonical t t
-itself (bools bits v) h = record { same = rows_same (bools bits v); plain = h; state = refl; extent = refl; flag = refl; kept = tt }
+itself (bools b bits v) h = record { same = rows_same (bools b bits v); plain = h; state = refl; extent = refl; flag = refl; kept = tt }
 itself (primitive t bs v) h = record { same = rows_same (primitive t bs v); plain = h; state = refl; extent = refl; flag = refl; kept = tt }
 itself (constant k r n) h = absurd h
 itself (dictionary c v f) h = absurd h
@@ -68,7 +68,7 @@ both_told a b first second = rw (first, second) refl
 
 mutual
   plain_tested : (t : Tree) → IsPlain t → is_plain t ≡ true
-  plain_tested (bools bits v) h = plain_valid_tested v h
+  plain_tested (bools b bits v) h = plain_valid_tested v h
   plain_tested (primitive t bs v) h = plain_valid_tested v h
   plain_tested (constant k r n) h = absurd h
   plain_tested (dictionary c v f) h = absurd h
@@ -100,7 +100,7 @@ plain_itself t a h e = rw e (itself t (plain_told t h))
 
 mutual
   pub no_fault : (t : Tree) → IsPlain t → canonical_fault t ≡ None
-  no_fault (bools bits v) h = refl
+  no_fault (bools b bits v) h = refl
   no_fault (primitive t bs v) h = refl
   no_fault (constant k r n) h = absurd h
   no_fault (dictionary c v f) h = absurd h

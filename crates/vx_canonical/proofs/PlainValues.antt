@@ -27,10 +27,10 @@ use Rattle.vx_tree.proofs.Validities.{valid_from-mask}
 -- ---- the validity
 
 -- of booleans, whatever it is
-pub valid_from-has : (P : Valid → Type 0) (bits : List Bool) → P all_valid → P all_invalid → P (by_array (bools bits non_nullable)) → P (valid_from bits all_valid)
+pub valid_from-has : (P : Valid → Type 0) (bits : List Bool) → P all_valid → P all_invalid → P (by_array (bools 0 bits non_nullable)) → P (valid_from 0 bits all_valid)
 valid_from-has P bits full none told = by_count (eqb (count_by (λ b. b) bits) (length bits)) (eqb (count_by (λ b. b) bits) 0)
   where
-    by_count : (a b : Bool) → P (if a then all_valid else (if b then all_invalid else by_array (bools bits non_nullable)))
+    by_count : (a b : Bool) → P (if a then all_valid else (if b then all_invalid else by_array (bools 0 bits non_nullable)))
     by_count true b = full
     by_count false true = none
     by_count false false = told
@@ -52,7 +52,7 @@ present_at vs i l =
     let bits = map is_some vs in
     let v = values_valid true vs in
     let long : length bits ≡ length vs = length-map vs is_some in
-    sym (get_or-map-range_with_len (is_valid_at v) 0 (length bits) i i false (rw long l) (zero-add i)) ∙ ap (λ (bs : List Bool). bool_at bs i) (valid_from-mask bits true) ∙ get_or-map is_some vs i None false l
+    sym (get_or-map-range_with_len (is_valid_at v) 0 (length bits) i i false (rw long l) (zero-add i)) ∙ ap (λ (bs : List Bool). bool_at bs i) (valid_from-mask 0 bits true) ∙ get_or-map is_some vs i None false l
 
 -- a value that is there is valid, and one that is none is not, if null may stand
 pub there_valid : (b : Bool) (vs : List (Option ScalarValue)) (i : ℕ) (x : ScalarValue) → i < length vs → slice_index_or vs i None ≡ Some x → is_valid_at (values_valid b vs) i ≡ true
@@ -84,7 +84,7 @@ truth_row m (value.Text bs) h = absurd h
 truth_row m (value.List rs) h = absurd h
 truth_row m (value.Record rs) h = absurd h
 
-truths_rows : (t : Tree) (m : Bool) (bits : List Bool) (v : Valid) (vs : List (Option ScalarValue)) → v ≡ values_valid m vs → t ≡ bools bits v → bits ≡ map truth_in vs → ArePlainValues (booleans m) vs t
+truths_rows : {b : ℕ} (t : Tree) (m : Bool) (bits : List Bool) (v : Valid) (vs : List (Option ScalarValue)) → v ≡ values_valid m vs → t ≡ bools b bits v → bits ≡ map truth_in vs → ArePlainValues (booleans m) vs t
 truths_rows t m bits v vs e a same =
     rw (a, e) (record {
       len = ap length same ∙ length-map vs truth_in;
@@ -98,7 +98,7 @@ truths_rows t m bits v vs e a same =
           row_of_value (booleans m) vs i (boolean (bool_at bits i)) l (λ x here h. ap boolean (bit ∙ ap truth_in here) ∙ truth_row m x h) refl (λ h. h) fits;
     })
 
-pub truths_made : (t : Tree) (k : Kind) (bits : List Bool) (v : Valid) (vs : List (Option ScalarValue)) → k ≡ booleans (is_nullable_kind k) → v ≡ values_valid (is_nullable_kind k) vs → t ≡ bools bits v → bits ≡ map truth_in vs → ArePlainValues k vs t
+pub truths_made : {b : ℕ} (t : Tree) (k : Kind) (bits : List Bool) (v : Valid) (vs : List (Option ScalarValue)) → k ≡ booleans (is_nullable_kind k) → v ≡ values_valid (is_nullable_kind k) vs → t ≡ bools b bits v → bits ≡ map truth_in vs → ArePlainValues k vs t
 truths_made t k bits v vs kind e a same = subst (λ x. ArePlainValues x vs t) (sym kind) (truths_rows t (is_nullable_kind k) bits v vs e a same)
 
 -- ---- numbers

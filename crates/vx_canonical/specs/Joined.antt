@@ -73,7 +73,7 @@ pub record IsValidJoined (n : Bool) (ts : List Tree) (v : Valid) : Type 0 where
 
 -- the bits of an array of booleans
 abbrev pub bits_in : Tree → List Bool
-bits_in (bools bits v) = bits
+bits_in (bools b bits v) = bits
 bits_in _ = []
 
 -- the bytes of an array of numbers
@@ -114,7 +114,7 @@ columns_in _ = no_trees
 
 -- a column by its place
 abbrev pub column_at : Trees → ℕ → Tree
-column_at no_trees c = bools [] non_nullable
+column_at no_trees c = bools 0 [] non_nullable
 column_at (tree t ts) zero = t
 column_at (tree t ts) (suc c) = column_at ts c
 

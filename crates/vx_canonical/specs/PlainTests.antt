@@ -7,7 +7,7 @@ use Rattle.vx_tree.specs.Tree.{by_array}
 -- neither it nor any of its parts is a constant or a dictionary
 abbrev mutual
   pub is_plain : Tree → Bool
-  is_plain (bools bits v) = is_plain_valid v
+  is_plain (bools b bits v) = is_plain_valid v
   is_plain (primitive t bs v) = is_plain_valid v
   is_plain (constant k r n) = false
   is_plain (dictionary c v f) = false

@@ -36,7 +36,7 @@ FitsIfThere k (Some v) = Fits k (named k (value_row v))
 
 -- the validity of values: true where a value is there, if null may stand
 abbrev pub values_valid : Bool → List (Option ScalarValue) → Valid
-values_valid true vs = valid_from (map is_some vs) all_valid
+values_valid true vs = valid_from 0 (map is_some vs) all_valid
 values_valid false vs = non_nullable
 
 -- the bytes of a value, none where it is no text and no byte list

@@ -52,15 +52,15 @@ IsPrimitive-all t zs a is =
 
 -- ---- truth values
 
-pub rows-bools : (bits : List Bool) (v : Valid) → rows (bools bits v) ≡ masked (valid_mask v (length bits)) (map boolean bits)
-rows-bools bits v =
+pub rows-bools : (first : ℕ) (bits : List Bool) (v : Valid) → rows (bools first bits v) ≡ masked (valid_mask v (length bits)) (map boolean bits)
+rows-bools first bits v =
     let len : length (map boolean bits) ≡ length bits = length-map bits boolean in
     let under = rows_under_mask v (λ i. boolean (bool_at bits i)) (map boolean bits) (λ i inside. get_or-map boolean bits i false null (omega (arith, len))) in
-    ap (λ n. map (row_at (bools bits v)) (range_with_len 0 n)) (sym len) ∙ under ∙ ap (λ n. masked (valid_mask v n) (map boolean bits)) len
+    ap (λ n. map (row_at (bools first bits v)) (range_with_len 0 n)) (sym len) ∙ under ∙ ap (λ n. masked (valid_mask v n) (map boolean bits)) len
 
-pub rows-bools-all : (bits : List Bool) → rows (bools bits non_nullable) ≡ map boolean bits
-rows-bools-all bits = sym (fill_by_all (λ i. boolean (bool_at bits i)) (map boolean bits) (length bits) null (length-map bits boolean) (λ i inside. get_or-map boolean bits i false null inside))
+pub rows-bools-all : (first : ℕ) (bits : List Bool) → rows (bools first bits non_nullable) ≡ map boolean bits
+rows-bools-all first bits = sym (fill_by_all (λ i. boolean (bool_at bits i)) (map boolean bits) (length bits) null (length-map bits boolean) (λ i inside. get_or-map boolean bits i false null inside))
 
 -- the bits of plain truth values tell which rows are valid
-pub told_by_bits : (t : Tree) (bits : List Bool) (v : Valid) (n : ℕ) → t ≡ bools bits v → ValidFits (by_array t) n → bits ≡ valid_mask (by_array t) n
+pub told_by_bits : {b : ℕ} (t : Tree) (bits : List Bool) (v : Valid) (n : ℕ) → t ≡ bools b bits v → ValidFits (by_array t) n → bits ≡ valid_mask (by_array t) n
 told_by_bits t bits v n e fits = bits_are_truths t bits v e fits.kind ∙ ap (valid_mask (by_array t)) fits.len

@@ -29,16 +29,16 @@ pub length-valid_mask : (v : Valid) (n : ℕ) → length (valid_mask v n) ≡ n
 length-valid_mask v n = length-map-range_with_len (is_valid_at v) 0 n
 
 -- truth values that tell which rows are valid are its mask
-pub valid_mask-bools : (v : Valid) (t : Tree) (bits : List Bool) (w : Valid) (n : ℕ) → v ≡ by_array t → t ≡ bools bits w → ValidFits v n → bits ≡ valid_mask v n
+pub valid_mask-bools : {b : ℕ} (v : Valid) (t : Tree) (bits : List Bool) (w : Valid) (n : ℕ) → v ≡ by_array t → t ≡ bools b bits w → ValidFits v n → bits ≡ valid_mask v n
 valid_mask-bools v t bits w n e same fits =
     let h : ValidFits (by_array t) n = subst (λ u. ValidFits u n) e fits in
     bits_are_truths t bits w same h.kind ∙ ap (valid_mask (by_array t)) h.len ∙ ap (λ u. valid_mask u n) (sym e)
 
 -- the validity that bits tell is that of as many rows
-pub ValidFits-from_bits : (bits : List Bool) (v : Valid) (n : ℕ) → v ≡ valid_from bits all_valid → length bits ≡ n → ValidFits v n
-ValidFits-from_bits bits v n e long = subst (λ w. ValidFits w n) (sym e) (by_count (eqb (count_by (λ b. b) bits) (length bits)) (eqb (count_by (λ b. b) bits) 0))
+pub ValidFits-from_bits : (first : ℕ) (bits : List Bool) (v : Valid) (n : ℕ) → v ≡ valid_from first bits all_valid → length bits ≡ n → ValidFits v n
+ValidFits-from_bits first bits v n e long = subst (λ w. ValidFits w n) (sym e) (by_count (eqb (count_by (λ b. b) bits) (length bits)) (eqb (count_by (λ b. b) bits) 0))
   where
-    by_count : (full none : Bool) → ValidFits (cond full all_valid (cond none all_invalid (by_array (bools bits non_nullable)))) n
+    by_count : (full none : Bool) → ValidFits (cond full all_valid (cond none all_invalid (by_array (bools first bits non_nullable)))) n
     by_count true none = tt
     by_count false true = tt
     by_count false false = record { len = long; kind = refl }

@@ -11,7 +11,7 @@ use Rattle.vx_base.specs.declared.nullability.Nullability.TheVariants.{NonNullab
 use Rattle.vx_tree.specs.Tree.{Tree, bools, primitive, Valid, non_nullable, all_valid}
 use Rattle.vx_tree.specs.Meaning.{kind_of, row_at}
 use Rattle.vx_tree.specs.Validities.{has_no_nulls}
-pub use Rattle.vx_tree.specs.Layouts.{is_bools, is_primitive, is_constant}
+pub use Rattle.vx_tree.specs.Layouts.{is_bools, is_primitive, is_constant, first_bit}
 pub use Rattle.vx_tree.specs.Faults.{validity_fault}
 pub use Rattle.vx_tree.specs.Slots.{validity_of}
 
@@ -25,7 +25,7 @@ pub record IsPrimitive (t : PType) (zs : List ℤ) (v : Valid) (a : Tree) : Type
 
 -- the truth values, valid or not
 abbrev pub bits_in : Tree → List Bool
-bits_in (bools bits v) = bits
+bits_in (bools b bits v) = bits
 bits_in _ = []
 
 -- the type of the numbers

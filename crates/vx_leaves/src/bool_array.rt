@@ -6,7 +6,7 @@ ghost use Rattle.vx_tree.specs.Formed.{ValidFits};
 ghost use Rattle.vx_tree.specs.Meaning.{tree_len};
 ghost use Rattle.vx_tree.specs.Tree.{bools, non_nullable};
 ghost use Rattle.vx_tree.specs.Parts.{valid_of};
-ghost use Rattle.vx_leaves.specs.Leaves.{is_bools, bits_in, validity_of, validity_fault};
+ghost use Rattle.vx_leaves.specs.Leaves.{is_bools, bits_in, first_bit, validity_of, validity_fault};
 
 use std::alloc::Global;
 use std::marker::Model;
@@ -45,7 +45,7 @@ impl BoolArray {
     /// of plain booleans and has one row a bit. Fails only for want of memory.
     pub fn new(alloc: Global, bits: BitBuffer, validity: Validity) -> Result<BoolArray, VortexError>
         requires { ValidFits (valid_of validity) (length bits.bits) }
-        ensures { Gives result (λ a. a ≡ bools bits.bits (valid_of validity)) }
+        ensures { Gives result (λ a. a ≡ bools bits.offset bits.bits (valid_of validity)) }
     {
         let array = ArrayRef::bools(alloc, bits, validity)?;
         Ok(BoolArray { array })
@@ -59,7 +59,7 @@ impl BoolArray {
         bits: BitBuffer,
         validity: Validity,
     ) -> Result<BoolArray, VortexError>
-        ensures parts { IfOk result (λ a. a ≡ bools bits.bits (valid_of validity)) }
+        ensures parts { IfOk result (λ a. a ≡ bools bits.offset bits.bits (valid_of validity)) }
         ensures refuses { Refuses result (validity_fault (valid_of validity) (length bits.bits)) }
     {
         BoolArray::validate(&bits, &validity)?;
@@ -76,22 +76,25 @@ impl BoolArray {
 
     /// The array of these bits, none of them null. Fails only for want of memory.
     pub fn from_bit_buffer(alloc: Global, bits: BitBuffer) -> Result<BoolArray, VortexError>
-        ensures { Gives result (λ a. a ≡ bools bits.bits non_nullable) }
+        ensures { Gives result (λ a. a ≡ bools bits.offset bits.bits non_nullable) }
     {
         BoolArray::new(alloc, bits, Validity::NonNullable)
     }
 
-    /// The bits, valid or not, shared. Fails only for want of memory.
+    /// The bits, valid or not, shared, with the bit of the first byte at which they begin. Fails
+    /// only for want of memory.
     pub fn into_bit_buffer(self, alloc: Global) -> Result<BitBuffer, VortexError>
-        ensures { Gives result (λ b. b.bits ≡ bits_in self) }
+        ensures bits { Gives result (λ b. b.bits ≡ bits_in self) }
+        ensures offset { IfOk result (λ b. b.offset ≡ first_bit self) }
     {
         self.parts().bits.try_clone(alloc)
     }
 
     // The parts, which are well formed.
     pub(crate) fn parts(&self) -> BoolParts<'_>
-        ensures same { self.now ≡ bools result.bits.now.bits (valid_of result.validity.now) }
+        ensures same { self.now ≡ bools result.bits.now.offset result.bits.now.bits (valid_of result.validity.now) }
         ensures bits { result.bits.now.bits ≡ bits_in self.now }
+        ensures offset { result.bits.now.offset ≡ first_bit self.now }
         ensures validity { valid_of result.validity.now ≡ validity_of self.now }
         ensures len { length result.bits.now.bits ≡ tree_len self.now }
         ensures formed { ValidFits (valid_of result.validity.now) (length result.bits.now.bits) }

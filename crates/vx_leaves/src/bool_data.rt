@@ -1,9 +1,9 @@
 // The truth values of an array apart from its validity, in bytes.
 
-ghost use Rattle.std.specs.Prelude.{◌≡◌, ◌≤◌, ◌+◌, ◌*◌, length, Some};
+ghost use Rattle.std.specs.Prelude.{◌≡◌, ◌≤◌, ◌+◌, ◌*◌, length, Some, IfOk};
 ghost use Rattle.vx_base.specs.Refusals.{Gives};
 ghost use Rattle.vx_leaves.specs.Data.{HoldsBits, bit_data_text};
-ghost use Rattle.vx_leaves.specs.Leaves.{bits_in};
+ghost use Rattle.vx_leaves.specs.Leaves.{bits_in, first_bit};
 
 use crate::bool_array::BoolArray;
 use std::alloc::Global;
@@ -79,9 +79,11 @@ impl fmt::Debug for BoolData {
 }
 
 impl BoolArray {
-    /// The truth values, valid or not, in their bytes, shared. Fails only for want of memory.
+    /// The truth values, valid or not, in their bytes, shared, with the bit of the first byte at
+    /// which they begin. Fails only for want of memory.
     pub fn to_data(&self, alloc: Global) -> Result<BoolData, VortexError>
-        ensures { Gives result (λ d. HoldsBits d (bits_in self.now)) }
+        ensures bits { Gives result (λ d. HoldsBits d (bits_in self.now)) }
+        ensures offset { IfOk result (λ d. d.offset ≡ first_bit self.now) }
     {
         let bits = self.parts().bits.try_clone(alloc)?;
         let (offset, _, bits) = bits.into_inner();

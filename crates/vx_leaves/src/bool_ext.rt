@@ -9,7 +9,7 @@ ghost use Rattle.vx_tree.specs.Meaning.{tree_len, nullable, valid_mask};
 ghost use Rattle.vx_tree.specs.Parts.{valid_of};
 ghost use Rattle.vx_tree.specs.Slots.{validity_slot};
 ghost use Rattle.vx_tree.specs.Validities.{has_no_nulls};
-ghost use Rattle.vx_leaves.specs.Leaves.{bits_in, validity_of, null_fault};
+ghost use Rattle.vx_leaves.specs.Leaves.{bits_in, first_bit, validity_of, null_fault};
 
 use crate::bool_array::BoolArray;
 use std::alloc::Global;
@@ -34,9 +34,11 @@ pub trait BoolArrayExt: TypedArray {
     fn validity(&self, alloc: Global) -> Result<Validity, VortexError>
         ensures { Gives result (λ v. valid_of v ≡ validity_of (Self.as_tree self.now)) };
 
-    /// The truth values, valid or not, shared. Fails only for want of memory.
+    /// The truth values, valid or not, shared, with the bit of the first byte at which they begin.
+    /// Fails only for want of memory.
     fn to_bit_buffer(&self, alloc: Global) -> Result<BitBuffer, VortexError>
-        ensures { Gives result (λ b. b.bits ≡ bits_in (Self.as_tree self.now)) };
+        ensures bits { Gives result (λ b. b.bits ≡ bits_in (Self.as_tree self.now)) }
+        ensures offset { IfOk result (λ b. b.offset ≡ first_bit (Self.as_tree self.now)) };
 
     /// The truth values, valid or not, to be read where they lie.
     fn bit_buffer_view(&self) -> BitBufferView<'_>

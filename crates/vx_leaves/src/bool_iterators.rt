@@ -33,7 +33,7 @@ impl BoolArray {
         requires ends { IsFinite (I.remaining indices) }
         ensures ok { IfOk result (λ a. (xs : List ℕ) × (bits : List Bool)
             × AllBelow I.next_gives indices length xs × AreMarked length xs bits
-            × (a ≡ bools bits (valid_of validity)) × (validity_fault (valid_of validity) length ≡ None)) }
+            × (a ≡ bools 0 bits (valid_of validity)) × (validity_fault (valid_of validity) length ≡ None)) }
         ensures err { IfErr result (λ e. (e ≡ Memory)
             ⊎ ((i : ℕ) × IsFirstPast I.next_gives indices length i × (refusal_of e ≡ Some (out_of_bounds i)))
             ⊎ ((xs : List ℕ) × AllBelow I.next_gives indices length xs × Names (validity_fault (valid_of validity) length) e)) }
@@ -52,7 +52,7 @@ impl BoolArray {
         requires can { I.can_next items }
         requires ends { IsFinite (I.remaining items) }
         ensures { Gives result (λ a. (xs : List Bool) × Drains I.next_gives items xs
-            × (a ≡ bools xs non_nullable)) }
+            × (a ≡ bools 0 xs non_nullable)) }
     {
         let bools = collect_items(alloc, items)?;
         let bits = BitBuffer::from_bools(alloc, &bools)?;
@@ -69,7 +69,7 @@ impl BoolArray {
         requires can { I.can_next items }
         requires ends { IsFinite (I.remaining items) }
         ensures { Gives result (λ a. (xs : List (Option Bool)) × Drains I.next_gives items xs
-            × (a ≡ bools (map (λ x. unwrap_or x false) xs) (valid_from (map is_some xs) all_valid))) }
+            × (a ≡ bools 0 (map (λ x. unwrap_or x false) xs) (valid_from 0 (map is_some xs) all_valid))) }
     {
         let all = collect_options(alloc, items, false)?;
         let present = BitBuffer::from_bools(alloc, &all.present)?;

@@ -27,12 +27,12 @@ pub fn rows_of_numbers()
 
 /// An array of truth values has a row for each: the truth value where its row is valid, else null.
 pub fn rows_of_bits()
-    ensures len { (bits : List Bool) (v : Valid) → tree_len (bools bits v) ≡ length bits }
-    ensures each { (bits : List Bool) (v : Valid) (i : ℕ) → row_at (bools bits v) i
+    ensures len { (first : ℕ) (bits : List Bool) (v : Valid) → tree_len (bools first bits v) ≡ length bits }
+    ensures each { (first : ℕ) (bits : List Bool) (v : Valid) (i : ℕ) → row_at (bools first bits v) i
         ≡ (if is_valid_at v i then boolean (bool_at bits i) else null) }
-    ensures masked { (bits : List Bool) (v : Valid) → rows (bools bits v)
+    ensures masked { (first : ℕ) (bits : List Bool) (v : Valid) → rows (bools first bits v)
         ≡ masked (valid_mask v (length bits)) (map boolean bits) }
-    ensures all { (bits : List Bool) → rows (bools bits non_nullable) ≡ map boolean bits }
+    ensures all { (first : ℕ) (bits : List Bool) → rows (bools first bits non_nullable) ≡ map boolean bits }
 {}
 
 /// Of numbers that a type has, the narrowed type has them all, and no type of fewer bytes does; of

@@ -185,7 +185,7 @@ impl PrimitiveArray {
         requires can { I.can_next items }
         requires ends { IsFinite (I.remaining items) }
         ensures { Gives result (λ a. (xs : List (Option T)) × Drains I.next_gives items xs
-            × IsPrimitive T.PTYPE (map (number_or_zero T.value) xs) (valid_from (map is_some xs) all_valid) a) }
+            × IsPrimitive T.PTYPE (map (number_or_zero T.value) xs) (valid_from 0 (map is_some xs) all_valid) a) }
     {
         let all = collect_optional_numbers(alloc, items)?;
         let len = all.present.len();

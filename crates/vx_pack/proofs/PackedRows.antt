@@ -135,7 +135,7 @@ fixed_lists_told k size n rs e sized told i l fits = by_row (get_or rs i null) r
 
 -- ---- leaves, row by row
 
-truths_told : (n : Bool) (rs : List Row) → IsTold (booleans n) rs (row_at (bools (map truth_of rs) (packed_valid n rs)))
+truths_told : (n : Bool) (rs : List Row) → IsTold (booleans n) rs (row_at (bools 0 (map truth_of rs) (packed_valid n rs)))
 truths_told n rs i l fits =
     rw (is_valid_at-packed_valid (booleans n) n rs i null refl l fits)
     (ap (λ b. if is_present (get_or rs i null) then boolean b else null) (get_or-map truth_of rs i null false l)

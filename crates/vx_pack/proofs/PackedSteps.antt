@@ -53,10 +53,10 @@ packed_under k l rs t kind is = subst (λ x. IsPacked x rs t) (sym kind) is
 
 -- ---- bits and numbers
 
-pub truths_packed : (k : Kind) (n : Bool) (rs : List Row) (bits : List Bool) (v : Valid) (t : Tree) → k ≡ booleans n
-    → bits ≡ map truth_of rs → IsValidOf k rs v → t ≡ bools bits v → IsPacked k rs t
-truths_packed k n rs bits v t kind are valid is =
-    packed_under k (booleans n) rs t kind (is ∙ (λ i. bools (are i) (valid_under k (booleans n) rs v kind valid i)))
+pub truths_packed : (k : Kind) (n : Bool) (rs : List Row) (first : ℕ) (bits : List Bool) (v : Valid) (t : Tree) → k ≡ booleans n → first ≡ 0
+    → bits ≡ map truth_of rs → IsValidOf k rs v → t ≡ bools first bits v → IsPacked k rs t
+truths_packed k n rs first bits v t kind begins are valid is =
+    packed_under k (booleans n) rs t kind (is ∙ (λ i. bools (begins i) (are i) (valid_under k (booleans n) rs v kind valid i)))
 
 pub truths_formed : (k : Kind) (rs : List Row) (bits : List Bool) (v : Valid) → bits ≡ map truth_of rs → IsValidOf k rs v
     → ValidFits v (length bits)

@@ -15,26 +15,26 @@ use Rattle.vx_pack.specs.Packed.{packed_valid}
 
 -- ---- the validity of booleans
 
-valid_from-has : (P : Valid → Type 0) (bits : List Bool) → P all_valid → P all_invalid → P (by_array (bools bits non_nullable))
-    → P (valid_from bits all_valid)
+valid_from-has : (P : Valid → Type 0) (bits : List Bool) → P all_valid → P all_invalid → P (by_array (bools 0 bits non_nullable))
+    → P (valid_from 0 bits all_valid)
 valid_from-has P bits full none told = by_count (eqb (count_by (λ b. b) bits) (length bits)) (eqb (count_by (λ b. b) bits) 0)
   where
-    by_count : (a b : Bool) → P (cond a all_valid (cond b all_invalid (by_array (bools bits non_nullable))))
+    by_count : (a b : Bool) → P (cond a all_valid (cond b all_invalid (by_array (bools 0 bits non_nullable))))
     by_count true b = full
     by_count false true = none
     by_count false false = told
 
-pub nullable-valid_from : (bits : List Bool) → nullable (valid_from bits all_valid) ≡ true
+pub nullable-valid_from : (bits : List Bool) → nullable (valid_from 0 bits all_valid) ≡ true
 nullable-valid_from bits = valid_from-has (λ v. nullable v ≡ true) bits refl refl refl
 
-pub ValidFits-valid_from : (bits : List Bool) → ValidFits (valid_from bits all_valid) (length bits)
+pub ValidFits-valid_from : (bits : List Bool) → ValidFits (valid_from 0 bits all_valid) (length bits)
 ValidFits-valid_from bits = valid_from-has (λ v. ValidFits v (length bits)) bits tt tt (record { len = refl; kind = refl })
 
 pub is_valid_at-valid_from : (bits : List Bool) (i : ℕ) (d : Bool) → i < length bits
-    → is_valid_at (valid_from bits all_valid) i ≡ get_or bits i d
+    → is_valid_at (valid_from 0 bits all_valid) i ≡ get_or bits i d
 is_valid_at-valid_from bits i d l =
-    sym (get_or-valid_mask (valid_from bits all_valid) (length bits) i d l)
-    ∙ ap (λ (bs : List Bool). get_or bs i d) (valid_from-mask bits true)
+    sym (get_or-valid_mask (valid_from 0 bits all_valid) (length bits) i d l)
+    ∙ ap (λ (bs : List Bool). get_or bs i d) (valid_from-mask 0 bits true)
 
 -- ---- of rows
 

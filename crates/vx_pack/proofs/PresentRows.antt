@@ -58,14 +58,14 @@ same_presence b (r ∷ rs) all =
     let rest : map is_present rs ≡ replicate (length rs) b = same_presence b rs (All-tail (λ r. is_present r ≡ b) r rs all) in
     λ j. first j ∷ rest j
 
-pub valid_where_all : (rs : List Row) → AllPresent true rs → valid_from (map is_present rs) all_valid ≡ all_valid
+pub valid_where_all : (rs : List Row) → AllPresent true rs → valid_from 0 (map is_present rs) all_valid ≡ all_valid
 valid_where_all rs all =
     let bits : map is_present rs ≡ replicate (length rs) true = same_presence true rs all in
     let count : count_by (λ b. b) (map is_present rs) ≡ length (map is_present rs) =
     ap (count_by (λ b. b)) bits ∙ count-all_true (length rs) ∙ sym (length-map rs is_present) in
     rw (eq-eqb (count_by (λ b. b) (map is_present rs)) (length (map is_present rs)) count) refl
 
-pub valid_where_none : (rs : List Row) → 0 < length rs → AllPresent false rs → valid_from (map is_present rs) all_valid ≡ all_invalid
+pub valid_where_none : (rs : List Row) → 0 < length rs → AllPresent false rs → valid_from 0 (map is_present rs) all_valid ≡ all_invalid
 valid_where_none rs some all =
     let bits : map is_present rs ≡ replicate (length rs) false = same_presence false rs all in
     let count : count_by (λ b. b) (map is_present rs) ≡ 0 = ap (count_by (λ b. b)) bits ∙ count-all_false (length rs) in

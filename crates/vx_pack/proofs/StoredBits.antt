@@ -67,7 +67,7 @@ truth_under : (v b : Bool) → truth_of (if v then boolean b else null) ≡ (is_
 truth_under true b = refl
 truth_under false b = refl
 
-pub stored_under : (t : Tree) (bits : List Bool) (v : Valid) → t ≡ bools bits v → AreStoredTruths t bits
+pub stored_under : {b : ℕ} (t : Tree) (bits : List Bool) (v : Valid) → t ≡ bools b bits v → AreStoredTruths t bits
 stored_under t bits v same = record {
   len = sym (ap tree_len same);
   rows = λ i. ap (λ (u : Tree). truth_of (row_at u i)) same ∙ truth_under (is_valid_at v i) (bool_at bits i)
@@ -83,7 +83,7 @@ validity_read t u v same fits told = (
 )
 
 -- bits of which none is null are a validity's booleans
-pub valid_by_bits : (t : Tree) (bits : List Bool) (v : Valid) → t ≡ bools bits v → ((i : ℕ) → is_valid_at v i ≡ true)
+pub valid_by_bits : {b : ℕ} (t : Tree) (bits : List Bool) (v : Valid) → t ≡ bools b bits v → ((i : ℕ) → is_valid_at v i ≡ true)
     → (i : ℕ) → is_valid_at (by_array t) i ≡ bool_at bits i
 valid_by_bits t bits v same full i =
     ap (λ (u : Tree). truth_of (row_at u i)) same ∙ ap (λ b. truth_of (if b then boolean (bool_at bits i) else null)) (full i)

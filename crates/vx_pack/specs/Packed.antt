@@ -21,10 +21,10 @@ use Rattle.vx_text.specs.Items.{Item, IsArrayOf, heap_lens}
 
 -- ---- parts
 
--- the validity of rows: no null may stand, none stands, all are null, or bits tell
+-- the validity of rows: no null may stand, none stands, all are null, or bits tell, which begin with a byte
 abbrev pub packed_valid : Bool → List Row → Valid
 packed_valid false rs = non_nullable
-packed_valid true rs = valid_from (map is_present rs) all_valid
+packed_valid true rs = valid_from 0 (map is_present rs) all_valid
 
 -- a kind of texts or of byte lists
 abbrev pub has_bytes : Kind → Bool
@@ -74,11 +74,11 @@ field_or_default k c _ = default_row k
 -- ---- the packed form
 
 abbrev mutual
-  -- a tree is the packed form of rows of a kind: nothing constant or coded, at every depth. What lies under null is false,
-  -- 0, no bytes, no elements, default rows; values of at most 12 bytes stand in their views, the others in order in the fewest
-  -- buffers; lists stand end to end
+  -- a tree is the packed form of rows of a kind: nothing constant or coded, at every depth. Bits begin with a byte. What lies under
+  -- null is false, 0, no bytes, no elements, default rows; values of at most 12 bytes stand in their views, the others in order in
+  -- the fewest buffers; lists stand end to end
   pub IsPacked : Kind → List Row → Tree → Type 0
-  IsPacked (booleans n) rs t = t ≡ bools (map truth_of rs) (packed_valid n rs)
+  IsPacked (booleans n) rs t = t ≡ bools 0 (map truth_of rs) (packed_valid n rs)
   IsPacked (integers p n) rs t = t ≡ primitive p (bytes_of_numbers p (map number_or_zero rs)) (packed_valid n rs)
   IsPacked (texts n) rs t = IsArrayOf (texts n) (map bytes_in rs) t
   IsPacked (binaries n) rs t = IsArrayOf (binaries n) (map bytes_in rs) t

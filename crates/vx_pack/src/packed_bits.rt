@@ -1,6 +1,6 @@
 // Bits, one for each row that is packed.
 
-ghost use Rattle.std.specs.Prelude.{◌≡◌, ◌<◌, ◌≤◌, ◌+◌, ◌^◌, ◌++◌, ◌∷◌, ◌&&◌, [], true, length, map, replicate, IsTrue};
+ghost use Rattle.std.specs.Prelude.{◌≡◌, ◌<◌, ◌≤◌, ◌+◌, ◌^◌, ◌++◌, ◌∷◌, ◌&&◌, [], true, length, map, replicate, IsTrue, IfOk};
 ghost use Rattle.std.specs.List.{All, range_with_len};
 ghost use Rattle.vx_base.specs.Bits.{bool_at};
 ghost use Rattle.vx_base.specs.DTypes.{dtype_meaning};
@@ -33,7 +33,8 @@ pub(crate) fn truth_bits(
     len: usize,
 ) -> Result<BitBuffer, VortexError>
     requires { ArePieces (dtype_meaning dtype.now) pieces.now len }
-    ensures { Gives result (λ b. b.bits ≡ map truth_of (pieces_rows (dtype_meaning dtype.now) pieces.now)) }
+    ensures bits { Gives result (λ b. b.bits ≡ map truth_of (pieces_rows (dtype_meaning dtype.now) pieces.now)) }
+    ensures offset { IfOk result (λ b. b.offset ≡ 0) }
 {
     let mut bits = BitBufferMut::with_capacity(alloc, len)?;
     for piece in pieces {
@@ -134,7 +135,7 @@ fn nullable_validity(
     requires nullable { is_nullable_kind (dtype_meaning dtype.now) ≡ true }
     requires pieces { ArePieces (dtype_meaning dtype.now) pieces.now len }
     ensures { Gives result (λ v. valid_of v
-        ≡ valid_from (map is_present (pieces_rows (dtype_meaning dtype.now) pieces.now)) all_valid) }
+        ≡ valid_from 0 (map is_present (pieces_rows (dtype_meaning dtype.now) pieces.now)) all_valid) }
 {
     if have_presence(dtype, pieces, true) {
         return Ok(Validity::AllValid);
@@ -168,7 +169,8 @@ fn present_bits(
 ) -> Result<BitBuffer, VortexError>
     requires nullable { is_nullable_kind (dtype_meaning dtype.now) ≡ true }
     requires pieces { ArePieces (dtype_meaning dtype.now) pieces.now len }
-    ensures { Gives result (λ b. b.bits ≡ map is_present (pieces_rows (dtype_meaning dtype.now) pieces.now)) }
+    ensures bits { Gives result (λ b. b.bits ≡ map is_present (pieces_rows (dtype_meaning dtype.now) pieces.now)) }
+    ensures offset { IfOk result (λ b. b.offset ≡ 0) }
 {
     let mut bits = BitBufferMut::with_capacity(alloc, len)?;
     for piece in pieces {
@@ -254,9 +256,11 @@ fn push_range(
     bits.append_slice(source, start, start + len)
 }
 
-// The bits, of which none after the last row is set: where bits are copied some may be.
+// The bits, which begin with a byte, and of which none after the last row is set: where bits are
+// copied some may be.
 fn zero_padded(alloc: Global, bits: BitBufferMut) -> Result<BitBuffer, VortexError>
-    ensures { Gives result (λ b. b.bits ≡ bits) }
+    ensures bits { Gives result (λ b. b.bits ≡ bits) }
+    ensures offset { IfOk result (λ b. b.offset ≡ 0) }
 {
     let bits = bits.freeze()?;
     bits.and_zero_padded(alloc, &bits)

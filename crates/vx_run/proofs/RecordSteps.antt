@@ -28,7 +28,7 @@ record IsRecords (t : Tree) : Type 0 where
 
 is_records : (t : Tree) → is_struct t ≡ true → IsRecords t
 is_records (structure ns ts v n) laid = record { kinds = _; nullable = _; kind = refl }
-is_records (bools bits v) laid = absurd (cc)
+is_records (bools b bits v) laid = absurd (cc)
 is_records (primitive p bs v) laid = absurd (cc)
 is_records (constant k r n) laid = absurd (cc)
 is_records (dictionary c v f) laid = absurd (cc)

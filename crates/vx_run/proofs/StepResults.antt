@@ -160,7 +160,7 @@ rebuilt-by mode t r answer = record { no_rows = answer.empty; some_rows = λ som
 
 flagged-kind : (t : Tree) → is_list_view t ≡ true → kind_of (with_flag true t) ≡ kind_of t
 flagged-kind (list_view e o s v f) view = refl
-flagged-kind (bools bits v) view = absurd (cc)
+flagged-kind (bools b bits v) view = absurd (cc)
 flagged-kind (primitive p bs v) view = absurd (cc)
 flagged-kind (constant k r n) view = absurd (cc)
 flagged-kind (dictionary c v f) view = absurd (cc)
@@ -196,14 +196,14 @@ step-rebuild arrays array mode t r out is view answer same laid =
 
 narrow-kind : (t r : Tree) → is_primitive t ≡ true → is_primitive r ≡ true → IsNarrowed t r → kind_of r ≡ narrowed_kind (kind_of t) (rows t)
 narrow-kind (primitive p bs v) (primitive q cs w) of laid made = λ i. integers (made.ptype i) (nullable (made.validity i))
-narrow-kind (primitive p bs v) (bools bits w) of laid made = absurd (cc)
+narrow-kind (primitive p bs v) (bools b bits w) of laid made = absurd (cc)
 narrow-kind (primitive p bs v) (constant k r n) of laid made = absurd (cc)
 narrow-kind (primitive p bs v) (dictionary c w f) of laid made = absurd (cc)
 narrow-kind (primitive p bs v) (fixed_list e k w n) of laid made = absurd (cc)
 narrow-kind (primitive p bs v) (list_view e o s w f) of laid made = absurd (cc)
 narrow-kind (primitive p bs v) (structure ns ts w n) of laid made = absurd (cc)
 narrow-kind (primitive p bs v) (view_array vs cs k w) of laid made = absurd (cc)
-narrow-kind (bools bits v) r of laid made = absurd (cc)
+narrow-kind (bools b bits v) r of laid made = absurd (cc)
 narrow-kind (constant k s n) r of laid made = absurd (cc)
 narrow-kind (dictionary c v f) r of laid made = absurd (cc)
 narrow-kind (fixed_list e k v n) r of laid made = absurd (cc)

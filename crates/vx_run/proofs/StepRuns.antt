@@ -36,7 +36,7 @@ run-len (s ∷ ss) arrays results run =
     let rest = run-len ss (arrays ++ run.0 ∷ []) results run.3 in omega (arith, rest, length-append arrays (run.0 ∷ []))
 
 rows_at-map : (arrays : List Tree) → rows_at (map rows_of arrays) ≡ (λ i. rows_of (array_at arrays i))
-rows_at-map arrays = λ j i. get_or-map rows_of arrays i (bools [] non_nullable) j
+rows_at-map arrays = λ j i. get_or-map rows_of arrays i (bools 0 [] non_nullable) j
 
 run-rows : (ss : List Step) (arrays results : List Tree) → IsRun ss arrays results → map rows_of results ≡ run_rows ss (map rows_of arrays)
 run-rows [] arrays results run = ap (map rows_of) run

@@ -90,7 +90,7 @@ run_rows (s ∷ ss) given = run_rows ss (given ++ step_rows s (rows_at given) �
 
 -- the array at a position, an empty one where none stands there
 abbrev pub array_at : List Tree → ℕ → Tree
-array_at arrays i = slice_index_or arrays i (bools [] non_nullable)
+array_at arrays i = slice_index_or arrays i (bools 0 [] non_nullable)
 
 -- the arrays at positions
 abbrev pub arrays_at : List Tree → List ℕ → List Tree

@@ -44,7 +44,7 @@ pub fn numbers(
 
 /// Truth values, none of them null.
 pub fn bools(alloc: Global, items: &[bool]) -> Result<ArrayRef, VortexError>
-    ensures { IfOk result (λ a. a ≡ bools items.now non_nullable) }
+    ensures { IfOk result (λ a. a ≡ bools 0 items.now non_nullable) }
 {
     let bits = BitBuffer::from_bools(alloc, items)?;
     ArrayRef::bools(alloc, bits, Validity::NonNullable)
@@ -53,7 +53,7 @@ pub fn bools(alloc: Global, items: &[bool]) -> Result<ArrayRef, VortexError>
 /// Truth values, of which the second ones, as many, say which are not null.
 pub fn some_bools(alloc: Global, items: &[bool], valid: &[bool]) -> Result<ArrayRef, VortexError>
     requires { length valid.now ≡ length items.now }
-    ensures { IfOk result (λ a. a ≡ bools items.now (by_array (bools valid.now non_nullable))) }
+    ensures { IfOk result (λ a. a ≡ bools 0 items.now (by_array (bools 0 valid.now non_nullable))) }
 {
     let bits = BitBuffer::from_bools(alloc, items)?;
     let validity = Validity::Array(bools(alloc, valid)?);

@@ -67,10 +67,10 @@ faultless_at u n items none i l = faultless u n i (item_at items i) (first_fault
 
 -- ---- which items are there
 
-valid_from-has : (P : Valid → Type 0) (bits : List Bool) → P all_valid → P all_invalid → P (by_array (bools bits non_nullable)) → P (valid_from bits all_valid)
+valid_from-has : (P : Valid → Type 0) (bits : List Bool) → P all_valid → P all_invalid → P (by_array (bools 0 bits non_nullable)) → P (valid_from 0 bits all_valid)
 valid_from-has P bits full none told = by_count (eqb (count_by (λ b. b) bits) (length bits)) (eqb (count_by (λ b. b) bits) 0)
   where
-    by_count : (a b : Bool) → P (cond a all_valid (cond b all_invalid (by_array (bools bits non_nullable))))
+    by_count : (a b : Bool) → P (cond a all_valid (cond b all_invalid (by_array (bools 0 bits non_nullable))))
     by_count true b = full
     by_count false true = none
     by_count false false = told
@@ -87,8 +87,8 @@ valid_item : (n : Bool) (items : List Item) (i : ℕ) → i < length items → (
 valid_item false items i l there = sym (there refl)
 valid_item true items i l there =
     let bits = map is_some items in
-    sym (get_or-map-range_with_len (is_valid_at (valid_from bits all_valid)) 0 (length bits) i i false (omega (arith, length-map items is_some)) (zero-add i))
-    ∙ ap (λ (bs : List Bool). bool_at bs i) (valid_from-mask bits true) ∙ get_or-map is_some items i None false l
+    sym (get_or-map-range_with_len (is_valid_at (valid_from 0 bits all_valid)) 0 (length bits) i i false (omega (arith, length-map items is_some)) (zero-add i))
+    ∙ ap (λ (bs : List Bool). bool_at bs i) (valid_from-mask 0 bits true) ∙ get_or-map is_some items i None false l
 
 -- ---- sound views
 

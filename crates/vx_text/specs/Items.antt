@@ -72,7 +72,7 @@ item_row is_text (Some value) = value_row is_text value
 -- which items are there, where null may stand
 abbrev pub valid_items : Bool → List Bool → Valid
 valid_items false present = non_nullable
-valid_items true present = valid_from present all_valid
+valid_items true present = valid_from 0 present all_valid
 
 -- an array of these items, of a kind
 pub record IsArrayOf (k : Kind) (items : List Item) (a : Tree) : Type 0 where

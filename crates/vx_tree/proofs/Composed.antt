@@ -64,7 +64,7 @@ HasValues v _ = ⊥
 
 values_told : (v r : Tree) → HasValues v (shape_of r) → (is_dictionary r ≡ true) × (values_in r ≡ v)
 values_told v (dictionary c w f) h = (refl, h)
-values_told v (bools bits u) h = absurd h
+values_told v (bools b bits u) h = absurd h
 values_told v (primitive p bs u) h = absurd h
 values_told v (constant k r n) h = absurd h
 values_told v (fixed_list e k u n) h = absurd h
@@ -74,7 +74,7 @@ values_told v (view_array vs bs k u) h = absurd h
 
 kept : (becomes : Shape → Shape) → ((v : Tree) (s : State) (f : Bool) → HasValues v (becomes (dictionary_shape v s f))) → KeepsValues becomes
 kept becomes h (dictionary c v f) r is same = values_told v r (subst (HasValues v) (sym same) (h v (taken_state (tree_state v) (tree_state c)) f))
-kept becomes h (bools bits u) r is same = absurd (cc)
+kept becomes h (bools b bits u) r is same = absurd (cc)
 kept becomes h (primitive p bs u) r is same = absurd (cc)
 kept becomes h (constant k x n) r is same = absurd (cc)
 kept becomes h (fixed_list e k u n) r is same = absurd (cc)

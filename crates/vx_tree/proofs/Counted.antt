@@ -11,7 +11,7 @@ use Rattle.vx_tree.specs.Fitting.{ColumnsFormed, FewerAreCountable}
 mutual
   -- no more rows than an array has
   pub take_overflow-fewer : FewerAreCountable
-  take_overflow-fewer (bools bits v) h n l = refl
+  take_overflow-fewer (bools b bits v) h n l = refl
   take_overflow-fewer (primitive t bs v) h n l = refl
   take_overflow-fewer (constant k r m) h n l = refl
   take_overflow-fewer (dictionary c v f) h n l = refl

@@ -86,7 +86,7 @@ shape_state (view_shape bs s) = s
 
 state_told : (t : Tree) → tree_state t ≡ shape_state (shape_of t)
 unfolding shape_state
-state_told (bools bits v) = refl
+state_told (bools b bits v) = refl
 state_told (primitive t bs v) = refl
 state_told (constant k r n) = refl
 state_told (dictionary c v f) = refl
@@ -187,7 +187,7 @@ dictionary_sliced t r c v d f start n a b h =
 -- ---- selecting
 
 pub codes_can_be_selected : (t : Tree) (n : ℕ) → is_integers (kind_of t) ≡ true → take_overflow t n ≡ None
-codes_can_be_selected (bools bits v) n e = refl
+codes_can_be_selected (bools b bits v) n e = refl
 codes_can_be_selected (primitive t bs v) n e = refl
 codes_can_be_selected (constant k r m) n e = refl
 codes_can_be_selected (dictionary c v f) n e = refl

@@ -142,7 +142,7 @@ view_fits buffers view u n sound formed all =
 
 mutual
   pub rows_fit : RowsFit
-  rows_fit (bools bits v) h i l = masked_fits (booleans (nullable v)) _ (is_valid_at v i) (λ b. tt) (valid_or_nullable v i)
+  rows_fit (bools a bits v) h i l = masked_fits (booleans (nullable v)) _ (is_valid_at v i) (λ b. tt) (valid_or_nullable v i)
   rows_fit (primitive t bs v) h i l = masked_fits (integers t (nullable v)) _ (is_valid_at v i) (λ b. number_fits t bs i h.1 l) (valid_or_nullable v i)
   rows_fit (constant k r n) h i l = h
   rows_fit (dictionary c v f) h i l = code_fits (is_nullable_kind (kind_of c)) (kind_of c) (kind_of v) (row_at v) (tree_len v) (row_at c i) refl (h.0.within i l) (rows_fit c h.1 i l) (rows_fit v h.2)

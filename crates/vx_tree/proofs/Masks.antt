@@ -24,9 +24,9 @@ pub all_invalid_mask : (v : Valid) (n : ℕ) → v ≡ all_invalid → replicate
 all_invalid_mask v n e = mask_of_constant v n false (λ i. rw e refl)
 
 -- plain booleans are their bits
-pub bits_are_truths : (t : Tree) (bits : List Bool) (v : Valid) → t ≡ bools bits v → kind_of t ≡ booleans false
+pub bits_are_truths : {b : ℕ} (t : Tree) (bits : List Bool) (v : Valid) → t ≡ bools b bits v → kind_of t ≡ booleans false
     → bits ≡ map (λ i. truth_of (row_at t i)) (range_with_len 0 (tree_len t))
-bits_are_truths t bits non_nullable e k = rw e (fill_by_all (λ i. truth_of (row_at (bools bits non_nullable) i)) bits (length bits) false refl (λ i l. refl))
+bits_are_truths {b} t bits non_nullable e k = rw e (fill_by_all (λ i. truth_of (row_at (bools b bits non_nullable) i)) bits (length bits) false refl (λ i l. refl))
 bits_are_truths t bits all_valid e k = let h = rw e at k in cc
 bits_are_truths t bits all_invalid e k = let h = rw e at k in cc
 bits_are_truths t bits (by_array m) e k = let h = rw e at k in cc

@@ -64,7 +64,7 @@ constant_by _ = false
 
 constant_told : (t : Tree) → is_constant t ≡ constant_by (shape_of t)
 unfolding constant_by
-constant_told (bools bits v) = refl
+constant_told (bools b bits v) = refl
 constant_told (primitive t bs v) = refl
 constant_told (constant k r n) = refl
 constant_told (dictionary c v f) = refl

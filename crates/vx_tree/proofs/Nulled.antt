@@ -68,7 +68,7 @@ truth_at m xs i e l = ap (λ bs. bool_at bs i) e ∙ get_or-map-range_with_len (
 truths_long : (m : Tree) (xs : List Bool) → xs ≡ map (λ j. truth_of (row_at m j)) (range_with_len 0 (tree_len m)) → length xs ≡ tree_len m
 truths_long m xs e = ap length e ∙ length-map-range_with_len (λ j. truth_of (row_at m j)) 0 (tree_len m)
 
-pub valid_both : (v u w : Valid) (m n : Tree) (xs ys bits : List Bool) (len : ℕ) → v ≡ by_array m → u ≡ by_array n → w ≡ by_array (bools bits non_nullable)
+pub valid_both : {b : ℕ} (v u w : Valid) (m n : Tree) (xs ys bits : List Bool) (len : ℕ) → v ≡ by_array m → u ≡ by_array n → w ≡ by_array (bools b bits non_nullable)
     → xs ≡ map (λ i. truth_of (row_at m i)) (range_with_len 0 (tree_len m)) → ys ≡ map (λ i. truth_of (row_at n i)) (range_with_len 0 (tree_len n)) → bits ≡ both xs ys
     → ValidFits v len → ValidFits u len → IsValidNulled v u len w
 valid_both v u w m n xs ys bits len a b c d e f mine theirs =
@@ -191,7 +191,7 @@ never_true m w n h a =
       bits = λ i l. sym (swapped (truth_of (row_at m i)) false);
     })
 
-pub unset_bits : (m : Tree) (w : Valid) (n : ℕ) → w ≡ by_array (bools (replicate n false) non_nullable) → IsValidNulled (by_array m) all_invalid n w
+pub unset_bits : {b : ℕ} (m : Tree) (w : Valid) (n : ℕ) → w ≡ by_array (bools b (replicate n false) non_nullable) → IsValidNulled (by_array m) all_invalid n w
 unset_bits m w n a =
     rw a (record {
       fits = record { len = length-replicate {A = Bool} n false; kind = refl };

@@ -148,7 +148,7 @@ overwritten_alike n (p ∷ ps) b = ap (λ bs. overwritten bs ps (replicate (leng
 -- ---- the validity that is patched
 
 -- what is written, as bits
-pub patched_by_bits : (v u w : Valid) (n offset : ℕ) (indices : Tree) → w ≡ by_array (bools (overwritten (valid_mask v n) (patch_positions offset indices) (valid_mask u (tree_len indices))) non_nullable) → IsPatched v n offset indices u w
+pub patched_by_bits : {b : ℕ} (v u w : Valid) (n offset : ℕ) (indices : Tree) → w ≡ by_array (bools b (overwritten (valid_mask v n) (patch_positions offset indices) (valid_mask u (tree_len indices))) non_nullable) → IsPatched v n offset indices u w
 patched_by_bits v u w n offset indices a =
     let mask = valid_mask v n in
     let ps = patch_positions offset indices in

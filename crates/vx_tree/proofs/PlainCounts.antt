@@ -16,7 +16,7 @@ use Rattle.vx_tree.specs.Fitting.{ColumnsFormed, AsManyAreAsFaulty, FewerCanBePl
 
 mutual
   pub as_faulty : AsManyAreAsFaulty
-  as_faulty (bools bits v) h = refl
+  as_faulty (bools b bits v) h = refl
   as_faulty (primitive t bs v) h = refl
   as_faulty (constant k r n) h = refl
   as_faulty (dictionary c v f) h = refl
@@ -73,7 +73,7 @@ mutual
 
 mutual
   pub fewer_plain : FewerCanBePlain
-  fewer_plain (bools bits v) m n l h = refl
+  fewer_plain (bools b bits v) m n l h = refl
   fewer_plain (primitive t bs v) m n l h = refl
   fewer_plain (constant k r j) m n l h =
       let both = both_none (plain_overflow k n) _ h in

@@ -54,8 +54,8 @@ length-valid_mask v n = length-map-range_with_len (is_valid_at v) 0 n
 pub get_or-valid_mask : (v : Valid) (n i : ℕ) (d : Bool) → i < n → get_or (valid_mask v n) i d ≡ is_valid_at v i
 get_or-valid_mask v n i d inside = get_or-map-range_with_len (is_valid_at v) 0 n i i d inside (zero-add i)
 
-pub valid_mask-bits : (bits : List Bool) → valid_mask (by_array (bools bits non_nullable)) (length bits) ≡ bits
-valid_mask-bits bits = sym (fill_by_all (bool_at bits) bits (length bits) false refl (λ i inside. refl))
+pub valid_mask-bits : (b : ℕ) (bits : List Bool) → valid_mask (by_array (bools b bits non_nullable)) (length bits) ≡ bits
+valid_mask-bits b bits = sym (fill_by_all (bool_at bits) bits (length bits) false refl (λ i inside. refl))
 
 -- ---- validities without a fault
 

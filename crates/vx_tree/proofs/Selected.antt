@@ -31,7 +31,7 @@ ValidHasAll-from_fits (by_array t) n ps h w = (h.kind, rw h.len w)
 
 -- integers and booleans are counted row by row
 pub integers_can_be_selected : (t : Tree) (n : ℕ) → is_plain_integers (kind_of t) ≡ true → take_overflow t n ≡ None
-integers_can_be_selected (bools bits v) n e = refl
+integers_can_be_selected (bools b bits v) n e = refl
 integers_can_be_selected (primitive t bs v) n e = refl
 integers_can_be_selected (constant k r m) n e = refl
 integers_can_be_selected (dictionary c v f) n e = refl
@@ -44,7 +44,7 @@ pub counts_can_be_selected : (t : Tree) (n : ℕ) → IsCounts t → take_overfl
 counts_can_be_selected t n h = integers_can_be_selected t n h.kind
 
 pub booleans_can_be_selected : (t : Tree) (n : ℕ) (b : Bool) → kind_of t ≡ booleans b → take_overflow t n ≡ None
-booleans_can_be_selected (bools bits v) n b e = refl
+booleans_can_be_selected (bools a bits v) n b e = refl
 booleans_can_be_selected (primitive t bs v) n b e = refl
 booleans_can_be_selected (constant k r m) n b e = refl
 booleans_can_be_selected (dictionary c v f) n b e = refl

@@ -12,7 +12,7 @@ use Rattle.vx_tree.proofs.Nulled.{nullable_nulled, two}
 -- ---- rows that become null
 
 pub parts_fit : (t : Tree) (u w : Valid) → keeps_parts t ≡ true → WellFormed t → IsValidNulled (validity_of t) u (tree_len t) w → WellFormed (under_validity t w)
-parts_fit (bools bits v) u w k f h = h.fits
+parts_fit (bools b bits v) u w k f h = h.fits
 parts_fit (primitive t bs v) u w k f h = (h.fits, f.1)
 parts_fit (constant q r n) u w k f h = absurd (cc)
 parts_fit (dictionary c v b) u w k f h = absurd (cc)
@@ -22,7 +22,7 @@ parts_fit (structure ns ts v n) u w k f h = (h.fits, f.1)
 parts_fit (view_array vs bs q v) u w k f h = absurd (cc)
 
 nulled : (t : Tree) (u w : Valid) → keeps_parts t ≡ true → IsValidNulled (validity_of t) u (tree_len t) w → IsNulled t u (under_validity t w)
-nulled (bools bits v) u w k h =
+nulled (bools b bits v) u w k h =
     record {
       len = refl;
       kind = ap booleans (nullable_nulled v u w h.state);

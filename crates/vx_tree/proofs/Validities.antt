@@ -42,8 +42,8 @@ full_has_none v n e = eq-eqb (count_by (λ x. x) (valid_mask v n)) n (ap (count_
 -- ---- booleans
 
 -- a validity of booleans has them as its mask
-pub valid_from-mask : (bits : List Bool) (b : Bool) → valid_mask (valid_from bits (full_valid b)) (length bits) ≡ bits
-valid_from-mask bits b = elim (eqb_tells (count_by (λ x. x) bits) (length bits)) [
+pub valid_from-mask : (first : ℕ) (bits : List Bool) (b : Bool) → valid_mask (valid_from first bits (full_valid b)) (length bits) ≡ bits
+valid_from-mask first bits b = elim (eqb_tells (count_by (λ x. x) bits) (length bits)) [
   | inl alike ↦ rw alike.0 (sym (full b (length bits)) ∙ sym (all_true_from_count bits alike.1))
   | inr apart ↦ rw apart.0 (elim (eqb_tells (count_by (λ x. x) bits) 0) [
     | inl none ↦ rw none.0 (sym (all_invalid_mask all_invalid (length bits) refl) ∙ sym (all_false_from_count bits none.1))
@@ -102,7 +102,7 @@ arrays_joined m o w n joined long = pair_joined (by_array m) (by_array o) w n (n
 
 -- ---- the other way
 
-pub array_turned : (t : Tree) (w : Valid) (xs bits : List Bool) (n : ℕ) → w ≡ by_array (bools bits non_nullable) → bits ≡ map (λ i. opposite (bool_at xs i)) (range_with_len 0 (length xs))
+pub array_turned : {b : ℕ} (t : Tree) (w : Valid) (xs bits : List Bool) (n : ℕ) → w ≡ by_array (bools b bits non_nullable) → bits ≡ map (λ i. opposite (bool_at xs i)) (range_with_len 0 (length xs))
     → xs ≡ map (λ i. truth_of (row_at t i)) (range_with_len 0 (tree_len t)) → ValidFits (by_array t) n → IsOpposite (by_array t) n w
 array_turned t w xs bits n a b c h =
     let long : length xs ≡ tree_len t = ap length c ∙ length-map-range_with_len (λ i. truth_of (row_at t i)) 0 (tree_len t) in

@@ -10,7 +10,7 @@ use Rattle.vx_tree.specs.Tree.{Tree, bools, primitive, constant, non_nullable}
 abbrev pub array_of_mask : List Bool → Tree
 array_of_mask mask =
     if count_by (λ b. b) mask == length mask then constant (booleans false) (boolean true) (length mask)
-    else (if count_by (λ b. b) mask == 0 then constant (booleans false) (boolean false) (length mask) else bools mask non_nullable)
+    else (if count_by (λ b. b) mask == 0 then constant (booleans false) (boolean false) (length mask) else bools 0 mask non_nullable)
 
 -- an array of these numbers, none of them null, in their bytes
 pub record AreNumbers (t : PType) (zs : List ℤ) (a : Tree) : Type 0 where

@@ -63,7 +63,7 @@ constant_fault k r n = or_else (plain_overflow k n) (kept_fault k (r ∷ []))
 -- the first fault of the parts; taking the values of a dictionary by its codes needs elements for each code
 abbrev mutual
   pub canonical_fault : Tree → Option Refusal
-  canonical_fault (bools bits v) = None
+  canonical_fault (bools b bits v) = None
   canonical_fault (primitive t bs v) = None
   canonical_fault (constant k r n) = constant_fault k r n
   canonical_fault (dictionary c v f) = or_else (canonical_fault v) (plain_overflow (kind_of v) (tree_len c))
@@ -79,7 +79,7 @@ abbrev mutual
 -- the same of n rows in these layouts: constants and codes are then as many as these rows have
 abbrev mutual
   pub rows_canonical_fault : Tree → ℕ → Option Refusal
-  rows_canonical_fault (bools bits v) n = None
+  rows_canonical_fault (bools b bits v) n = None
   rows_canonical_fault (primitive t bs v) n = None
   rows_canonical_fault (constant k r m) n = constant_fault k r n
   rows_canonical_fault (dictionary c v f) n = or_else (canonical_fault v) (plain_overflow (kind_of v) n)

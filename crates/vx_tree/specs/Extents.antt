@@ -45,7 +45,7 @@ abbrev mutual
 -- whichever its codes name
 abbrev mutual
   pub extent_of : Tree → Extent
-  extent_of (bools bits v) = leaf_extent
+  extent_of (bools b bits v) = leaf_extent
   extent_of (primitive t bs v) = leaf_extent
   extent_of (constant k r n) = rows_extent k (r ∷ [])
   extent_of (dictionary c v f) = extent_of v

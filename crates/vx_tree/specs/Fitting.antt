@@ -18,7 +18,7 @@ pub record AreViews (views buffers : List (List ℕ)) : Type 0 where
 -- well formed at every depth, with bytes that are bytes, and no more elements of lists of one size than can be counted
 abbrev mutual
   pub AllFormed : Tree → Type 0
-  AllFormed (bools bits v) = WellFormed (bools bits v) × ValidityFormed v
+  AllFormed (bools b bits v) = WellFormed (bools b bits v) × ValidityFormed v
   AllFormed (primitive t bs v) = WellFormed (primitive t bs v) × AreBytes bs × ValidityFormed v
   AllFormed (constant k r n) = WellFormed (constant k r n)
   AllFormed (dictionary c v f) = WellFormed (dictionary c v f) × AllFormed c × AllFormed v

@@ -110,7 +110,7 @@ pub record IsViewArray (views buffers : List (List ℕ)) (k : Kind) (v : Valid) 
 
 -- the parts of each layout
 abbrev pub WellFormed : Tree → Type 0
-WellFormed (bools bits v) = ValidFits v (length bits)
+WellFormed (bools b bits v) = ValidFits v (length bits)
 WellFormed (primitive t bs v) = ValidFits v (length (numbers t bs)) × (length bs ≡ length (numbers t bs) * byte_width t)
 WellFormed (constant k r n) = Fits k r
 WellFormed (dictionary c v f) = IsDictionary c v f

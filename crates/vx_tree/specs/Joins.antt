@@ -6,15 +6,16 @@ use Rattle.vx_tree.specs.declared.array.Validity.{Validity}
 use Rattle.vx_tree.specs.Tree.{Valid, bools, non_nullable, by_array}
 use Rattle.vx_tree.specs.Meaning.{tree_len, valid_mask}
 use Rattle.vx_tree.specs.Formed.{IsLenOf}
+use Rattle.vx_tree.specs.Layouts.{first_bit}
 use Rattle.vx_tree.specs.Parts.{valid_of}
 use Rattle.vx_tree.specs.Faults.{valid_type_fault}
 use Rattle.vx_tree.specs.Patches.{is_unchanged}
 
 -- ---- an array of its own rows
 
--- a state without an array as it is, an array as plain booleans
+-- a state without an array as it is, an array as plain booleans, which begin where its own do
 abbrev pub executed : Valid → Valid
-executed (by_array t) = by_array (bools (valid_mask (by_array t) (tree_len t)) non_nullable)
+executed (by_array t) = by_array (bools (first_bit t) (valid_mask (by_array t) (tree_len t)) non_nullable)
 executed v = v
 
 -- ---- joined
@@ -42,7 +43,7 @@ abbrev pub joined_validity : List (Validity × ℕ) → Option Valid
 joined_validity [] = None
 joined_validity (part ∷ parts) =
     Some (if are_all (valid_of part.0) (part ∷ parts) then valid_of part.0
-    else by_array (bools (joined_mask (part ∷ parts)) non_nullable))
+    else by_array (bools 0 (joined_mask (part ∷ parts)) non_nullable))
 
 -- ---- faults
 

@@ -1,9 +1,9 @@
 -- The layout of an array.
-use Rattle.std.specs.Prelude.{Bool, true, false}
+use Rattle.std.specs.Prelude.{ℕ, Bool, true, false}
 use Rattle.vx_tree.specs.Tree.{Tree, bools, primitive, constant, dictionary, fixed_list, list_view, view_array, structure}
 
 abbrev pub is_bools : Tree → Bool
-is_bools (bools bits v) = true
+is_bools (bools b bits v) = true
 is_bools _ = false
 
 abbrev pub is_primitive : Tree → Bool
@@ -36,12 +36,17 @@ is_struct _ = false
 
 -- rows that have no rows in them, each by its own place: booleans, integers, texts and byte lists
 abbrev pub is_leaf : Tree → Bool
-is_leaf (bools bits v) = true
+is_leaf (bools b bits v) = true
 is_leaf (primitive t bs v) = true
 is_leaf (view_array vs bs k v) = true
 is_leaf _ = false
 
 -- ---- parts
+
+-- the bit of the first byte at which the booleans begin
+abbrev pub first_bit : Tree → ℕ
+first_bit (bools b bits v) = b
+first_bit _ = 0
 
 -- the values that the codes of a dictionary name
 abbrev pub values_in : Tree → Tree

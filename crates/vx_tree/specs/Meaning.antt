@@ -27,7 +27,7 @@ nullable (by_array t) = true
 
 -- how many rows there are
 abbrev pub tree_len : Tree → ℕ
-tree_len (bools bits v) = length bits
+tree_len (bools b bits v) = length bits
 tree_len (primitive t bs v) = length (numbers t bs)
 tree_len (constant k r n) = n
 tree_len (dictionary c v f) = tree_len c
@@ -39,7 +39,7 @@ tree_len (view_array vs bs k v) = length vs
 -- of what kind the rows are
 abbrev mutual
   pub kind_of : Tree → Kind
-  kind_of (bools bits v) = booleans (nullable v)
+  kind_of (bools b bits v) = booleans (nullable v)
   kind_of (primitive t bs v) = integers t (nullable v)
   kind_of (constant k r n) = k
   kind_of (dictionary c v f) = or_nullable (is_nullable_kind (kind_of c)) (kind_of v)
@@ -75,7 +75,7 @@ value_row false value = bytes value
 -- row i of each layout, where its validity is true; null elsewhere
 abbrev mutual
   pub row_at : Tree → ℕ → Row
-  row_at (bools bits v) i = if is_valid_at v i then boolean (bool_at bits i) else null
+  row_at (bools b bits v) i = if is_valid_at v i then boolean (bool_at bits i) else null
   row_at (primitive t bs v) i = if is_valid_at v i then whole (number_nth (numbers t bs) i) else null
   row_at (constant k r n) i = r
   row_at (dictionary c v f) i = picked (row_at v) (position_in (row_at c i))

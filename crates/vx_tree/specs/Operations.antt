@@ -148,7 +148,7 @@ pub record ArePositions (t : Tree) (bound : ℕ) (ps : List ℕ) : Type 0 where
 
 -- numbers under a mask, as an array: null where the mask is false
 abbrev pub masked_numbers : PType → List ℕ → List Bool → Tree
-masked_numbers t bytes mask = primitive t bytes (by_array (bools mask non_nullable))
+masked_numbers t bytes mask = primitive t bytes (by_array (bools 0 mask non_nullable))
 
 -- ---- on lists of rows
 

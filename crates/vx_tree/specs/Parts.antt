@@ -15,7 +15,7 @@ valid_of validity.AllInvalid = all_invalid
 valid_of (validity.Array t) = by_array t
 
 abbrev pub tree_of : Layout → Tree
-tree_of (layout.Bool bits v) = bools bits.bits (valid_of v)
+tree_of (layout.Bool bits v) = bools bits.offset bits.bits (valid_of v)
 tree_of (layout.Primitive t bs v) = primitive t bs (valid_of v)
 tree_of (layout.Constant s n) = constant s.kind s.row n
 tree_of (layout.Dict c v f) = dictionary c v f

@@ -6,7 +6,7 @@ use Rattle.vx_tree.specs.Tree.{by_array}
 -- neither a constant nor a dictionary, nor is any of its parts
 abbrev mutual
   pub IsPlain : Tree → Type 0
-  IsPlain (bools bits v) = IsPlainValid v
+  IsPlain (bools b bits v) = IsPlainValid v
   IsPlain (primitive t bs v) = IsPlainValid v
   IsPlain (constant k r n) = ⊥
   IsPlain (dictionary c v f) = ⊥

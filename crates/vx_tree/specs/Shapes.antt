@@ -42,7 +42,7 @@ row_state k r = if is_present r then (if is_nullable_kind k then none_null else 
 
 -- the state of an array: a constant's by its row, a dictionary's is its values' taken by its codes
 abbrev pub tree_state : Tree → State
-tree_state (bools bits v) = state_of v
+tree_state (bools b bits v) = state_of v
 tree_state (primitive t bs v) = state_of v
 tree_state (constant k r n) = row_state k r
 tree_state (dictionary c v f) = taken_state (tree_state v) (tree_state c)
@@ -64,7 +64,7 @@ pub data Shape : Type 0 where
   view_shape : List (List ℕ) → State → Shape
 
 abbrev pub shape_of : Tree → Shape
-shape_of (bools bits v) = bool_shape (state_of v)
+shape_of (bools b bits v) = bool_shape (state_of v)
 shape_of (primitive t bs v) = primitive_shape (state_of v)
 shape_of (constant k r n) = constant_shape k r
 shape_of (dictionary c v f) = dictionary_shape v (taken_state (tree_state v) (tree_state c)) f

@@ -7,7 +7,7 @@ use Rattle.vx_tree.specs.Tree.{Valid, non_nullable, all_valid, all_invalid, by_a
 
 -- a constant and a dictionary have none of their own
 abbrev pub validity_of : Tree → Valid
-validity_of (bools bits v) = v
+validity_of (bools b bits v) = v
 validity_of (primitive t bs v) = v
 validity_of (fixed_list e k v n) = v
 validity_of (list_view e o s v f) = v
@@ -17,7 +17,7 @@ validity_of _ = non_nullable
 
 -- the same parts under another validity
 abbrev pub under_validity : Tree → Valid → Tree
-under_validity (bools bits v) w = bools bits w
+under_validity (bools b bits v) w = bools b bits w
 under_validity (primitive t bs v) w = primitive t bs w
 under_validity (fixed_list e k v n) w = fixed_list e k w n
 under_validity (list_view e o s v f) w = list_view e o s w f
@@ -27,7 +27,7 @@ under_validity t w = t
 
 -- its parts stay as they are where rows become null; views become empty, and a constant and a dictionary have no validity
 abbrev pub keeps_parts : Tree → Bool
-keeps_parts (bools bits v) = true
+keeps_parts (bools b bits v) = true
 keeps_parts (primitive t bs v) = true
 keeps_parts (fixed_list e k v n) = true
 keeps_parts (list_view e o s v f) = true

@@ -10,8 +10,8 @@ use Rattle.vx_base.specs.Codes.{first, rest, tag, number, code_type, code_type-i
 mutual
   -- the eight layouts
   pub data Tree : Type 0 where
-    -- booleans, validity
-    bools : List Bool → Valid → Tree
+    -- the bit of the first byte at which the booleans begin, booleans, validity
+    bools : ℕ → List Bool → Valid → Tree
     -- integer type, bytes, validity
     primitive : PType → List ℕ → Valid → Tree
     -- data type, the one row, how often
@@ -42,7 +42,7 @@ mutual
 
 abbrev mutual
   pub code_tree : Tree → Gv
-  code_tree (bools bits v) = gcons (gnum 0) (gcons ((coded_list coded_bool).code bits) (code_valid v))
+  code_tree (bools b bits v) = gcons (gnum 0) (gcons (gnum b) (gcons ((coded_list coded_bool).code bits) (code_valid v)))
   code_tree (primitive t bs v) = gcons (gnum 1) (gcons (code_type t) (gcons ((coded_list coded_ℕ).code bs) (code_valid v)))
   code_tree (constant k r n) = gcons (gnum 2) (gcons (code_kind k) (gcons (code_row r) (gnum n)))
   code_tree (dictionary c v f) = gcons (gnum 3) (gcons (code_tree c) (gcons (code_tree v) (coded_bool.code f)))
@@ -67,10 +67,11 @@ abbrev mutual
 
 mutual
   pub code_tree-inj : (x y : Tree) → code_tree x ≡ code_tree y → x ≡ y
-  code_tree-inj (bools bits v) (bools bits2 v2) p =
+  code_tree-inj (bools b bits v) (bools b2 bits2 v2) p =
       λ i. bools
-      ((coded_list coded_bool).inj bits bits2 (ap (λ g. first (rest g)) p) i)
-      (code_valid-inj v v2 (ap (λ g. rest (rest g)) p) i)
+      (ap (λ g. number (first (rest g))) p i)
+      ((coded_list coded_bool).inj bits bits2 (ap (λ g. first (rest (rest g))) p) i)
+      (code_valid-inj v v2 (ap (λ g. rest (rest (rest g))) p) i)
   code_tree-inj (primitive t bs v) (primitive t2 bs2 v2) p =
       λ i. primitive
       (code_type-inj t t2 (ap (λ g. first (rest g)) p) i)
@@ -132,7 +133,7 @@ tree_code = record { code = code_tree; inj = code_tree-inj }
 
 abbrev mutual
   pub depth : Tree → ℕ
-  depth (bools bits v) = valid_depth v
+  depth (bools b bits v) = valid_depth v
   depth (primitive t bs v) = valid_depth v
   depth (constant k r n) = 0
   depth (dictionary c v f) = max (depth c + 1) (depth v + 1)

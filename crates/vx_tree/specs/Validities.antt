@@ -84,11 +84,11 @@ array_of all_valid n = constant (booleans false) (boolean true) n
 array_of all_invalid n = constant (booleans false) (boolean false) n
 array_of (by_array t) n = t
 
--- the validity of booleans: the given one where all are true, all invalid where none is, else an array of them
-abbrev pub valid_from : List Bool → Valid → Valid
-valid_from bits full =
+-- the validity of booleans: the given one where all are true, all invalid where none is, else an array of them that begins at a bit
+abbrev pub valid_from : ℕ → List Bool → Valid → Valid
+valid_from b bits full =
     if count_by (λ b. b) bits == length bits then full
-    else (if count_by (λ b. b) bits == 0 then all_invalid else by_array (bools bits non_nullable))
+    else (if count_by (λ b. b) bits == 0 then all_invalid else by_array (bools b bits non_nullable))
 
 -- no null may stand, or no null stands
 abbrev pub full_valid : Bool → Valid

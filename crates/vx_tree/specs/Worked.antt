@@ -10,7 +10,7 @@ use Rattle.vx_tree.specs.Tree.{view_array, no_trees, tree, Valid, non_nullable, 
 
 -- the rows that are valid, one by one
 abbrev pub valid_where : List Bool → Valid
-valid_where valid = by_array (bools valid non_nullable)
+valid_where valid = by_array (bools 0 valid non_nullable)
 
 -- numbers of one byte, none of them null
 abbrev pub small_numbers : List ℕ → Tree
@@ -34,7 +34,7 @@ abbrev pub signed_rows : List Row
 signed_rows = whole (negsuc 1) ∷ count 513 ∷ []
 
 abbrev pub some_booleans : Tree
-some_booleans = bools (true ∷ true ∷ false ∷ []) (valid_where (true ∷ false ∷ true ∷ []))
+some_booleans = bools 0 (true ∷ true ∷ false ∷ []) (valid_where (true ∷ false ∷ true ∷ []))
 
 abbrev pub some_boolean_rows : List Row
 some_boolean_rows = boolean true ∷ null ∷ boolean false ∷ []
@@ -112,7 +112,7 @@ taken_rows = pair 2 3 ∷ null ∷ pair 3 4 ∷ []
 abbrev pub some_records : Tree
 some_records =
     structure (codes "a" ∷ codes "b" ∷ []) (tree (small_numbers (1 ∷ 2 ∷ []))
-    (tree (bools (true ∷ false ∷ []) non_nullable) no_trees)) (valid_where (false ∷ true ∷ [])) 2
+    (tree (bools 0 (true ∷ false ∷ []) non_nullable) no_trees)) (valid_where (false ∷ true ∷ [])) 2
 
 abbrev pub record_rows : List Row
 record_rows = null ∷ record_of (field (codes "a") (count 2) (field (codes "b") (boolean false) no_fields)) ∷ []

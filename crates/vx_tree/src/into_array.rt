@@ -23,7 +23,7 @@ impl IntoArray for BitBuffer {
     ghost use Rattle.std.specs.Prelude.{◌≡◌};
     ghost use Rattle.vx_tree.specs.Tree.{bools, non_nullable};
 
-    ghost becomes = { λ b t. t ≡ bools b.bits non_nullable };
+    ghost becomes = { λ b t. t ≡ bools b.offset b.bits non_nullable };
 
     fn into_array(self, alloc: Global) -> Result<ArrayRef, VortexError> {
         ArrayRef::bools(alloc, self, Validity::NonNullable)
@@ -34,7 +34,7 @@ impl IntoArray for BitBufferMut {
     ghost use Rattle.std.specs.Prelude.{◌≡◌};
     ghost use Rattle.vx_tree.specs.Tree.{bools, non_nullable};
 
-    ghost becomes = { λ b t. t ≡ bools b non_nullable };
+    ghost becomes = { λ b t. t ≡ bools 0 b non_nullable };
 
     fn into_array(self, alloc: Global) -> Result<ArrayRef, VortexError> {
         self.freeze()?.into_array(alloc)
@@ -45,7 +45,7 @@ impl IntoArray for &MaskValues {
     ghost use Rattle.std.specs.Prelude.{◌≡◌};
     ghost use Rattle.vx_tree.specs.Tree.{bools, non_nullable};
 
-    ghost becomes = { λ v t. t ≡ bools v.now non_nullable };
+    ghost becomes = { λ v t. t ≡ bools 0 v.now non_nullable };
 
     fn into_array(self, alloc: Global) -> Result<ArrayRef, VortexError> {
         self.bit_buffer(alloc)?.into_array(alloc)

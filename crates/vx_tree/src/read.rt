@@ -7,6 +7,7 @@ ghost use Rattle.vx_base.specs.Refusals.{Gives, Refuses};
 ghost use Rattle.vx_base.specs.Integers.{Holds};
 ghost use Rattle.vx_base.specs.Rows.{is_present, truth_of, number_in};
 ghost use Rattle.vx_base.specs.Kinds.{booleans, is_integers, is_plain_integers, integer_type};
+ghost use Rattle.vx_tree.specs.Layouts.{first_bit};
 ghost use Rattle.vx_tree.specs.Meaning.{tree_len, kind_of, row_at};
 ghost use Rattle.vx_tree.specs.Parts.{valid_of};
 ghost use Rattle.vx_tree.specs.Faults.{position_fault};
@@ -104,10 +105,12 @@ impl ArrayRef {
         }
     }
 
-    /// The rows of an array of plain booleans, as bits. For the crates above.
+    /// The rows of an array of plain booleans, as bits: those of a `Bool` layout where they lie. For
+    /// the crates above.
     pub fn plain_bits(&self, alloc: Global) -> Result<BitBuffer, VortexError>
         requires { kind_of self.now ≡ booleans false }
-        ensures { Gives result (λ b. b.bits ≡ map (λ i. truth_of (row_at self.now i)) (range_with_len 0 (tree_len self.now))) }
+        ensures bits { Gives result (λ b. b.bits ≡ map (λ i. truth_of (row_at self.now i)) (range_with_len 0 (tree_len self.now))) }
+        ensures offset { IfOk result (λ b. b.offset ≡ first_bit self.now) }
     {
         match self.layout() {
             Layout::Bool { bits, .. } => bits.try_clone(alloc),
@@ -145,7 +148,8 @@ impl ArrayRef {
     // The rows of an array of plain booleans, as bits: in any layout, row by row.
     fn truths(&self, alloc: Global) -> Result<BitBuffer, VortexError>
         requires { kind_of self.now ≡ booleans false }
-        ensures { Gives result (λ b. b.bits ≡ map (λ i. truth_of (row_at self.now i)) (range_with_len 0 (tree_len self.now))) }
+        ensures bits { Gives result (λ b. b.bits ≡ map (λ i. truth_of (row_at self.now i)) (range_with_len 0 (tree_len self.now))) }
+        ensures offset { IfOk result (λ b. b.offset ≡ 0) }
     {
         let mut truths = vec![in alloc; false; self.len()]?;
         self.fill_truths(&mut truths);

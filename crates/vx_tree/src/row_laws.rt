@@ -39,8 +39,8 @@ pub fn masks_stand_at_their_places()
     ensures len { (v : Valid) (n : ℕ) → length (valid_mask v n) ≡ n }
     ensures each { (v : Valid) (n i : ℕ) (default : Bool) → i < n →
         slice_index_or (valid_mask v n) i default ≡ is_valid_at v i }
-    ensures bits { (bits : List Bool) →
-        valid_mask (by_array (bools bits non_nullable)) (length bits) ≡ bits }
+    ensures bits { (first : ℕ) (bits : List Bool) →
+        valid_mask (by_array (bools first bits non_nullable)) (length bits) ≡ bits }
 {}
 
 /// A validity that is without a fault for so many rows is one of so many rows.

@@ -237,7 +237,7 @@ impl Validity {
 
 /// Valid where the bit is set. For the crates above.
 pub fn told_by(alloc: Global, bits: BitBuffer) -> Result<Validity, VortexError>
-    ensures { Gives result (λ v. valid_of v ≡ by_array (bools bits.bits non_nullable)) }
+    ensures { Gives result (λ v. valid_of v ≡ by_array (bools bits.offset bits.bits non_nullable)) }
 {
     let array = ArrayRef::bools(alloc, bits, Validity::NonNullable)?;
     Ok(Validity::Array(array))

@@ -36,7 +36,7 @@ present_as_valid (list_view e o s v f) i is = present_where (is_valid_at v i) _
     present_where : (b : Bool) (rs : _) → is_present (cond b (items rs) null) ≡ b
     present_where true rs = refl
     present_where false rs = refl
-present_as_valid (bools bits v) i is = cc
+present_as_valid (bools b bits v) i is = cc
 present_as_valid (primitive t bs v) i is = cc
 present_as_valid (constant k r n) i is = cc
 present_as_valid (dictionary c v f) i is = cc

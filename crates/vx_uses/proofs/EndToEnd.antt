@@ -26,7 +26,7 @@ rebuilt_count row_count joined t r is = sym (row_count (elements_of r)) ∙ ap l
 -- lists are of the kind of their elements
 pub list_kind : (r : Tree) → is_list_view r ≡ true → kind_of r ≡ lists (kind_of (elements_of r)) (is_nullable_kind (kind_of r))
 list_kind (list_view e o s v f) is = refl
-list_kind (bools bits v) is = cc
+list_kind (bools b bits v) is = cc
 list_kind (primitive t bs v) is = cc
 list_kind (constant k r n) is = cc
 list_kind (dictionary c v f) is = cc

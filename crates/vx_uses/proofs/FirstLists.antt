@@ -39,7 +39,7 @@ item_kind k = k
 -- the elements of a list view of lists have the kind of their items
 elements_kind : (r : Tree) (k : Kind) (n : Bool) → is_list_view r ≡ true → kind_of r ≡ lists k n → kind_of (elements_of r) ≡ k
 elements_kind (list_view e o s v f) k n is p = ap item_kind p
-elements_kind (bools bits v) k n is p = cc
+elements_kind (bools b bits v) k n is p = cc
 elements_kind (primitive t bs v) k n is p = cc
 elements_kind (constant j r m) k n is p = cc
 elements_kind (dictionary c v f) k n is p = cc

@@ -40,7 +40,7 @@ present_where false r present = cc
 
 -- a row that is present is valid
 present_valid : (t : Tree) (i : ℕ) → is_present (row_at t i) ≡ true → is_valid_at (validity_of t) i ≡ true
-present_valid (bools bits v) i present = present_where (is_valid_at v i) _ present
+present_valid (bools b bits v) i present = present_where (is_valid_at v i) _ present
 present_valid (primitive t bs v) i present = present_where (is_valid_at v i) _ present
 present_valid (constant k r n) i present = refl
 present_valid (dictionary c v f) i present = refl

@@ -23,7 +23,7 @@ shape_has_parts (struct_shape s) = true
 shape_has_parts _ = false
 
 has_parts-shape : (t : Tree) → shape_has_parts (shape_of t) ≡ has_parts t
-has_parts-shape (bools bits v) = refl
+has_parts-shape (bools b bits v) = refl
 has_parts-shape (primitive t bs v) = refl
 has_parts-shape (constant k r n) = refl
 has_parts-shape (dictionary c v f) = refl
@@ -56,7 +56,7 @@ cond_only false b r second same = cc
 
 mutual
   only_overflow : (t : Tree) (n : ℕ) (r : Refusal) → take_overflow t n ≡ Some r → r ≡ overflow
-  only_overflow (bools bits v) n r same = cc
+  only_overflow (bools b bits v) n r same = cc
   only_overflow (primitive t bs v) n r same = cc
   only_overflow (constant k row m) n r same = cc
   only_overflow (dictionary c v f) n r same = cc
@@ -70,7 +70,7 @@ mutual
   only_columns (tree t ts) n r same = or_else_only (take_overflow t n) (columns_overflow ts n) r (λ f. only_overflow t n f) (λ f. only_columns ts n f) same
 
 with_parts : (t : Tree) (n : ℕ) (r : Refusal) → take_overflow t n ≡ Some r → has_parts t ≡ true
-with_parts (bools bits v) n r same = cc
+with_parts (bools b bits v) n r same = cc
 with_parts (primitive t bs v) n r same = cc
 with_parts (constant k row m) n r same = cc
 with_parts (dictionary c v f) n r same = cc

@@ -34,7 +34,7 @@ values_of_rows (view_array vs bs k v) is =
     let t = view_array vs bs k v in
     map_range_same (bytes_at t) (λ i. row_bytes (row_at t i)) 0 0 (length vs) (λ i l. value_bytes (is_valid_at v (0 + i)) (is_texts k) (view_value bs (slice_index_or vs (0 + i) [])))
     ∙ sym (map-map row_bytes (row_at t) (range_with_len 0 (length vs)))
-values_of_rows (bools bits v) is = cc
+values_of_rows (bools b bits v) is = cc
 values_of_rows (primitive t bs v) is = cc
 values_of_rows (constant k r n) is = cc
 values_of_rows (dictionary c v f) is = cc
@@ -82,14 +82,14 @@ buffers_joined limit t a views is =
 -- selected rows of views are views
 pub views_selected : (t r : Tree) → is_view_array t ≡ true → shape_of r ≡ selected_shape (shape_of t) → is_view_array r ≡ true
 views_selected (view_array vs bs k v) (view_array ws cs l w) is same = refl
-views_selected (view_array vs bs k v) (bools bits w) is same = cc
+views_selected (view_array vs bs k v) (bools b bits w) is same = cc
 views_selected (view_array vs bs k v) (primitive p cs w) is same = cc
 views_selected (view_array vs bs k v) (constant l r n) is same = cc
 views_selected (view_array vs bs k v) (dictionary c w f) is same = cc
 views_selected (view_array vs bs k v) (fixed_list e n w m) is same = cc
 views_selected (view_array vs bs k v) (list_view e o s w f) is same = cc
 views_selected (view_array vs bs k v) (structure ns ts w n) is same = cc
-views_selected (bools bits v) r is same = cc
+views_selected (bools b bits v) r is same = cc
 views_selected (primitive t bs v) r is same = cc
 views_selected (constant k q n) r is same = cc
 views_selected (dictionary c v f) r is same = cc

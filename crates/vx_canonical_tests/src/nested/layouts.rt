@@ -44,7 +44,7 @@ pub(crate) fn some_counts(
 ) -> Result<ArrayRef, VortexError>
     requires { length valid.now ≡ length numbers.now }
     ensures { IfOk result (λ a.
-        a ≡ primitive U8 numbers.now (by_array (bools valid.now non_nullable))) }
+        a ≡ primitive U8 numbers.now (by_array (bools 0 valid.now non_nullable))) }
 {
     let ptype = PType::U8;
     let bytes = ByteBuffer::copy_from(alloc, numbers)?;

@@ -11,7 +11,7 @@ pub alike_itself : (t r : Tree) → r ≡ t → AreAlike t r
 alike_itself t r same = subst (AreAlike t) (sym same) (record { offsets = refl; sizes = refl; masks = refl; elements = refl })
 
 pub len-offsets_of : (t : Tree) → tree_len (offsets_of t) ≡ tree_len t
-len-offsets_of (bools bits v) = refl
+len-offsets_of (bools b bits v) = refl
 len-offsets_of (primitive t bs v) = refl
 len-offsets_of (constant k r n) = refl
 len-offsets_of (dictionary c v f) = refl

@@ -138,7 +138,7 @@ lowered_counts_of_constant (constant k r m) p by n is same = record {
   are_counts = record { kind = refl; counts = λ i inside. refl };
   counts_are = ap (λ len. map count_in (map (λ _. whole (pos (count_in r - by))) (range_with_len 0 len))) same ∙ less r by (range_with_len 0 m);
 }
-lowered_counts_of_constant (bools _ _) p by n is same = cc
+lowered_counts_of_constant (bools _ _ _) p by n is same = cc
 lowered_counts_of_constant (primitive _ _ _) p by n is same = cc
 lowered_counts_of_constant (dictionary _ _ _) p by n is same = cc
 lowered_counts_of_constant (fixed_list _ _ _ _) p by n is same = cc

@@ -134,7 +134,7 @@ pub same_rows_by_lists : (e o s : Tree) (v : Valid) (f : Bool) (e' o' s' : Tree)
 same_rows_by_lists e o s v f e' o' s' v' f' same = rows-by_lists e o s v f ∙ ap (map row_of_list) same ∙ sym (rows-by_lists e' o' s' v' f')
 
 pub rows-by_list_rows : (t : Tree) → is_list_view t ≡ true → rows t ≡ map row_of_list (list_rows t)
-rows-by_list_rows (bools bits v) is_view = cc
+rows-by_list_rows (bools b bits v) is_view = cc
 rows-by_list_rows (primitive t bs v) is_view = cc
 rows-by_list_rows (constant k r n) is_view = cc
 rows-by_list_rows (dictionary c v f) is_view = cc

@@ -23,7 +23,7 @@ use Rattle.vx_structs.proofs.Records.Columns.{fields_named-found, kinds_named-fo
 
 pub by_parts : (t : Tree) → is_struct t ≡ true → t ≡ with_columns t (names_of t) (columns_of t)
 by_parts (structure ns ts v n) is = ap (λ us. structure ns us v n) (sym (trees_from-list ts))
-by_parts (bools bits v) is = cc
+by_parts (bools b bits v) is = cc
 by_parts (primitive t bs v) is = cc
 by_parts (constant k r n) is = cc
 by_parts (dictionary c v f) is = cc

@@ -29,7 +29,7 @@ use Rattle.vx_structs.specs.Structs.{column_list, columns_of}
 
 mutual
   canonical_fault-plain : (t : Tree) → IsPlain t → canonical_fault t ≡ None
-  canonical_fault-plain (bools bits v) p = refl
+  canonical_fault-plain (bools b bits v) p = refl
   canonical_fault-plain (primitive q bs v) p = refl
   canonical_fault-plain (constant k r n) p = absurd p
   canonical_fault-plain (dictionary c v f) p = absurd p
@@ -87,7 +87,7 @@ columns_canonical (tree u us) (d ∷ columns) zero h = h.0
 columns_canonical (tree u us) (d ∷ columns) (suc c) h = columns_canonical us columns c h.1
 
 pub columns_of-list : (t : Tree) → columns_of t ≡ column_list (columns_in t)
-columns_of-list (bools bits v) = refl
+columns_of-list (bools b bits v) = refl
 columns_of-list (primitive q bs v) = refl
 columns_of-list (constant k r n) = refl
 columns_of-list (dictionary c v f) = refl

@@ -23,7 +23,7 @@ impl ArrayRef {
         validity: Validity,
     ) -> Result<ArrayRef, VortexError>
         requires { ValidFits (valid_of validity) (length bits.bits) }
-        ensures { Gives result (λ a. a ≡ bools bits.bits (valid_of validity)) }
+        ensures { Gives result (λ a. a ≡ bools bits.offset bits.bits (valid_of validity)) }
     {
         ArrayRef::from_parts(alloc, Layout::Bool { bits, validity })
     }

@@ -105,7 +105,7 @@ impl Validity {
     /// Valid where the boolean is true: `AllValid` where all are, `AllInvalid` where none is, else
     /// an array of them. Fails only for want of memory.
     pub fn from_buffer(alloc: Global, bits: BitBuffer) -> Result<Validity, VortexError>
-        ensures given { Gives result (λ v. valid_of v ≡ valid_from bits.bits all_valid) }
+        ensures given { Gives result (λ v. valid_of v ≡ valid_from bits.offset bits.bits all_valid) }
         ensures mask { IfOk result (λ v. valid_mask (valid_of v) (length bits.bits) ≡ bits.bits) }
     {
         Validity::from_bit_buffer(alloc, bits, Nullability::Nullable)
@@ -118,7 +118,7 @@ impl Validity {
         bits: BitBuffer,
         nullability: Nullability,
     ) -> Result<Validity, VortexError>
-        ensures given { Gives result (λ v. valid_of v ≡ valid_from bits.bits (full_valid (is_nullable nullability))) }
+        ensures given { Gives result (λ v. valid_of v ≡ valid_from bits.offset bits.bits (full_valid (is_nullable nullability))) }
         ensures mask { IfOk result (λ v. valid_mask (valid_of v) (length bits.bits) ≡ bits.bits) }
     {
         let validity = of_bits(alloc, bits, nullability)?;
@@ -132,7 +132,7 @@ fn of_bits(
     bits: BitBuffer,
     nullability: Nullability,
 ) -> Result<Validity, VortexError>
-    ensures { Gives result (λ v. valid_of v ≡ valid_from bits.bits (full_valid (is_nullable nullability))) }
+    ensures { Gives result (λ v. valid_of v ≡ valid_from bits.offset bits.bits (full_valid (is_nullable nullability))) }
 {
     let true_count = bits.true_count();
     if true_count == bits.len() {

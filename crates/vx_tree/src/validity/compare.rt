@@ -57,7 +57,7 @@ impl Validity {
         nullability: Nullability,
     ) -> Result<Validity, VortexError>
         requires { is_nullable nullability ≡ false → count_by (λ b. b) mask ≡ length mask }
-        ensures given { Gives result (λ v. valid_of v ≡ valid_from mask (full_valid (is_nullable nullability))) }
+        ensures given { Gives result (λ v. valid_of v ≡ valid_from 0 mask (full_valid (is_nullable nullability))) }
         ensures mask { IfOk result (λ v. valid_mask (valid_of v) (length mask) ≡ mask) }
     {
         let validity = of_mask(alloc, &mask, nullability)?;
@@ -67,7 +67,7 @@ impl Validity {
 
 // Valid where the mask is true.
 fn of_mask(alloc: Global, mask: &Mask, nullability: Nullability) -> Result<Validity, VortexError>
-    ensures { Gives result (λ v. valid_of v ≡ valid_from mask.now (full_valid (is_nullable nullability))) }
+    ensures { Gives result (λ v. valid_of v ≡ valid_from 0 mask.now (full_valid (is_nullable nullability))) }
 {
     let true_count = mask.true_count();
     if true_count == mask.len() {

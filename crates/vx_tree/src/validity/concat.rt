@@ -68,7 +68,7 @@ impl Validity {
         requires can { I.can_next items }
         requires ends { IsFinite (I.remaining items) }
         ensures { Gives result (λ v. (bits : List Bool) × Drains I.next_gives items bits
-            × (valid_of v ≡ valid_from bits all_valid)) }
+            × (valid_of v ≡ valid_from 0 bits all_valid)) }
     {
         let bools = collect_items(alloc, items)?;
         let bits = BitBuffer::from_bools(alloc, &bools)?;
@@ -85,7 +85,7 @@ impl Validity {
         requires can { I.can_next items }
         requires ends { IsFinite (I.remaining items) }
         ensures ok { IfOk result (λ v. (masks : List (List Bool)) × Drains I.next_gives items masks
-            × (count_fault (length (joined masks)) ≡ None) × (valid_of v ≡ valid_from (joined masks) all_valid)) }
+            × (count_fault (length (joined masks)) ≡ None) × (valid_of v ≡ valid_from 0 (joined masks) all_valid)) }
         ensures err { IfErr result (λ e. (e ≡ Memory) ⊎ ((masks : List (List Bool)) × Drains I.next_gives items masks
             × (count_fault (length (joined masks)) ≡ refusal_of e))) }
     {
@@ -153,6 +153,7 @@ fn joined_bits(alloc: Global, parts: &[(Validity, usize)]) -> Result<BitBuffer, 
     requires lens { All (λ part. IsLenOf (valid_of part.0) part.1) parts.now }
     requires types { All (λ part. valid_type_fault (valid_of part.0) ≡ None) parts.now }
     ensures ok { IfOk result (λ b. b.bits ≡ joined_mask parts.now) }
+    ensures offset { IfOk result (λ b. b.offset ≡ 0) }
     ensures refuses { Refuses result (count_fault (length (joined_mask parts.now))) }
 {
     let masks = masks_of(alloc, parts)?;
@@ -175,7 +176,8 @@ fn masks_of(alloc: Global, parts: &[(Validity, usize)]) -> Result<Vec<Mask>, Vor
 
 // The booleans of a mask as bits, which are made of its runs where both values stand.
 pub(crate) fn bits_of_mask(alloc: Global, mask: &Mask) -> Result<BitBuffer, VortexError>
-    ensures { Gives result (λ b. b.bits ≡ mask.now) }
+    ensures bits { Gives result (λ b. b.bits ≡ mask.now) }
+    ensures offset { IfOk result (λ b. b.offset ≡ 0) }
 {
     if mask.all_true() {
         return BitBuffer::new_set(alloc, mask.len());

@@ -12,7 +12,7 @@ use vx_tree::{ArrayRef, Layout, Validity};
 
 // Valid where the boolean is true.
 fn valid(alloc: Global, values: &[bool]) -> Result<Validity, VortexError>
-    ensures { IfOk result (λ v. valid_of v ≡ by_array (bools values.now non_nullable)) }
+    ensures { IfOk result (λ v. valid_of v ≡ by_array (bools 0 values.now non_nullable)) }
 {
     let bits = BitBuffer::from_bools(alloc, values)?;
     Ok(Validity::Array(ArrayRef::bools(alloc, bits, Validity::NonNullable)?))

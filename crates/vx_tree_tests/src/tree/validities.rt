@@ -17,7 +17,7 @@ use vx_tree::{
 
 // Valid where the boolean is true.
 fn valid(alloc: Global, values: &[bool]) -> Result<Validity, VortexError>
-    ensures { IfOk result (λ v. valid_of v ≡ by_array (bools values.now non_nullable)) }
+    ensures { IfOk result (λ v. valid_of v ≡ by_array (bools 0 values.now non_nullable)) }
 {
     Ok(Validity::Array(bools(alloc, values)?))
 }

@@ -11,7 +11,7 @@ use Rattle.vx_pack.proofs.stored_bits.validity_in.Goals as goal
 pub returns-in-Bool : goal.returns-in-Bool
 returns-in-Bool c =
     let v = valid_of c.in-Bool.validity in
-    let u = bools c.in-Bool.bits.bits v in
+    let u = bools c.in-Bool.bits.offset c.in-Bool.bits.bits v in
     let formed : WellFormed u = rw c.in-Bool.is at c.layout.ensures.formed in
     validity_read c.args.array.now u v (sym c.layout.ensures.parts ∙ ap tree_of c.in-Bool.is) formed
     (λ i. valid_where_present (is_valid_at v i) _ refl)

@@ -18,7 +18,7 @@ returns-clause-rows g c =
     let value = g.T.Number.value in
     let came : all.0 ≡ items = all_came _ c.copied.result all.0 items all.1 (YieldsList-from_copied (YieldsList-from_slice items cc)) in
     ap rows c.into_array.ensures.value
-    ∙ c.rows_of_numbers.ensures.masked g.T.NativePType.PTYPE (map (number_or_zero value) all.0) (valid_from (map is_some all.0) all_valid) c.in_ok-column.column all.2
+    ∙ c.rows_of_numbers.ensures.masked g.T.NativePType.PTYPE (map (number_or_zero value) all.0) (valid_from 0 (map is_some all.0) all_valid) c.in_ok-column.column all.2
     ∙ rows_of_items value all.0 ∙ ap (map (number_row value)) came
 
 pub returns-clause-kind : goal.returns-clause-kind

@@ -16,7 +16,7 @@ returns-clause-rows c =
     let all = c.in_ok-column.ensures in
     let came : all.0 ≡ items = all_came _ c.copied.result all.0 items all.1 (YieldsList-from_copied (YieldsList-from_slice items cc)) in
     ap rows (c.into_array.ensures.value ∙ all.2)
-    ∙ c.rows_of_bits.ensures.masked (map (λ item. unwrap_or item false) all.0) (valid_from (map is_some all.0) all_valid)
+    ∙ c.rows_of_bits.ensures.masked 0 (map (λ item. unwrap_or item false) all.0) (valid_from 0 (map is_some all.0) all_valid)
     ∙ rows_of_truths all.0 ∙ ap (map truth_row) came
 
 pub returns-clause-kind : goal.returns-clause-kind

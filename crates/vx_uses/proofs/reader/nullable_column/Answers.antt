@@ -13,7 +13,7 @@ returns-clause-rows g c =
     let fits = c.faultless_validities_fit.ensures (by_array c.into_array.result) (length c.args.numbers) c.in_ok-column.ensures.refuses in
     let count : length zs ≡ length c.args.valid.bits = length-map c.args.numbers g.T.Number.value ∙ sym fits.len ∙ ap tree_len bits in
     let mask : valid_mask (by_array c.into_array.result) (length zs) ≡ c.args.valid.bits =
-    ap (λ m. valid_mask (by_array m) (length zs)) bits ∙ ap (valid_mask (by_array (bools c.args.valid.bits non_nullable))) count ∙ c.masks_stand_at_their_places.ensures.bits c.args.valid.bits in
+    ap (λ m. valid_mask (by_array m) (length zs)) bits ∙ ap (valid_mask (by_array (bools c.args.valid.offset c.args.valid.bits non_nullable))) count ∙ c.masks_stand_at_their_places.ensures.bits c.args.valid.offset c.args.valid.bits in
     ap rows c.into_array-2.ensures.value
     ∙ c.rows_of_numbers.ensures.masked g.T.NativePType.PTYPE zs (by_array c.into_array.result) c.in_ok-column.column c.in_ok-column.ensures.parts
     ∙ ap (λ m. masked m (map whole zs)) mask

@@ -11,12 +11,12 @@ pub bools-requires : goal.bools-requires
 bools-requires c =
     let v = valid_of c.args.validity in
     let bits = c.in_ok-bits.bits.bits in
-    let joined : IsJoined (booleans (nullable v)) c.args.arrays.now (bools bits v) = bools_joined c.args.arrays.now v bits c.requires.layout c.in_ok-bits.ensures c.requires.valid in
+    let joined : IsJoined (booleans (nullable v)) c.args.arrays.now (bools c.in_ok-bits.bits.offset bits v) = bools_joined c.args.arrays.now v bits c.requires.layout c.in_ok-bits.ensures c.requires.valid in
     rw joined.len c.requires.valid.fits
 
 pub returns : goal.returns
 returns c =
     let v = valid_of c.args.validity in
     let bits = c.in_ok-bits.bits.bits in
-    let joined : IsJoined (booleans (nullable v)) c.args.arrays.now (bools bits v) = bools_joined c.args.arrays.now v bits c.requires.layout c.in_ok-bits.ensures c.requires.valid in
+    let joined : IsJoined (booleans (nullable v)) c.args.arrays.now (bools c.in_ok-bits.bits.offset bits v) = bools_joined c.args.arrays.now v bits c.requires.layout c.in_ok-bits.ensures c.requires.valid in
     Gives-weaker c.bools.result _ _ (λ a e. rw e joined) c.bools.ensures

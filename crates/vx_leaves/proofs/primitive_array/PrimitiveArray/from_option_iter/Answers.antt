@@ -23,7 +23,7 @@ primitive_array-requires g c =
     record {
       whole = ap length c.in_ok-bytes.ensures ∙ all.4 ∙ ap (λ k. k * byte_width t) (sym len) ∙ ap (λ p. n * byte_width p) (sym c.PTYPE.ensures);
       count = ap (λ p. length (numbers p bs)) c.PTYPE.ensures ∙ ap (λ cs. length (numbers t cs)) c.in_ok-bytes.ensures ∙ ap length all.2 ∙ length-map all.0 (number_or_zero g.T.Number.value) ∙ sym len;
-      fits = ValidFits-from_bits c.in_ok-present.present.bits (valid_of c.in_ok-validity.validity) n c.in_ok-validity.ensures.given (ap length present ∙ length-map all.0 is_some ∙ sym len);
+      fits = ValidFits-from_bits c.in_ok-present.present.offset c.in_ok-present.present.bits (valid_of c.in_ok-validity.validity) n c.in_ok-validity.ensures.given (ap length present ∙ length-map all.0 is_some ∙ sym len);
     }
 
 pub returns : goal.returns
@@ -34,8 +34,8 @@ returns g c =
     let v = valid_of c.in_ok-validity.validity in
     let all = c.in_ok-all.ensures in
     let zs = map (number_or_zero g.T.Number.value) all.0 in
-    let w = valid_from (map is_some all.0) all_valid in
+    let w = valid_from 0 (map is_some all.0) all_valid in
     let present : c.in_ok-present.present.bits ≡ map is_some all.0 = c.in_ok-present.ensures.bits ∙ c.deref.ensures.value ∙ all.3 in
     Gives-weaker c.primitive_array.result (λ a. a ≡ primitive u bs v) _
-    (λ a is. (all.0, all.1, is_primitive_of t u bs zs v w a is c.PTYPE.ensures (c.in_ok-validity.ensures.given ∙ ap (λ ps. valid_from ps all_valid) present) (ap (numbers t) c.in_ok-bytes.ensures ∙ all.2)))
+    (λ a is. (all.0, all.1, is_primitive_of t u bs zs v w a is c.PTYPE.ensures (c.in_ok-validity.ensures.given ∙ (λ j. valid_from (c.in_ok-present.ensures.offset j) (present j) all_valid)) (ap (numbers t) c.in_ok-bytes.ensures ∙ all.2)))
     c.primitive_array.ensures

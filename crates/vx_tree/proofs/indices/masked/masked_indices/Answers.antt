@@ -4,7 +4,7 @@ use Rattle.vx_tree.proofs.indices.masked.masked_indices.Goals as goal
 
 pub returns-then-are_all_positions-clause-ok : goal.returns-then-are_all_positions-clause-ok
 returns-then-are_all_positions-clause-ok c =
-    numbers_are_indices c.args.ptype c.args.bytes.now (by_array (bools c.args.valid.now.bits non_nullable)) c.args.len c.of_numbers.result c.of_numbers.ensures (c.are_all_positions.ensures c.if-are_all_positions.true)
+    numbers_are_indices c.args.ptype c.args.bytes.now (by_array (bools 0 c.args.valid.now.bits non_nullable)) c.args.len c.of_numbers.result c.of_numbers.ensures (c.are_all_positions.ensures c.if-are_all_positions.true)
 
 pub returns-clause-ok : goal.returns-clause-ok
 returns-clause-ok c =
