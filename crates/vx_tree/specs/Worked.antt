@@ -33,8 +33,9 @@ signed_numbers = primitive I16 (254 ∷ 255 ∷ 1 ∷ 2 ∷ []) non_nullable
 abbrev pub signed_rows : List Row
 signed_rows = whole (negsuc 1) ∷ count 513 ∷ []
 
+-- booleans that begin at the third bit of their first byte
 abbrev pub some_booleans : Tree
-some_booleans = bools 0 (true ∷ true ∷ false ∷ []) (valid_where (true ∷ false ∷ true ∷ []))
+some_booleans = bools 2 (true ∷ true ∷ false ∷ []) (valid_where (true ∷ false ∷ true ∷ []))
 
 abbrev pub some_boolean_rows : List Row
 some_boolean_rows = boolean true ∷ null ∷ boolean false ∷ []

@@ -28,4 +28,4 @@ returns c =
     let before : c.in_ok-truths.truths ≡ valid_mask v c.args.len = c.in_ok-truths.ensures ∙ c.in_ok-bits.ensures in
     let values : c.in_ok-values.values.bits ≡ valid_mask u (tree_len indices) = c.in_ok-values.ensures ∙ ap (valid_mask u) c.len-count.ensures in
     let over = c.in_ok-freeze.ensures ∙ c.write_patches.ensures ∙ (λ j. overwritten (before j) (patch_positions c.args.offset indices) (values j)) in
-    Gives-weaker c.told_by.result _ _ (λ w h. patched_by_bits v u (valid_of w) c.args.len c.args.offset indices (h ∙ ap (λ bs. by_array (bools _ bs non_nullable)) over)) c.told_by.ensures
+    Gives-weaker c.told_by.result _ _ (λ w h. patched_by_bits v u (valid_of w) c.args.len c.args.offset indices (h ∙ ap (λ bs. by_array (bools c.in_ok-freeze.field-0.offset bs non_nullable)) over)) c.told_by.ensures
