@@ -9,6 +9,6 @@ pub use crate::laws::lists::{
     equal_rows_rebuild_alike, gather_by_positions, gather_is_canonical,
     joined_lists_have_all_elements, joined_rows_have_all_elements, last_nulls_start_at_the_end,
     list_views_stand_for_their_lists, null_elements_go, overlapping_lists_part,
-    rebuilt_twice_is_rebuilt_once, tidy_is_canonical, tidy_rows_are_canonical,
-    trimmed_views_are_exact,
+    rebuilt_lists_are_not_refused, rebuilt_twice_is_rebuilt_once, tidy_is_canonical,
+    tidy_rows_are_canonical, trimmed_views_are_exact,
 };

@@ -8,14 +8,14 @@ use Rattle.std.specs.Borrow.{Bor}
 use Rattle.std.specs.List.{AllZip, All, flat_map, remove}
 use Rattle.std.specs.Option.{option_map}
 use Rattle.vx_base.specs.Fields.{place_of_name}
-use Rattle.vx_tree.specs.Tree.{Tree, structure, Trees, no_trees, tree, Valid, non_nullable, by_array}
+use Rattle.vx_tree.specs.Tree.{Tree, structure, Trees, no_trees, tree, Valid, non_nullable}
 use Rattle.vx_tree.specs.Meaning.{tree_len, kind_of, rows, trees_from}
 use Rattle.vx_tree.specs.Extents.{extent_of, joined_extent}
 use Rattle.vx_canonical.specs.Joined.{column_of, joined_state}
 use Rattle.vx_tree.specs.Operations.{IsNulled}
 use Rattle.vx_tree.specs.Plain.{IsPlain}
 use Rattle.vx_tree.specs.Shapes.{state_of, tree_state}
-use Rattle.vx_tree.specs.Validities.{array_of, is_full_state}
+use Rattle.vx_tree.specs.Validities.{is_full_state}
 use Rattle.vx_tree.specs.Slots.{validity_of}
 use Rattle.vx_structs.specs.Structs.Records.{pushed, pushed_kind}
 pub use Rattle.vx_tree.specs.Layouts.{is_struct}
@@ -98,18 +98,18 @@ pub record AreConcatenated (ts : List Tree) (r : Tree) : Type 0 where
 
 -- ---- nulls of records, pushed into their columns
 
--- a column, null where the records are; where by the state of their validity no record is null it stays
-abbrev pub IsPushedColumn : Valid → ℕ → Tree → Tree → Type 0
-IsPushedColumn v n c d = MatchBool (is_full_state (state_of v)) (d ≡ c) (IsNulled c (by_array (array_of v n)) d)
+-- a column, null by the validity of records; where by its state no record is null it stays
+abbrev pub IsPushedColumn : Valid → Tree → Tree → Type 0
+IsPushedColumn v c d = MatchBool (is_full_state (state_of v)) (d ≡ c) (IsNulled c v d)
 
--- the first column of a name, null where the records are
+-- the first column of a name, null by the validity of the records
 abbrev pub IsField : Tree → List ℕ → Tree → Type 0
-IsField t name r = IsSomeAnd (column_named t name) (λ c. IsPushedColumn (validity_of t) (tree_len t) c r)
+IsField t name r = IsSomeAnd (column_named t name) (λ c. IsPushedColumn (validity_of t) c r)
 
--- columns, null where the records are; where by the state of their validity no record is null they stay
-abbrev pub ArePushed : Valid → ℕ → List Tree → List Tree → Type 0
-ArePushed v n columns made =
-    MatchBool (is_full_state (state_of v)) (made ≡ columns) (AllZip (λ c d. IsNulled c (by_array (array_of v n)) d) columns made)
+-- columns, null by the validity of records; where by its state no record is null they stay
+abbrev pub ArePushed : Valid → List Tree → List Tree → Type 0
+ArePushed v columns made =
+    MatchBool (is_full_state (state_of v)) (made ≡ columns) (AllZip (λ c d. IsNulled c v d) columns made)
 
 -- the validity stays, or no record may be null
 abbrev pub pushed_validity : Bool → Valid → Valid
@@ -118,7 +118,7 @@ pushed_validity remove v = if remove then non_nullable else v
 pub record IsPushed (t : Tree) (remove : Bool) (r : Tree) : Type 0 where
   pub is_records : is_struct r ≡ true
   pub names : names_of r ≡ names_of t
-  pub columns : ArePushed (validity_of t) (tree_len t) (columns_of t) (columns_of r)
+  pub columns : ArePushed (validity_of t) (columns_of t) (columns_of r)
   pub validity : validity_of r ≡ pushed_validity remove (validity_of t)
   pub len : tree_len r ≡ tree_len t
   pub kind : kind_of r ≡ pushed_kind (is_full_state (tree_state t)) remove (kind_of t)

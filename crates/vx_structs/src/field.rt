@@ -18,7 +18,8 @@ use vx_tree::ArrayRef;
 
 impl StructArray {
     /// The first column of this name, null also where the record is null: where by the state of
-    /// their validity no record is null the column is shared as it is; else it becomes nullable.
+    /// their validity no record is null the column is shared as it is; else it becomes nullable, as
+    /// `push_validity_into_children` makes it.
     /// `unmasked_field_by_name` leaves a row in the place of a null record: of the records
     /// `{a:1}`, null, whose column a has the rows 1 and 9, it lends `[1,9]`, and this call gives
     /// `[1,null]`. Refuses `UnknownField` where no field has the name.
@@ -33,7 +34,6 @@ impl StructArray {
         if parts.validity.definitely_no_nulls() {
             return Ok(column.try_clone(alloc)?);
         }
-        let mask = parts.validity.to_array(alloc, parts.len)?;
-        column.mask(alloc, &mask)
+        Ok(column.nulled(alloc, parts.validity)?)
     }
 }

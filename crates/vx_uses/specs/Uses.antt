@@ -1,14 +1,13 @@
 -- What the callers of this crate conclude.
-use Rattle.std.specs.Prelude.{◌≡◌, ◌<◌, ◌≤◌, ◌+◌, ◌-◌, ◌⊎◌, ◌||◌, ◌++◌, ◌∷◌, [], ℕ, ℤ, negsuc, int_lt, Bool, true, false, List}
+use Rattle.std.specs.Prelude.{◌≡◌, ◌<◌, ◌≤◌, ◌+◌, ◌-◌, ◌⊎◌, ◌++◌, ◌∷◌, [], ℕ, ℤ, negsuc, int_lt, Bool, true, false, List}
 use Rattle.std.specs.Prelude.{length, map, sum, Option, Some, None, slice_index, slice_range, if◌then◌else◌}
 use Rattle.vx_base.specs.declared.errors.VortexError.{VortexError}
 use Rattle.vx_base.specs.declared.errors.VortexError.TheVariants.{Negative, OutOfBounds}
 use Rattle.vx_base.specs.Kinds.{Kind, lists, is_integers, is_nullable_kind}
-use Rattle.vx_base.specs.Refusals.{Refusal, IsMemoryOr, mismatched_types, negative, out_of_bounds, overflow, or_else}
+use Rattle.vx_base.specs.Refusals.{Refusal, IsMemoryOr, mismatched_types, negative, out_of_bounds, or_else}
 use Rattle.vx_base.specs.Rows.{Row, is_present, list_in, number_in}
 use Rattle.vx_tree.specs.Tree.{Tree, list_view, non_nullable}
 use Rattle.vx_tree.specs.Faults.{slice_fault, indices_fault}
-use Rattle.vx_tree.specs.Layouts.{is_fixed_list, is_struct}
 use Rattle.vx_tree.specs.Meaning.{tree_len, kind_of, row_at}
 use Rattle.vx_lists.specs.ListViews.Faults.{list_view_fault, list_row_fault, whole_at}
 use Rattle.vx_lists.specs.ListViews.Layout.{size_of, starts_from}
@@ -51,13 +50,6 @@ abbrev pub page_fault : Tree → ℕ → ℕ → Tree → Option Refusal
 page_fault column start end order =
     or_else (slice_fault (tree_len column) start end)
     (if is_integers (kind_of order) then indices_fault (end - start) order else Some mismatched_types)
-
--- what may refuse an order beside: lists of a fixed size, or records, of which there are to be more than the page has, may
--- need more elements than can be counted
-abbrev pub MayPassCounts : Tree → ℕ → Tree → Option Refusal → Type 0
-MayPassCounts column len order None = Unit {0}
-MayPassCounts column len order (Some fault) =
-    (fault ≡ overflow) × ((is_fixed_list column || is_struct column) ≡ true) × (len < tree_len order)
 
 -- a number, where there is one, above a bound
 abbrev pub exceeds : ℤ → Option ℤ → Bool

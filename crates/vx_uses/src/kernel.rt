@@ -1,19 +1,19 @@
 //! Columns that a kernel cuts, regroups and reads, whatever their layout.
 
-ghost use Rattle.std.specs.Prelude.{◌≡◌, ◌<◌, ◌≤◌, ◌+◌, ◌-◌, ◌*◌, true, count_by, is_some, replicate, Option, IfOk, IfSome, IsOkUnless, slice_range};
+ghost use Rattle.std.specs.Prelude.{◌≡◌, ◌<◌, ◌≤◌, ◌+◌, ◌-◌, ◌*◌, true, count_by, is_some, replicate, IfOk, IfSome, IsOkUnless, slice_range};
 ghost use Rattle.std.specs.List.{filter};
 ghost use Rattle.std.specs.Option.{option_map};
 ghost use Rattle.vx_base.specs.Kinds.{is_integers, is_nullable_kind, or_nullable};
-ghost use Rattle.vx_base.specs.Refusals.{Refusal, Refuses, or_else};
+ghost use Rattle.vx_base.specs.Refusals.{Refuses, or_else};
 ghost use Rattle.vx_base.specs.Rows.{is_present, list_in};
 ghost use Rattle.vx_base.specs.declared.errors.VortexError.TheVariants.{Memory};
-ghost use Rattle.vx_tree.specs.Faults.{slice_fault};
+ghost use Rattle.vx_tree.specs.Faults.{slice_fault, take_overflow};
 ghost use Rattle.vx_tree.specs.Meaning.{tree_len, kind_of, row_at, rows};
 ghost use Rattle.vx_tree.specs.Operations.{picks, positions};
 ghost use Rattle.vx_tree.specs.Tree.{non_nullable};
 ghost use Rattle.vx_lists.specs.FixedSizeLists.{fixed_list_fault};
 ghost use Rattle.vx_lists.specs.ListViews.{elements_of};
-ghost use Rattle.vx_uses.specs.Uses.{MayPassCounts, page_fault, is_above};
+ghost use Rattle.vx_uses.specs.Uses.{page_fault, is_above};
 
 use crate::kernel_laws::{rows_are_read_in_order, tested_rows_are_filtered};
 use std::alloc::Global;
@@ -25,9 +25,9 @@ use vx_tree::{ArrayRef, TypedArray, Validity, fewer_rows_are_countable};
 
 /// A page of a column, in another order: the rows of `page` at the places that `order` names.
 /// Refuses `OutOfBounds` where the page does not lie within the column, `MismatchedTypes` where the
-/// order is of no integers, at its first faulty row `Negative` or `OutOfBounds`, then `Overflow`,
-/// which only lists of a fixed size and records meet, and only where the order is longer than the
-/// page.
+/// order is of no integers, at its first faulty row `Negative` or `OutOfBounds`, then `Overflow`
+/// where so many rows of the column as the order has need more elements than can be counted, as
+/// lists of a fixed size may: never where the order is no longer than the page.
 pub fn ordered_page(
     alloc: Global,
     column: &ArrayRef,
@@ -40,9 +40,11 @@ pub fn ordered_page(
         ≡ or_nullable (is_nullable_kind (kind_of order.now)) (kind_of column.now)) }
     ensures within { IfOk result (λ _. page.end ≤ tree_len column.now) }
     ensures integers { IfOk result (λ _. is_integers (kind_of order.now) ≡ true) }
-    ensures refuses { (passed : Option Refusal)
-        × (MayPassCounts column.now (page.end - page.start) order.now passed
-        × Refuses result (or_else (page_fault column.now page.start page.end order.now) passed)) }
+    ensures refuses { Refuses result (or_else
+        (page_fault column.now page.start page.end order.now)
+        (take_overflow column.now (tree_len order.now))) }
+    ensures no_longer { tree_len order.now ≤ page.end - page.start →
+        Refuses result (page_fault column.now page.start page.end order.now) }
 {
     let page = column.slice(alloc, page)?;
     fewer_rows_are_countable(&page);

@@ -9,7 +9,9 @@ ghost use Rattle.vx_lists.specs.ListViews.Modes.{IsRebuiltBy};
 
 use std::alloc::Global;
 use vx_base::VortexError;
-use vx_lists::laws::{alike_views_have_equal_places, rebuilt_twice_is_rebuilt_once};
+use vx_lists::laws::{
+    alike_views_have_equal_places, rebuilt_lists_are_not_refused, rebuilt_twice_is_rebuilt_once,
+};
 use vx_lists::{ListViewArray, ListViewArrayExt, ListViewRebuildMode};
 use vx_tree::row_laws::rows_stand_at_their_places;
 
@@ -26,7 +28,8 @@ pub fn rebuilt_by(
     Ok(lists.rebuild(alloc, mode)?)
 }
 
-/// Lists rebuilt by a mode, and these rebuilt by it again: the second time nothing changes.
+/// Lists rebuilt by a mode, and these rebuilt by it again: the second time nothing changes, and
+/// nothing but want of memory refuses.
 pub fn rebuilt_twice(
     alloc: Global,
     lists: &ListViewArray,
@@ -34,15 +37,17 @@ pub fn rebuilt_twice(
 ) -> Result<(ListViewArray, ListViewArray), VortexError>
     ensures alike { IfOk result (λ r. AreAlike r.0 r.1) }
     ensures rows { IfOk result (λ r. (rows r.0 ≡ rows lists.now) × (rows r.1 ≡ rows lists.now)) }
+    ensures refuses { Refuses result (rebuild_fault mode lists.now) }
 {
     rebuilt_twice_is_rebuilt_once();
+    rebuilt_lists_are_not_refused();
     let once = rebuilt_by(alloc, lists, mode)?;
     let twice = rebuilt_by(alloc, &once, mode)?;
     Ok((once, twice))
 }
 
 /// Whether list `i`, once a mode has rebuilt the lists, starts elsewhere or is longer or shorter
-/// when that mode rebuilds them again, which is never so.
+/// when that mode rebuilds them again, which is never so. Refuses as rebuilding them once does.
 pub fn moves_again(
     alloc: Global,
     lists: &ListViewArray,
@@ -50,7 +55,8 @@ pub fn moves_again(
     i: usize,
 ) -> Result<bool, VortexError>
     requires { i < tree_len lists.now }
-    ensures { IfOk result (λ moves. moves ≡ false) }
+    ensures stays { IfOk result (λ moves. moves ≡ false) }
+    ensures refuses { Refuses result (rebuild_fault mode lists.now) }
 {
     rows_stand_at_their_places();
     let (once, twice) = rebuilt_twice(alloc, lists, mode)?;

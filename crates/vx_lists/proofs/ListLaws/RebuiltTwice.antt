@@ -1,13 +1,15 @@
--- A list view that a mode rebuilt is alike when that mode rebuilds it again.
-use Rattle.std.proofs.Common.{◌≡◌, ℕ, ◌+◌, ◌-◌, ◌<◌, ◌≤◌, Bool, true, false, List, [], ◌∷◌, length, drop, map, get_or, refl, sym, ◌∙◌, ap, subst, inl, inr, arith}
+-- A list view that a mode rebuilt is alike when that mode rebuilds it again, and not refused.
+use Rattle.std.proofs.Common.{◌≡◌, ℕ, ◌+◌, ◌-◌, ◌<◌, ◌≤◌, Bool, true, false, cond, eqb, eq-eqb, Option, Some, None, List, [], ◌∷◌, length, drop, map, get_or, refl, sym, ◌∙◌, ap, subst, inl, inr, arith}
 use Rattle.std.proofs.lemmas.Bool.{cases_lt}
 use Rattle.std.proofs.lemmas.List.{length-take, take_all, get_or-map}
+use Rattle.vx_base.specs.Refusals.{Refusal, not_implemented}
 use Rattle.vx_base.specs.Rows.{count_in}
 use Rattle.vx_tree.specs.Tree.{Tree}
 use Rattle.vx_tree.specs.Meaning.{tree_len, row_at, rows, valid_mask}
 use Rattle.vx_lists.specs.declared.list_view.rebuild.ListViewRebuildMode.{ListViewRebuildMode}
 use Rattle.vx_lists.specs.declared.list_view.rebuild.ListViewRebuildMode.TheVariants.{MakeZeroCopyToList, TrimElements, MakeExact, OverlapCompression}
 use Rattle.vx_lists.specs.ListViews.Layout.{IsWellFormed, IsTidy}
+use Rattle.vx_lists.specs.ListViews.Faults.{rebuild_overflow, rebuild_fault}
 use Rattle.vx_lists.specs.ListViews.References.{start_of, end_of, AreBounds, IsTrimmed, IsTrimmedToBounds}
 use Rattle.vx_lists.specs.ListViews.{elements_of, offsets_of, sizes_of, validity_of, flag_of, with_flag, counts_in, list_layout_of, list_rows, IsRebuilt, AreAlike}
 use Rattle.vx_lists.specs.ListViews.Modes.{IsMadeBy, IsRebuiltBy}
@@ -155,4 +157,42 @@ rebuilt_twice mode t r q first second =
           let len : tree_len r ≡ tree_len t = ap tree_len empty ∙ len-offsets_of t in
           let flagged : with_flag true r ≡ r = ap (with_flag true) empty ∙ sym empty in
           again r q (second.no_rows (omega arith) ∙ flagged)
+    ]
+
+-- ---- what a mode makes is not refused by it
+
+flagged_fault : (empty flag : Bool) (fault : Option Refusal) → flag ≡ true → cond empty None (cond flag None fault) ≡ None
+flagged_fault true flag fault set = refl
+flagged_fault false true fault set = refl
+flagged_fault false false fault set = cc
+
+flagged_not_refused : (r : Tree) → flag_of r ≡ true → cond (eqb (tree_len r) 0) None (cond (flag_of r) None (rebuild_overflow r)) ≡ None
+flagged_not_refused r set = flagged_fault (eqb (tree_len r) 0) (flag_of r) (rebuild_overflow r) set
+
+made_not_refused : (mode : ListViewRebuildMode) (flag : Bool) (t r : Tree) → flag_of t ≡ flag → IsMadeBy mode flag t r → rebuild_fault mode r ≡ None
+made_not_refused MakeZeroCopyToList true t r set made = flagged_not_refused r (ap flag_of made ∙ set)
+made_not_refused MakeZeroCopyToList false t r set made = flagged_not_refused r made.flag
+made_not_refused TrimElements true t r set made = refl
+made_not_refused TrimElements false t r set made = refl
+made_not_refused MakeExact true t r set made = flagged_not_refused r (made.3.flag ∙ set)
+made_not_refused MakeExact false t r set made = flagged_not_refused r made.flag
+made_not_refused OverlapCompression true t r set made = absurd made
+made_not_refused OverlapCompression false t r set made = absurd made
+
+empty_fault : (n : ℕ) (fault : Option Refusal) → n ≡ 0 → cond (eqb n 0) None fault ≡ None
+empty_fault n fault none = ap (λ b. cond b None fault) (eq-eqb n 0 none)
+
+empty_not_refused : (mode : ListViewRebuildMode) (r : Tree) → tree_len r ≡ 0 → rebuild_fault mode r ≡ None
+empty_not_refused MakeZeroCopyToList r none = empty_fault (tree_len r) (cond (flag_of r) None (rebuild_overflow r)) none
+empty_not_refused TrimElements r none = refl
+empty_not_refused MakeExact r none = empty_fault (tree_len r) (cond (flag_of r) None (rebuild_overflow r)) none
+empty_not_refused OverlapCompression r none = empty_fault (tree_len r) (Some not_implemented) none
+
+pub rebuilt_not_refused : (mode : ListViewRebuildMode) (t r : Tree) → IsRebuiltBy mode t r → rebuild_fault mode r ≡ None
+rebuilt_not_refused mode t r made =
+    elim (cases_lt 0 (tree_len t)) [
+      | inl some ↦ made_not_refused mode (flag_of t) t r refl (made.some_rows (λ none. absurd (omega arith)))
+      | inr few ↦
+          let none : tree_len t ≡ 0 = omega arith in
+          empty_not_refused mode r (ap tree_len (made.no_rows none) ∙ len-offsets_of t ∙ none)
     ]

@@ -1,6 +1,6 @@
 // Laws of list layouts.
 
-ghost use Rattle.std.specs.Prelude.{◌≡◌, ◌↔◌, ◌<◌, ◌∷◌, [], ℕ, true, false, List, Option, length, map, sum, take, slice_index};
+ghost use Rattle.std.specs.Prelude.{◌≡◌, ◌↔◌, ◌<◌, ◌∷◌, [], ℕ, true, false, List, Option, None, length, map, sum, take, slice_index};
 ghost use Rattle.std.specs.Prelude.{slice_index_or};
 ghost use Rattle.std.specs.List.{flat_map};
 ghost use Rattle.vx_base.specs.Rows.{Row, count_in};
@@ -10,6 +10,7 @@ ghost use Rattle.vx_tree.specs.Tree.{Tree};
 ghost use Rattle.vx_lists.specs.ListViews.Layout.{ListLayout, layout, rows_of, IsWellFormed, StandsFor, items_of, size_of, canonical, IsTidy};
 ghost use Rattle.vx_lists.specs.ListViews.Layout.{valid_total, numbered, position_rows, map_layout};
 ghost use Rattle.vx_lists.specs.ListViews.References.{IsTrimmedToBounds};
+ghost use Rattle.vx_lists.specs.ListViews.Faults.{rebuild_fault};
 ghost use Rattle.vx_lists.specs.ListViews.{offsets_of, sizes_of, flag_of, counts_in, list_layout_of, list_rows, AreAlike, IsRebuilt};
 ghost use Rattle.vx_lists.specs.ListViews.Modes.{HasEmptyNulls, IsExact, IsRebuiltBy};
 
@@ -137,6 +138,12 @@ pub fn rebuilt_twice_is_rebuilt_once()
         IsRebuiltBy mode t r → IsRebuiltBy mode r q → AreAlike r q }
     ensures flag { (mode : ListViewRebuildMode) (t r q : Tree) →
         IsRebuiltBy mode t r → IsRebuiltBy mode r q → flag_of q ≡ flag_of r }
+{}
+
+/// What a mode has rebuilt is not refused when that mode rebuilds it again.
+pub fn rebuilt_lists_are_not_refused()
+    ensures { (mode : ListViewRebuildMode) (t r : Tree) →
+        IsRebuiltBy mode t r → rebuild_fault mode r ≡ None }
 {}
 
 /// Each list of a list view starts where it does in one that is alike, and is as long.

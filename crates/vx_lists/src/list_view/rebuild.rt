@@ -30,7 +30,8 @@ pub enum ListViewRebuildMode {
     MakeZeroCopyToList,
     /// The elements before the first list and after the last one are left out.
     TrimElements,
-    /// The lists lie end to end, with no element before the first and none after the last.
+    /// The lists lie end to end, with no element before the first and none after the last. A null
+    /// list of a flagged array, as `mask` leaves it, keeps its size and its elements.
     MakeExact,
     /// Lists share the elements that they have in common: not implemented.
     OverlapCompression,

@@ -80,6 +80,27 @@ fn records_that_are_all_null(rt: HostRuntime) {
     );
 }
 
+// Whether the state alone of an array says that every row is null.
+fn is_null_by_state(alloc: Global, array: &ArrayRef) -> Result<bool, VortexError> {
+    Ok(array.validity(alloc)?.definitely_all_null())
+}
+
+#[test]
+fn a_state_without_an_array_reaches_the_columns(rt: HostRuntime) {
+    let nulls = records(rt.alloc(), Validity::AllInvalid).expect(&rt, "made");
+    let pushed = nulls
+        .push_validity_into_children(rt.alloc(), true)
+        .expect(&rt, "made");
+    let column = pushed.unmasked_field_by_name("a").expect(&rt, "made");
+    assert!(rt; is_null_by_state(rt.alloc(), column).expect(&rt, "read"));
+    let field = nulls.field(rt.alloc(), "a").expect(&rt, "made");
+    assert!(rt; is_null_by_state(rt.alloc(), &field).expect(&rt, "read"));
+    let validity = valid_where(rt.alloc(), &[false, false]).expect(&rt, "made");
+    let told = records(rt.alloc(), validity).expect(&rt, "made");
+    let field = told.field(rt.alloc(), "a").expect(&rt, "made");
+    assert!(rt; !is_null_by_state(rt.alloc(), &field).expect(&rt, "read"));
+}
+
 #[test]
 fn columns_stay_where_no_record_is_null(rt: HostRuntime) {
     let own = records(rt.alloc(), Validity::AllValid).expect(&rt, "made");

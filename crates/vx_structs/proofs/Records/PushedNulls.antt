@@ -1,20 +1,19 @@
 -- Nulls of records, pushed into their columns.
-use Rattle.std.proofs.Common.{◌≡◌, ℕ, zero, suc, ◌+◌, ◌<◌, Bool, true, false, List, [], ◌∷◌, length, map, None, refl, sym, ◌∙◌, ap, zero-add, eq-eqb, arith}
+use Rattle.std.proofs.Common.{◌≡◌, ℕ, zero, suc, ◌+◌, ◌<◌, Bool, true, false, List, [], ◌∷◌, length, map, None, refl, sym, ◌∙◌, ap, subst, zero-add, arith}
 use Rattle.std.specs.Prelude.{if◌then◌else◌}
 use Rattle.std.specs.List.{All, AllZip, range_with_len}
 use Rattle.std.proofs.lemmas.List.Elements.{All-weaker}
 use Rattle.std.proofs.lemmas.Simd.{map-map}
 use Rattle.vx_base.proofs.ListParts.{map_range_same}
-use Rattle.vx_base.specs.Kinds.{kind, records}
+use Rattle.vx_base.specs.Kinds.{kind, records, or_nullable}
 use Rattle.vx_base.specs.Rows.{Row, null, record_of, Fields, field, is_present}
-use Rattle.vx_tree.specs.Faults.{validity_fault}
 use Rattle.vx_tree.specs.Formed.{WellFormed, ValidFits, IsStruct, AllLen, column_count}
 use Rattle.vx_canonical.specs.Joined.{column_at, column_of}
-use Rattle.vx_tree.specs.Meaning.{tree_len, kinds_of, row_at, rows, fields_at, is_valid_at, nullable, trees_from}
+use Rattle.vx_tree.specs.Meaning.{tree_len, kind_of, kinds_of, row_at, rows, fields_at, is_valid_at, nullable, trees_from}
 use Rattle.vx_tree.specs.Operations.{IsNulled}
 use Rattle.vx_tree.specs.Shapes.{state_of}
 use Rattle.vx_tree.specs.Tree.{Tree, structure, Trees, no_trees, tree, Valid, non_nullable, all_valid, all_invalid, by_array}
-use Rattle.vx_tree.specs.Validities.{array_of, is_full_state}
+use Rattle.vx_tree.specs.Validities.{is_full_state}
 use Rattle.vx_canonical.proofs.JoinedRecords.{fields-same}
 use Rattle.vx_tree.proofs.RowLists.{rows_by_place}
 use Rattle.vx_tree.specs.Slots.{validity_of}
@@ -24,24 +23,11 @@ use Rattle.vx_structs.proofs.Records.Parts.{column_list-from, trees_from-list, l
 
 -- ---- what a validity tells
 
-is_valid_at-array_of : (v : Valid) (n i : ℕ) → is_valid_at (by_array (array_of v n)) i ≡ is_valid_at v i
-is_valid_at-array_of non_nullable n i = refl
-is_valid_at-array_of all_valid n i = refl
-is_valid_at-array_of all_invalid n i = refl
-is_valid_at-array_of (by_array t) n i = refl
-
 is_valid_at-full : (v : Valid) (i : ℕ) → is_full_state (state_of v) ≡ true → is_valid_at v i ≡ true
 is_valid_at-full non_nullable i full = refl
 is_valid_at-full all_valid i full = refl
 is_valid_at-full all_invalid i full = full
 is_valid_at-full (by_array t) i full = cc
-
--- the array that tells which of n rows are valid is a mask of n rows
-pub validity_fault-array_of : (v : Valid) (n : ℕ) → ValidFits v n → validity_fault (by_array (array_of v n)) n ≡ None
-validity_fault-array_of non_nullable n fits = rw (eq-eqb n n refl) refl
-validity_fault-array_of all_valid n fits = rw (eq-eqb n n refl) refl
-validity_fault-array_of all_invalid n fits = rw (eq-eqb n n refl) refl
-validity_fault-array_of (by_array t) n fits = rw (fits.kind, fits.len, eq-eqb n n refl) refl
 
 -- ---- columns
 
@@ -54,62 +40,60 @@ pub record AreNullAlong (v : Valid) (n : ℕ) (ts us : Trees) : Type 0 where
 AreNullAlong-full : (v : Valid) (n : ℕ) (ts : Trees) → is_full_state (state_of v) ≡ true → AllLen n ts → AreNullAlong v n ts ts
 AreNullAlong-full v n ts full lens = record { count = refl; lens = lens; rows = λ k i here inside. rw (is_valid_at-full v i full) refl }
 
-AreNullAlong-tree : (v : Valid) (m : Tree) (n : ℕ) (t u : Tree) (ts us : Trees) → ((i : ℕ) → is_valid_at (by_array m) i ≡ is_valid_at v i)
-    → IsNulled t (by_array m) u → tree_len t ≡ n → AreNullAlong v n ts us → AreNullAlong v n (tree t ts) (tree u us)
-AreNullAlong-tree v m n t u ts us tells made len rest = record {
+AreNullAlong-tree : (v : Valid) (n : ℕ) (t u : Tree) (ts us : Trees) → IsNulled t v u → tree_len t ≡ n → AreNullAlong v n ts us → AreNullAlong v n (tree t ts) (tree u us)
+AreNullAlong-tree v n t u ts us made len rest = record {
   count = ap (λ k. k + 1) rest.count;
   lens = (made.len ∙ len, rest.lens);
   rows = at;
 }
   where
     at : (k i : ℕ) → k < column_count ts + 1 → i < n → row_at (column_at (tree u us) k) i ≡ (if is_valid_at v i then row_at (column_at (tree t ts) k) i else null)
-    at zero i here inside = made.rows i (omega (arith, len)) ∙ ap (λ b. if b then row_at t i else null) (tells i)
+    at zero i here inside = made.rows i (omega (arith, len))
     at (suc k) i here inside = rest.rows k i (omega arith) inside
 
-AreNullAlong-mask : (v : Valid) (m : Tree) (n : ℕ) (ts us : List Tree) → ((i : ℕ) → is_valid_at (by_array m) i ≡ is_valid_at v i)
-    → AllZip (λ c d. IsNulled c (by_array m) d) ts us → AllLen n (trees_from ts) → AreNullAlong v n (trees_from ts) (trees_from us)
-AreNullAlong-mask v m n [] [] tells made lens = record { count = refl; lens = tt; rows = λ k i here inside. absurd (omega arith) }
-AreNullAlong-mask v m n [] (u ∷ us) tells made lens = absurd made
-AreNullAlong-mask v m n (t ∷ ts) [] tells made lens = absurd made
-AreNullAlong-mask v m n (t ∷ ts) (u ∷ us) tells made lens = AreNullAlong-tree v m n t u (trees_from ts) (trees_from us) tells made.0 lens.0 (AreNullAlong-mask v m n ts us tells made.1 lens.1)
+AreNullAlong-each : (v : Valid) (n : ℕ) (ts us : List Tree) → AllZip (λ c d. IsNulled c v d) ts us → AllLen n (trees_from ts) → AreNullAlong v n (trees_from ts) (trees_from us)
+AreNullAlong-each v n [] [] made lens = record { count = refl; lens = tt; rows = λ k i here inside. absurd (omega arith) }
+AreNullAlong-each v n [] (u ∷ us) made lens = absurd made
+AreNullAlong-each v n (t ∷ ts) [] made lens = absurd made
+AreNullAlong-each v n (t ∷ ts) (u ∷ us) made lens = AreNullAlong-tree v n t u (trees_from ts) (trees_from us) made.0 lens.0 (AreNullAlong-each v n ts us made.1 lens.1)
 
-AreNullAlong-pushed : (v : Valid) (n : ℕ) (ts us : List Tree) → ArePushed v n ts us → AllLen n (trees_from ts) → AreNullAlong v n (trees_from ts) (trees_from us)
+AreNullAlong-pushed : (v : Valid) (n : ℕ) (ts us : List Tree) → ArePushed v ts us → AllLen n (trees_from ts) → AreNullAlong v n (trees_from ts) (trees_from us)
 AreNullAlong-pushed non_nullable n ts us made lens = rw made (AreNullAlong-full non_nullable n (trees_from ts) refl lens)
 AreNullAlong-pushed all_valid n ts us made lens = rw made (AreNullAlong-full all_valid n (trees_from ts) refl lens)
-AreNullAlong-pushed all_invalid n ts us made lens = AreNullAlong-mask all_invalid (array_of all_invalid n) n ts us (is_valid_at-array_of all_invalid n) made lens
-AreNullAlong-pushed (by_array t) n ts us made lens = AreNullAlong-mask (by_array t) t n ts us (λ i. refl) made lens
+AreNullAlong-pushed all_invalid n ts us made lens = AreNullAlong-each all_invalid n ts us made lens
+AreNullAlong-pushed (by_array t) n ts us made lens = AreNullAlong-each (by_array t) n ts us made lens
 
--- each column takes a mask of the records' validity
-pub columns_take_the_mask : (ns : List (List ℕ)) (cs : List Tree) (v : Valid) (n : ℕ) (m : Tree) → WellFormed (structure ns (trees_from cs) v n) → m ≡ array_of v n
-    → All (λ c. validity_fault (by_array m) (tree_len c) ≡ None) cs
-columns_take_the_mask ns cs v n m formed same =
-    All-weaker (λ c. tree_len c ≡ n) (λ c. validity_fault (by_array m) (tree_len c) ≡ None) (λ c len. rw (same, len) (validity_fault-array_of v n formed.0)) cs (each_len n cs formed.1.lens)
+-- the validity of records is that of the rows of each column
+pub columns_fit : (ns : List (List ℕ)) (cs : List Tree) (v : Valid) (n : ℕ) → WellFormed (structure ns (trees_from cs) v n) → All (λ c. ValidFits v (tree_len c)) cs
+columns_fit ns cs v n formed =
+    All-weaker (λ c. tree_len c ≡ n) (λ c. ValidFits v (tree_len c)) (λ c len. subst (ValidFits v) (sym len) formed.0) cs (each_len n cs formed.1.lens)
 
-ArePushed-masked : (v : Valid) (n : ℕ) (cs ds : List Tree) → is_full_state (state_of v) ≡ false → AllZip (λ c d. IsNulled c (by_array (array_of v n)) d) cs ds
-    → ArePushed v n cs ds
-ArePushed-masked non_nullable n cs ds full made = cc
-ArePushed-masked all_valid n cs ds full made = cc
-ArePushed-masked all_invalid n cs ds full made = made
-ArePushed-masked (by_array t) n cs ds full made = made
+ArePushed-each : (v : Valid) (cs ds : List Tree) → is_full_state (state_of v) ≡ false → AllZip (λ c d. IsNulled c v d) cs ds → ArePushed v cs ds
+ArePushed-each non_nullable cs ds full made = cc
+ArePushed-each all_valid cs ds full made = cc
+ArePushed-each all_invalid cs ds full made = made
+ArePushed-each (by_array t) cs ds full made = made
 
-pub masked_columns_are_pushed : (t : Tree) (ns : List (List ℕ)) (cs ds : List Tree) (v : Valid) (n : ℕ) (m : Tree) → t ≡ structure ns (trees_from cs) v n → is_full_state (state_of v) ≡ false
-    → m ≡ array_of v n → AllZip (λ c d. IsNulled c (by_array m) d) cs ds → ArePushed (validity_of t) (tree_len t) (columns_of t) ds
-masked_columns_are_pushed t ns cs ds v n m before full same made = rw (before, column_list-from cs) (ArePushed-masked v n cs ds full (rw same at made))
+pub nulled_columns_are_pushed : (t : Tree) (ns : List (List ℕ)) (cs ds : List Tree) (v : Valid) (n : ℕ) → t ≡ structure ns (trees_from cs) v n → is_full_state (state_of v) ≡ false
+    → AllZip (λ c d. IsNulled c v d) cs ds → ArePushed (validity_of t) (columns_of t) ds
+nulled_columns_are_pushed t ns cs ds v n before full made = rw (before, column_list-from cs) (ArePushed-each v cs ds full made)
 
 -- ---- their kinds
 
-kinds_of-mask : (m : Tree) (ts us : List Tree) → AllZip (λ c d. IsNulled c (by_array m) d) ts us → kinds_of (trees_from us) ≡ nullable_kinds (kinds_of (trees_from ts))
-kinds_of-mask m [] [] made = refl
-kinds_of-mask m [] (u ∷ us) made = absurd made
-kinds_of-mask m (t ∷ ts) [] made = absurd made
-kinds_of-mask m (t ∷ ts) (u ∷ us) made = λ i. kind (made.0.kind i) (kinds_of-mask m ts us made.1 i)
+kinds_of-each : (v : Valid) (ts us : List Tree) → nullable v ≡ true → AllZip (λ c d. IsNulled c v d) ts us → kinds_of (trees_from us) ≡ nullable_kinds (kinds_of (trees_from ts))
+kinds_of-each v [] [] may made = refl
+kinds_of-each v [] (u ∷ us) may made = absurd made
+kinds_of-each v (t ∷ ts) [] may made = absurd made
+kinds_of-each v (t ∷ ts) (u ∷ us) may made =
+    let here = made.0.kind ∙ ap (λ b. or_nullable b (kind_of t)) may in
+    λ i. kind (here i) (kinds_of-each v ts us may made.1 i)
 
-kinds_of-pushed : (v : Valid) (n : ℕ) (ts us : List Tree) → ArePushed v n ts us
+kinds_of-pushed : (v : Valid) (ts us : List Tree) → ArePushed v ts us
     → kinds_of (trees_from us) ≡ (if is_full_state (state_of v) then kinds_of (trees_from ts) else nullable_kinds (kinds_of (trees_from ts)))
-kinds_of-pushed non_nullable n ts us made = ap (λ cs. kinds_of (trees_from cs)) made
-kinds_of-pushed all_valid n ts us made = ap (λ cs. kinds_of (trees_from cs)) made
-kinds_of-pushed all_invalid n ts us made = kinds_of-mask (array_of all_invalid n) ts us made
-kinds_of-pushed (by_array t) n ts us made = kinds_of-mask t ts us made
+kinds_of-pushed non_nullable ts us made = ap (λ cs. kinds_of (trees_from cs)) made
+kinds_of-pushed all_valid ts us made = ap (λ cs. kinds_of (trees_from cs)) made
+kinds_of-pushed all_invalid ts us made = kinds_of-each all_invalid ts us refl made
+kinds_of-pushed (by_array t) ts us made = kinds_of-each (by_array t) ts us refl made
 
 nullable-pushed_validity : (remove : Bool) (v : Valid) → nullable (pushed_validity remove v) ≡ (if remove then false else nullable v)
 nullable-pushed_validity true v = refl
@@ -168,17 +152,17 @@ pushed_validity_fits t ns cs v w n false before formed after = rw (after, before
 
 -- what was made of the parts of records, as said of those parts
 pushed_parts : (t : Tree) (ns : List (List ℕ)) (cs ds : List Tree) (v : Valid) (n : ℕ) → t ≡ structure ns (trees_from cs) v n
-    → ArePushed (validity_of t) (tree_len t) (columns_of t) ds → ArePushed v n cs ds
+    → ArePushed (validity_of t) (columns_of t) ds → ArePushed v cs ds
 pushed_parts t ns cs ds v n before made = rw (before, column_list-from cs) at made
 
 pub pushed_columns_are_formed : (t : Tree) (ns ms : List (List ℕ)) (cs ds : List Tree) (v : Valid) (n : ℕ) → t ≡ structure ns (trees_from cs) v n
-    → WellFormed (structure ns (trees_from cs) v n) → ArePushed (validity_of t) (tree_len t) (columns_of t) ds → ms ≡ ns → IsStruct ms (trees_from ds) n
+    → WellFormed (structure ns (trees_from cs) v n) → ArePushed (validity_of t) (columns_of t) ds → ms ≡ ns → IsStruct ms (trees_from ds) n
 pushed_columns_are_formed t ns ms cs ds v n before formed made same =
     let along = AreNullAlong-pushed v n cs ds (pushed_parts t ns cs ds v n before made) formed.1.lens in
     rw same (record { named = formed.1.named ∙ sym along.count; lens = along.lens })
 
 pub pushed_records : (t r : Tree) (ns ms : List (List ℕ)) (cs ds : List Tree) (v w : Valid) (n : ℕ) (remove : Bool) → t ≡ structure ns (trees_from cs) v n
-    → WellFormed (structure ns (trees_from cs) v n) → ArePushed (validity_of t) (tree_len t) (columns_of t) ds → ms ≡ ns
+    → WellFormed (structure ns (trees_from cs) v n) → ArePushed (validity_of t) (columns_of t) ds → ms ≡ ns
     → w ≡ pushed_validity remove (validity_of t) → r ≡ structure ms (trees_from ds) w n → IsPushed t remove r
 pushed_records t r ns ms cs ds v w n remove before formed made same left after =
     let pushed = pushed_parts t ns cs ds v n before made in
@@ -191,7 +175,7 @@ pushed_records t r ns ms cs ds v w n remove before formed made same left after =
       columns = rw (column_list-from cs, column_list-from ds) pushed;
       validity = refl;
       len = refl;
-      kind = λ i. records ns (kinds_of-pushed v n cs ds pushed i) (nullable-pushed_validity remove v i);
+      kind = λ i. records ns (kinds_of-pushed v cs ds pushed i) (nullable-pushed_validity remove v i);
       same_rows = rows-pushed remove ns (trees_from cs) (trees_from ds) v n formed.1.named along;
     })
 

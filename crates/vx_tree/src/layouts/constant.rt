@@ -25,7 +25,6 @@ impl ArrayRef {
     pub fn constant(alloc: Global, scalar: Scalar, len: usize) -> Result<ArrayRef, VortexError>
         ensures { Gives result (λ a. a ≡ constant scalar.kind scalar.row len) }
     {
-        let _fits = scalar.dtype();
         ArrayRef::from_parts(alloc, Layout::Constant { scalar, len })
     }
 

@@ -73,7 +73,8 @@ impl Validity {
     }
 
     /// Whether none of `len` rows is null. Asks that an array has `len` rows. Refuses
-    /// `MismatchedTypes` where the array is not one of plain booleans.
+    /// `MismatchedTypes` where the array is not one of plain booleans, also of no rows, where
+    /// `into_non_nullable` does not look at it.
     pub fn execute_no_nulls(&self, alloc: Global, len: usize) -> Result<bool, VortexError>
         requires { IsLenOf (valid_of self.now) len }
         ensures ok { IfOk result (λ b. b ≡ has_no_nulls (valid_of self.now) len) }

@@ -19,7 +19,7 @@ use vx_base::{Mask, Nullability, VortexError};
 
 impl Validity {
     /// Whether the same of `len` rows are valid in both. Asks that an array has `len` rows. Refuses
-    /// `MismatchedTypes` where either array is not one of plain booleans.
+    /// `MismatchedTypes` where either array is not one of plain booleans, also of no rows.
     pub fn mask_eq(&self, alloc: Global, other: &Validity, len: usize) -> Result<bool, VortexError>
         requires mine { IsLenOf (valid_of self.now) len }
         requires theirs { IsLenOf (valid_of other.now) len }
