@@ -10,9 +10,9 @@ ghost use Rattle.vx_tree.specs.Plain.{IsPlain};
 ghost use Rattle.vx_tree.specs.Extents.{extent_of, joined_extent};
 ghost use Rattle.vx_canonical.specs.Joined.{joined_state};
 ghost use Rattle.vx_tree.specs.Flags.{is_flagged};
-ghost use Rattle.vx_canonical.specs.Canonical.{IsCanonical};
+ghost use Rattle.vx_canonical.specs.Canonical.{IsCanonical, IsCanonicalWithin};
 ghost use Rattle.vx_tree.specs.CanonicalFaults.{columns_fault};
-ghost use Rattle.vx_canonical.specs.Concatenated.{are_alike, concat_fault};
+ghost use Rattle.vx_canonical.specs.Concatenated.{are_alike, concat_fault, HasNumbersOf};
 
 mod numbers;
 
@@ -49,6 +49,7 @@ impl Concatenate for ArrayRef {
         ensures state { IfOk result (λ a. tree_state a ≡ joined_state arrays.now) }
         ensures extent { IfOk result (λ a. extent_of a ≡ joined_extent (kind_of a) (map extent_of arrays.now)) }
         ensures flag { IfOk result (λ a. is_flagged a ≡ false) }
+        ensures numbers { IfOk result (HasNumbersOf arrays.now) }
         ensures refuses { Refuses result (concat_fault arrays.now) }
     {
         let Some(first) = arrays.first() else {
@@ -85,6 +86,7 @@ fn are_alike(dtype: &DType, arrays: &[ArrayRef]) -> bool
 // Each array in plain layout.
 fn plain_arrays(alloc: Global, arrays: &[ArrayRef]) -> Result<Vec<ArrayRef>, VortexError>
     ensures ok { IfOk result (λ ps. AllZip IsCanonical arrays.now ps.items) }
+    ensures within { IfOk result (λ ps. AllZip IsCanonicalWithin arrays.now ps.items) }
     ensures refuses { Refuses result (columns_fault (trees_from arrays.now)) }
 {
     let mut plain = Vec::with_capacity(alloc, arrays.len())?;

@@ -5,7 +5,7 @@ ghost use Rattle.vx_base.specs.Refusals.{Refuses};
 ghost use Rattle.vx_tree.specs.Meaning.{rows};
 ghost use Rattle.vx_tree.specs.CanonicalFaults.{canonical_fault};
 ghost use Rattle.vx_tree.specs.Plain.{IsPlain};
-ghost use Rattle.vx_canonical.specs.Canonical.{IsCanonical};
+ghost use Rattle.vx_canonical.specs.Canonical.{IsCanonical, IsCanonicalWithin};
 
 use crate::canonical::canonical;
 use crate::is_plain::is_plain;
@@ -35,6 +35,7 @@ impl ToCanonical for ArrayRef {
     fn to_canonical(&self, alloc: Global) -> Result<ArrayRef, VortexError>
         ensures rows { IfOk result (λ a. rows a ≡ rows self.now) }
         ensures canonical { IfOk result (IsCanonical self.now) }
+        ensures within { IfOk result (IsCanonicalWithin self.now) }
         ensures shared { IsPlain self.now → IfOk result (λ a. a ≡ self.now) }
         ensures refuses { Refuses result (canonical_fault self.now) }
     {

@@ -1,0 +1,7 @@
+use Rattle.std.proofs.Common.{◌≡◌, ◌∙◌, sym, ap}
+use Rattle.vx_base.proofs.Refused.{Gives-weaker, Gives-IfOk}
+use Rattle.vx_tree.specs.Parts.{tree_of, valid_of}
+use Rattle.vx_tree.specs.Meaning.{trees_from}
+use Rattle.vx_tree.specs.Slots.{under_validity}
+use Rattle.vx_canonical.proofs.CanonicalWithin.{fixed_lists_nulled, fixed_lists_nulled_fit, records_nulled, records_nulled_fit, parts_nulled}
+use Rattle.vx_canonical.proofs.canonical.nulled_parts.Goals as goal
