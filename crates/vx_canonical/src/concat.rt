@@ -26,18 +26,20 @@ use vx_tree::ArrayRef;
 
 /// What can be joined, one after another.
 pub trait Concatenate: Sized {
-    /// The rows of the arrays, one array after another, in the plain layout of their data type: of
-    /// the numbers 1, 2 and 3, null the numbers 1, 2, 3, null. At every depth they have as many
-    /// elements and buffers as all arrays together. Refuses in this order: with
-    /// `EmptyInput` where no array is given; with `DifferingDtypes` where one is not of the data
-    /// type of the first; with `Overflow` where there are more rows than can be counted; by the
-    /// first fault of making each array plain, as `to_canonical` has it; then with `Overflow` where
-    /// the lists of all arrays, at any depth, have together more elements than can be counted, or
-    /// their texts or byte lists more buffers than a view can number, 4294967296. A list view has
-    /// all of its elements and texts all of their buffers; a constant those of its row once,
-    /// whatever its length, with a buffer for each text or byte list above 12 bytes; a dictionary
-    /// those of its values, also where it has no values; lists of one size have the rows times the
-    /// size.
+    /// The rows of the arrays, one array after another, in the plain layout of their data type.
+    /// Parts change: offsets and sizes of lists come out as `u64`, also those that were `u8` or
+    /// `u16`, and each offset is further by the elements of the arrays before; views are numbered
+    /// further by the buffers of the arrays before. Of the numbers 1, 2 and 3, null it makes the
+    /// numbers 1, 2, 3, null. At every depth there are as many elements and buffers as in all
+    /// arrays together, in order. Refuses in this order: with `EmptyInput` where no array is given;
+    /// with `DifferingDtypes` where one is not of the data type of the first; with `Overflow` where
+    /// there are more rows than can be counted; by the first fault of making each array plain, as
+    /// `to_canonical` has it; then with `Overflow` where the lists of all arrays, at any depth,
+    /// have together more elements than can be counted, or their texts or byte lists more buffers
+    /// than a view can number, 4294967296. A list view has all of its elements and texts all of
+    /// their buffers; a constant those of its row once, whatever its length, with a buffer for each
+    /// text or byte list above 12 bytes; a dictionary those of its values, also where it has no
+    /// values; lists of one size have the rows times the size.
     fn concat(alloc: Global, arrays: &[Self]) -> Result<Self, VortexError>;
 }
 

@@ -17,16 +17,16 @@ use vx_tree::ArrayRef;
 pub trait ToCanonical {
     /// The same rows in the plain layout of their data type: no part is a constant or a dictionary,
     /// also not in a validity. A list view keeps its numbers, its flag and the rows of its
-    /// elements, texts and byte lists their views and buffers; a constant list has its elements
-    /// once, a constant text one buffer at most, whatever the length; a dictionary has the
-    /// elements and the buffers of its values, also if it has no values. Lists that a constant or
-    /// a dictionary becomes have the flag false. An array that is plain already is shared. Refuses
-    /// by the first fault of the parts in their order, the values of a dictionary first: a
-    /// constant with `Overflow` where all of its rows, or the elements of a list in its row, need
-    /// more elements of lists of one size than can be counted, or its row more than 4294967296
-    /// buffers in one layout; a dictionary with `Overflow` where the rows of its codes need too
-    /// many elements. Of the values 7, 9 and the codes 1, null, 0, 1 it makes the numbers 9, null,
-    /// 7, 9.
+    /// elements, texts and byte lists their views and buffers, and so does each part, at every
+    /// depth; a constant list has its elements once, a constant text one buffer at most, whatever
+    /// the length; a dictionary has the elements and the buffers of its values, also if it has no
+    /// values. Lists that a constant or a dictionary becomes have the flag false. An array that is
+    /// plain already is shared. Refuses by the first fault of the parts in their order, the values
+    /// of a dictionary first: a constant with `Overflow` where all of its rows, or the elements of
+    /// a list in its row, need more elements of lists of one size than can be counted, or its row
+    /// more than 4294967296 buffers in one layout; a dictionary with `Overflow` where the rows of
+    /// its codes need too many elements. Of the values 7, 9 and the codes 1, null, 0, 1 it makes
+    /// the numbers 9, null, 7, 9.
     fn to_canonical(&self, alloc: Global) -> Result<ArrayRef, VortexError>;
 }
 

@@ -96,7 +96,13 @@ fn lists_in_records_of_a_dictionary_keep_their_elements(rt: HostRuntime) {
     let alloc = rt.alloc();
     let codes = numbers(alloc, PType::U8, &[1, 1, 1], Validity::NonNullable).expect(&rt, "made");
     let values = records_of_lists(alloc).expect(&rt, "made");
-    let plain = ArrayRef::dictionary(alloc, codes, values, false)
+    let flag = false;
+    let parts = Layout::Dict {
+        codes,
+        values,
+        flag,
+    };
+    let plain = ArrayRef::from_parts(alloc, parts)
         .expect(&rt, "made")
         .to_canonical(alloc)
         .expect(&rt, "made");
