@@ -2,6 +2,7 @@
 use Rattle.std.proofs.Common.{ℕ, ◌<◌, ◌*◌, ◌≡◌, Bool, true, false, List, [], ◌∷◌, length, take, Option, None, refl, sym, ◌∙◌, ap, subst, arith}
 use Rattle.std.specs.Prelude.{Result, Ok, Err, IfOk, if◌then◌else◌}
 use Rattle.std.specs.List.{AllZip}
+use Rattle.std.specs.Global.{Vec}
 use Rattle.vx_base.specs.declared.errors.VortexError.{VortexError}
 use Rattle.vx_base.specs.Kinds.{fixed_lists, records, is_nullable_kind}
 use Rattle.vx_base.specs.Rows.{Row, Rows, Fields, null, items, record_of, is_present}
@@ -10,6 +11,10 @@ use Rattle.vx_tree.specs.Meaning.{tree_len, kind_of, kinds_of, row_at, fields_at
 use Rattle.vx_tree.specs.Shapes.{State, never_null, none_null, every_null, told, Shape, bool_shape, primitive_shape, constant_shape, dictionary_shape, fixed_list_shape, list_view_shape, struct_shape, view_shape, state_of, shape_of, selected_shape, nulled_constant, nulled_shape}
 use Rattle.vx_tree.specs.Layouts.{is_leaf, is_constant}
 use Rattle.vx_tree.specs.Formed.{WellFormed, ValidFits}
+use Rattle.vx_tree.specs.declared.array.Layout.{Layout}
+use Rattle.vx_tree.specs.declared.array.Layout.TheVariants as layout
+use Rattle.vx_tree.specs.declared.array.Validity.{Validity}
+use Rattle.vx_tree.specs.Parts.{tree_of}
 use Rattle.vx_tree.specs.Plain.{IsPlain, ArePlain}
 use Rattle.vx_tree.specs.Slots.{under_validity}
 use Rattle.vx_tree.specs.Operations.{IsNulled}
@@ -245,6 +250,19 @@ parts_nulled (list_view e o s v f) (list_view d p z w g) u h one two = ap (shape
 parts_nulled (list_view e o s v f) q u h one two = let x = nulled_layout (list_view e o s v f) q u h in absurd (omega (arith, x))
 parts_nulled (view_array vs bs k v) (view_array ws cs j w) u h one two = ap shape_buffers h.shape
 parts_nulled (view_array vs bs k v) q u h one two = let x = nulled_layout (view_array vs bs k v) q u h in absurd (omega (arith, x))
+
+-- what no arm before took is neither lists of one size nor records
+not_fixed : (l : Layout) → ((e : Tree) (k : ℕ) (v : Validity) (n : ℕ) → l ≡ layout.FixedSizeList e k v n → ⊥) → layout_of (tree_of l) ≡ 1 → ⊥
+not_fixed (layout.FixedSizeList e k v n) no h = no e k v n refl
+not_fixed _ no h = omega (arith, h)
+
+not_records : (l : Layout) → ((ns : List (List ℕ)) (cs : Vec Tree) (v : Validity) (n : ℕ) → l ≡ layout.Struct ns cs v n → ⊥) → layout_of (tree_of l) ≡ 2 → ⊥
+not_records (layout.Struct ns cs v n) no h = no ns cs v n refl
+not_records _ no h = omega (arith, h)
+
+pub others_nulled : (s q : Tree) (u : Valid) (l : Layout) → tree_of l ≡ q → IsNulled s u q → ((e : Tree) (k : ℕ) (v : Validity) (n : ℕ) → l ≡ layout.FixedSizeList e k v n → ⊥)
+    → ((ns : List (List ℕ)) (cs : Vec Tree) (v : Validity) (n : ℕ) → l ≡ layout.Struct ns cs v n → ⊥) → HasPartsOf s q
+others_nulled s q u l same h one two = parts_nulled s q u h (λ x. not_fixed l one (ap layout_of same ∙ x)) (λ x. not_records l two (ap layout_of same ∙ x))
 
 -- ---- of itself
 
