@@ -11,6 +11,7 @@ use Rattle.vx_tree.specs.Meaning.{tree_len, kind_of, kinds_of, row_at, fields_at
 use Rattle.vx_tree.specs.Shapes.{State, never_null, none_null, every_null, told, Shape, bool_shape, primitive_shape, constant_shape, dictionary_shape, fixed_list_shape, list_view_shape, struct_shape, view_shape, state_of, shape_of, selected_shape, nulled_constant, nulled_shape}
 use Rattle.vx_tree.specs.Layouts.{is_leaf, is_constant}
 use Rattle.vx_tree.specs.Formed.{WellFormed, ValidFits}
+use Rattle.vx_tree.specs.Fitting.{AllFormed}
 use Rattle.vx_tree.specs.declared.array.Layout.{Layout}
 use Rattle.vx_tree.specs.declared.array.Layout.TheVariants as layout
 use Rattle.vx_tree.specs.declared.array.Validity.{Validity}
@@ -165,11 +166,10 @@ nulled_layout s q u h = layout_told q ∙ ap shape_layout h.shape ∙ constant_l
 
 -- lists of one size
 
-pub fixed_lists_nulled_fit : (s q e : Tree) (k n : ℕ) (u w : Valid) → q ≡ fixed_list e k w n → IsNulled s u q → WellFormed s → WellFormed q → WellFormed (under_validity s w)
+pub fixed_lists_nulled_fit : (s q e : Tree) (k n : ℕ) (u w : Valid) → q ≡ fixed_list e k w n → IsNulled s u q → AllFormed s → WellFormed (fixed_list e k w n) → WellFormed (under_validity s w)
 fixed_lists_nulled_fit (fixed_list d j v m) q e k n u w a h f g =
-    let fits : WellFormed (fixed_list e k w n) = rw a at g in
     let long : n ≡ m = rw a at h.len in
-    (subst (ValidFits w) long fits.0, f.1)
+    (subst (ValidFits w) long g.0, f.0.1)
 fixed_lists_nulled_fit s q e k n u w a h f g = let x : 1 ≡ layout_of s = sym (ap layout_of a) ∙ nulled_layout s q u h in absurd (omega (arith, x))
 
 lists_null : (a b c : Bool) (x y : Rows) → (if a then items x else null) ≡ (if b then (if c then items y else null) else null)
@@ -200,11 +200,10 @@ fixed_lists_nulled s q r e k n u w a b h = let x : 1 ≡ layout_of s = sym (ap l
 
 -- records
 
-pub records_nulled_fit : (s q : Tree) (ns : List (List ℕ)) (ts : Trees) (n : ℕ) (u w : Valid) → q ≡ structure ns ts w n → IsNulled s u q → WellFormed s → WellFormed q → WellFormed (under_validity s w)
+pub records_nulled_fit : (s q : Tree) (ns : List (List ℕ)) (ts : Trees) (n : ℕ) (u w : Valid) → q ≡ structure ns ts w n → IsNulled s u q → AllFormed s → WellFormed (structure ns ts w n) → WellFormed (under_validity s w)
 records_nulled_fit (structure ms us v m) q ns ts n u w a h f g =
-    let fits : WellFormed (structure ns ts w n) = rw a at g in
     let long : n ≡ m = rw a at h.len in
-    (subst (ValidFits w) long fits.0, f.1)
+    (subst (ValidFits w) long g.0, f.0.1)
 records_nulled_fit s q ns ts n u w a h f g = let x : 2 ≡ layout_of s = sym (ap layout_of a) ∙ nulled_layout s q u h in absurd (omega (arith, x))
 
 records_null : (a b c : Bool) (x y : Fields) → (if a then record_of x else null) ≡ (if b then (if c then record_of y else null) else null)

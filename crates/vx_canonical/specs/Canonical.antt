@@ -105,6 +105,7 @@ abbrev mutual
   IsPickedWithin (view_array vs bs k v) _ = ⊥
   IsPickedWithin _ _ = Unit {0}
 
+  -- the same of each column
   pub ArePickedWithin : Trees → Trees → Type 0
   ArePickedWithin no_trees no_trees = Unit {0}
   ArePickedWithin (tree t ts) (tree u us) = IsPlainLike t u × IsPickedWithin t u × ArePickedWithin ts us

@@ -155,6 +155,7 @@ fn nulled_parts(alloc: Global, array: &ArrayRef, nulls: &Validity) -> Result<Arr
     ensures rows { Gives result (IsNulled array.now (valid_of nulls.now)) }
     ensures parts { IfOk result (HasPartsOf array.now) }
 {
+    array.known();
     let nulled = array.nulled(alloc, nulls)?;
     match nulled.layout() {
         Layout::FixedSizeList { validity, .. } => {
