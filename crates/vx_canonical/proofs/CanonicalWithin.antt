@@ -33,6 +33,10 @@ leaf_within (list_view d o s v f) r e = absurd (cc)
 leaf_within (structure ns ts v n) r e = absurd (cc)
 leaf_within (view_array vs bs k v) r e = tt
 
+pub leaf_made_within : (t : Tree) (made : Result Tree VortexError) → is_leaf t ≡ true → IfOk made (IsCanonicalWithin t)
+leaf_made_within t (Ok r) e = leaf_within t r e
+leaf_made_within t (Err x) e = tt
+
 pub constant_within : (t : Tree) (made : Result Tree VortexError) → is_constant t ≡ true → IfOk made (IsCanonicalWithin t)
 constant_within (constant k x n) (Ok r) e = tt
 constant_within (constant k x n) (Err x2) e = tt
@@ -42,6 +46,14 @@ pub constant_picked : (t : Tree) (made : Result Tree VortexError) → is_constan
 constant_picked (constant k x n) (Ok r) e = tt
 constant_picked (constant k x n) (Err x2) e = tt
 constant_picked _ made e = absurd (cc)
+
+pub constant_row_within : (t r : Tree) → is_constant t ≡ true → IsCanonicalWithin t r
+constant_row_within (constant k x n) r e = tt
+constant_row_within _ r e = absurd (cc)
+
+pub constant_row_picked : (t r : Tree) → is_constant t ≡ true → IsPickedWithin t r
+constant_row_picked (constant k x n) r e = tt
+constant_row_picked _ r e = absurd (cc)
 
 -- the buffers that a shape tells
 abbrev shape_buffers : Shape → List (List ℕ)
@@ -280,6 +292,4 @@ mutual
   all_within_themselves one no_trees h = tt
   all_within_themselves one (tree t ts) h = (one t h.0, within_itself one t h.0, all_within_themselves one ts h.1)
 
-pub ruleset no_parts = (leaf_within, constant_within)
-
-pub ruleset no_parts_picked = (constant_picked)
+pub ruleset no_parts = (leaf_made_within, constant_within, constant_picked, constant_row_within, constant_row_picked)

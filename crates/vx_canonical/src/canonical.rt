@@ -25,7 +25,6 @@ use vx_tree::{ArrayRef, Layout, Validity, told_by};
 
 // The same rows in the plain layout of the data type, in the parts too.
 #[cycle(canonical)]
-#[tactic(auto, using(crate::proofs::CanonicalWithin::no_parts))]
 pub(crate) fn canonical(alloc: Global, array: &ArrayRef) -> Result<ArrayRef, VortexError>
     ensures ok { IfOk result (IsCanonical array.now) }
     ensures within { IfOk result (IsCanonicalWithin array.now) }
@@ -45,7 +44,6 @@ pub(crate) fn canonical(alloc: Global, array: &ArrayRef) -> Result<ArrayRef, Vor
 
 // The rows that are picked, in plain layout: no others are made. Asks that they can be counted.
 #[cycle(canonical)]
-#[tactic(auto, using(crate::proofs::CanonicalWithin::no_parts_picked))]
 pub(crate) fn canonical_at(
     alloc: Global,
     array: &ArrayRef,
