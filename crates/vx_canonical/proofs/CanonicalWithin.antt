@@ -264,12 +264,12 @@ parts_nulled (view_array vs bs k v) q u h one two = let x = nulled_layout (view_
 
 -- what no arm before took is neither lists of one size nor records
 not_fixed : (l : Layout) → ((e : Tree) (k : ℕ) (v : Validity) (n : ℕ) → l ≡ layout.FixedSizeList e k v n → ⊥) → layout_of (tree_of l) ≡ 1 → ⊥
-not_fixed (layout.FixedSizeList e k v n) no h = no e k v n refl
-not_fixed _ no h = omega (arith, h)
+not_fixed (layout.FixedSizeList e k v n) other h = other e k v n refl
+not_fixed _ other h = omega (arith, h)
 
 not_records : (l : Layout) → ((ns : List (List ℕ)) (cs : Vec Tree) (v : Validity) (n : ℕ) → l ≡ layout.Struct ns cs v n → ⊥) → layout_of (tree_of l) ≡ 2 → ⊥
-not_records (layout.Struct ns cs v n) no h = no ns cs v n refl
-not_records _ no h = omega (arith, h)
+not_records (layout.Struct ns cs v n) other h = other ns cs v n refl
+not_records _ other h = omega (arith, h)
 
 pub others_nulled : (s q : Tree) (u : Valid) (l : Layout) → tree_of l ≡ q → IsNulled s u q → ((e : Tree) (k : ℕ) (v : Validity) (n : ℕ) → l ≡ layout.FixedSizeList e k v n → ⊥)
     → ((ns : List (List ℕ)) (cs : Vec Tree) (v : Validity) (n : ℕ) → l ≡ layout.Struct ns cs v n → ⊥) → HasPartsOf s q

@@ -16,24 +16,52 @@ with_validity-requires c =
     let s = c.args.array.now in
     let q = c.in_ok-nulled.nulled in
     let same = sym c.layout.ensures.parts ∙ ap tree_of parts.is in
-    rw c.in_ok-try_clone.ensures (fixed_lists_nulled_fit s q parts.elements parts.size parts.len (valid_of c.args.nulls.now) (valid_of parts.validity) same c.in_ok-nulled.ensures.by_row c.known.ensures (rw parts.is at c.layout.ensures.formed))
+    rw c.in_ok-try_clone-in-FixedSizeList.ensures (fixed_lists_nulled_fit s q parts.elements parts.size parts.len (valid_of c.args.nulls.now) (valid_of parts.validity) same c.in_ok-nulled.ensures.by_row c.known.ensures (rw parts.is at c.layout.ensures.formed))
 
-pub returns-in-FixedSizeList-clause-rows : goal.returns-in-FixedSizeList-clause-rows
-returns-in-FixedSizeList-clause-rows c =
+pub returns-in_ok-try_clone-in-FixedSizeList-clause-rows : goal.returns-in_ok-try_clone-in-FixedSizeList-clause-rows
+returns-in_ok-try_clone-in-FixedSizeList-clause-rows c =
     let parts = c.in-FixedSizeList in
     let s = c.args.array.now in
     let q = c.in_ok-nulled.nulled in
     let same = sym c.layout.ensures.parts ∙ ap tree_of parts.is in
     Gives-weaker c.with_validity.result _ _
-    (λ a e. (fixed_lists_nulled s q a parts.elements parts.size parts.len (valid_of c.args.nulls.now) (valid_of parts.validity) same (e ∙ ap (under_validity s) c.in_ok-try_clone.ensures) c.in_ok-nulled.ensures.by_row).0)
+    (λ a e. (fixed_lists_nulled s q a parts.elements parts.size parts.len (valid_of c.args.nulls.now) (valid_of parts.validity) same (e ∙ ap (under_validity s) c.in_ok-try_clone-in-FixedSizeList.ensures) c.in_ok-nulled.ensures.by_row).0)
     c.with_validity.ensures
 
-pub returns-in-FixedSizeList-clause-parts : goal.returns-in-FixedSizeList-clause-parts
-returns-in-FixedSizeList-clause-parts c =
+pub returns-in_ok-try_clone-in-FixedSizeList-clause-parts : goal.returns-in_ok-try_clone-in-FixedSizeList-clause-parts
+returns-in_ok-try_clone-in-FixedSizeList-clause-parts c =
     let parts = c.in-FixedSizeList in
     let s = c.args.array.now in
     let q = c.in_ok-nulled.nulled in
     let same = sym c.layout.ensures.parts ∙ ap tree_of parts.is in
     Gives-IfOk c.with_validity.result _ _
-    (λ a e. (fixed_lists_nulled s q a parts.elements parts.size parts.len (valid_of c.args.nulls.now) (valid_of parts.validity) same (e ∙ ap (under_validity s) c.in_ok-try_clone.ensures) c.in_ok-nulled.ensures.by_row).1)
+    (λ a e. (fixed_lists_nulled s q a parts.elements parts.size parts.len (valid_of c.args.nulls.now) (valid_of parts.validity) same (e ∙ ap (under_validity s) c.in_ok-try_clone-in-FixedSizeList.ensures) c.in_ok-nulled.ensures.by_row).1)
     c.with_validity.ensures
+
+pub with_validity-requires-2 : goal.with_validity-requires-2
+with_validity-requires-2 c =
+    let parts = c.in-Struct in
+    let s = c.args.array.now in
+    let q = c.in_ok-nulled.nulled in
+    let same = sym c.layout.ensures.parts ∙ ap tree_of parts.is in
+    rw c.in_ok-try_clone-in-Struct.ensures (records_nulled_fit s q parts.names (trees_from parts.columns.items) parts.len (valid_of c.args.nulls.now) (valid_of parts.validity) same c.in_ok-nulled.ensures.by_row c.known.ensures (rw parts.is at c.layout.ensures.formed))
+
+pub returns-in_ok-try_clone-in-Struct-clause-rows : goal.returns-in_ok-try_clone-in-Struct-clause-rows
+returns-in_ok-try_clone-in-Struct-clause-rows c =
+    let parts = c.in-Struct in
+    let s = c.args.array.now in
+    let q = c.in_ok-nulled.nulled in
+    let same = sym c.layout.ensures.parts ∙ ap tree_of parts.is in
+    Gives-weaker c.with_validity-2.result _ _
+    (λ a e. (records_nulled s q a parts.names (trees_from parts.columns.items) parts.len (valid_of c.args.nulls.now) (valid_of parts.validity) same (e ∙ ap (under_validity s) c.in_ok-try_clone-in-Struct.ensures) c.in_ok-nulled.ensures.by_row).0)
+    c.with_validity-2.ensures
+
+pub returns-in_ok-try_clone-in-Struct-clause-parts : goal.returns-in_ok-try_clone-in-Struct-clause-parts
+returns-in_ok-try_clone-in-Struct-clause-parts c =
+    let parts = c.in-Struct in
+    let s = c.args.array.now in
+    let q = c.in_ok-nulled.nulled in
+    let same = sym c.layout.ensures.parts ∙ ap tree_of parts.is in
+    Gives-IfOk c.with_validity-2.result _ _
+    (λ a e. (records_nulled s q a parts.names (trees_from parts.columns.items) parts.len (valid_of c.args.nulls.now) (valid_of parts.validity) same (e ∙ ap (under_validity s) c.in_ok-try_clone-in-Struct.ensures) c.in_ok-nulled.ensures.by_row).1)
+    c.with_validity-2.ensures
