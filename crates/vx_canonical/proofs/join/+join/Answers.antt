@@ -164,3 +164,13 @@ join_lists_like-returns-clause-numbers t c =
 
 pub join_structs_like-returns-clause-numbers : goal.join_structs_like-returns-clause-numbers
 join_structs_like-returns-clause-numbers t c = c.in_ok-join_structs.ensures.numbers c.in_ok-joined.ensures.numbers
+
+pub join_structs_like-join_structs-requires-clause-records :
+    goal.join_structs_like-join_structs-requires-clause-records
+join_structs_like-join_structs-requires-clause-records t c =
+    let parts = c.in-Struct in
+    let v = valid_of parts.validity in
+    let ks = kinds_of (trees_from parts.columns.items) in
+    let same = sym c.layout.ensures.parts ∙ ap tree_of parts.is in
+    let arrays : AreJoinable (kind_of (structure parts.names (trees_from parts.columns.items) v parts.len)) c.args.arrays.now = rw same at c.requires.arrays in
+    rw c.in_ok-names.ensures (all_records parts.names ks (nullable v) c.args.arrays.now arrays)
