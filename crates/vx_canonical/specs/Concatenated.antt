@@ -60,7 +60,7 @@ pub record HasPlainNumbers (ts : List Tree) (r : Tree) : Type 0 where
   pub within : AllZip IsCanonicalWithin ts plain
   pub numbers : HasJoinedNumbers plain r
 
--- an array of numbers has no other ones than its rows
+-- the numbers of arrays in plain layout, one after another, at every depth; an array of integers has none beside its rows
 abbrev pub HasNumbersOf : List Tree → Tree → Type 0
 HasNumbersOf ts (primitive p bs v) = Unit {0}
 HasNumbersOf ts r = HasPlainNumbers ts r
