@@ -11,17 +11,18 @@ use Rattle.vx_base.specs.Booleans.{count_fault}
 use Rattle.vx_base.specs.Refusals.{Refusal, or_else, IsMemoryOr, differing_dtypes, overflow}
 use Rattle.vx_base.specs.declared.errors.VortexError.{VortexError}
 use Rattle.vx_base.specs.declared.ptypes.PType.{PType}
-use Rattle.vx_tree.specs.Tree.{Tree}
+use Rattle.vx_tree.specs.Tree.{Tree, primitive}
+use Rattle.vx_tree.specs.Layouts.{is_primitive}
 use Rattle.vx_tree.specs.Meaning.{tree_len, kind_of, row_at, rows, trees_from}
 use Rattle.vx_tree.specs.Shapes.{tree_state}
 use Rattle.vx_tree.specs.Plain.{IsPlain}
 use Rattle.vx_tree.specs.Fitting.{AllFormed}
-use Rattle.vx_canonical.specs.Canonical.{IsCanonical}
+use Rattle.vx_canonical.specs.Canonical.{IsCanonical, IsCanonicalWithin}
 use Rattle.vx_tree.specs.CanonicalFaults.{plain_overflow, columns_fault}
 use Rattle.vx_tree.specs.Flags.{is_flagged}
-use Rattle.vx_canonical.specs.Joined.{joined_len, joined_state, joined_states, joined_row, parts_join_fault, join_fault, IsJoined, AreJoinable}
+use Rattle.vx_canonical.specs.Joined.{joined_len, joined_state, joined_states, joined_row, parts_join_fault, join_fault, IsJoined, AreJoinable, HasJoinedNumbers}
 use Rattle.vx_tree.specs.Extents.{extent_of, joined_extent}
-use Rattle.vx_canonical.specs.Concatenated.{are_alike, given_fault, extents_fault, plain_fault, concat_fault}
+use Rattle.vx_canonical.specs.Concatenated.{are_alike, given_fault, extents_fault, plain_fault, concat_fault, HasPlainNumbers, HasNumbersOf}
 use Rattle.vx_tree.proofs.RowLists.{length-rows, get_or-rows}
 use Rattle.vx_canonical.proofs.JoinedRows.{length-joined, joined_item, joined_same, joined-here, joined-later}
 use Rattle.vx_canonical.proofs.JoinedExtents.{extents_fault-of}
@@ -234,3 +235,17 @@ ok_extent (Err e) k ts ps h joined = tt
 pub ok_flag : (r : Result Tree VortexError) (k : Kind) (ps : List Tree) → IfOk r (IsJoined k ps) → IfOk r (λ a. is_flagged a ≡ false)
 ok_flag (Ok a) k ps joined = joined.flag
 ok_flag (Err e) k ps joined = tt
+
+-- ---- the numbers
+
+pub primitive_numbers : (ts : List Tree) (r : Tree) → is_primitive r ≡ true → HasNumbersOf ts r
+primitive_numbers ts (primitive p bs v) e = tt
+primitive_numbers ts _ e = absurd (cc)
+
+numbers_of : (ts : List Tree) (r : Tree) → HasPlainNumbers ts r → HasNumbersOf ts r
+numbers_of ts (primitive p bs v) h = tt
+numbers_of ts _ h = h
+
+pub ok_numbers : (r : Result Tree VortexError) (ts ps : List Tree) → AllZip IsCanonical ts ps → AllZip IsCanonicalWithin ts ps → IfOk r (HasJoinedNumbers ps) → IfOk r (HasNumbersOf ts)
+ok_numbers (Ok a) ts ps h g j = numbers_of ts a (record { plain = ps; canonical = h; within = g; numbers = j })
+ok_numbers (Err e) ts ps h g j = tt

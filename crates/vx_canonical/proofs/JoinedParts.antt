@@ -12,7 +12,7 @@ use Rattle.vx_tree.specs.Formed.{value_kind}
 use Rattle.vx_tree.specs.Fitting.{AllFormed, ColumnsFormed}
 use Rattle.vx_tree.specs.Plain.{IsPlain, ArePlain}
 use Rattle.vx_tree.specs.CanonicalFaults.{buffers_overflow}
-use Rattle.vx_canonical.specs.Joined.{IsJoined, AreFixedLists, AreLists, AreRecords, AreValues, joined_buffers, AreJoinable, AreColumnsJoinable, AreColumnsJoined, elements_in, columns_in, column_of, column_at, parts_join_fault, columns_join_fault, join_fault}
+use Rattle.vx_canonical.specs.Joined.{IsJoined, AreFixedLists, AreLists, AreRecords, AreValues, joined_buffers, AreJoinable, AreColumnsJoinable, AreColumnsJoined, elements_in, columns_in, column_of, column_at, parts_join_fault, columns_join_fault, join_fault, HasJoinedNumbers, HaveJoinedNumbers}
 use Rattle.vx_canonical.proofs.JoinedKinds.{fixed_lists_of_kind, lists_of_kind, records_of_kind}
 use Rattle.vx_canonical.proofs.JoinedRecords.{count_of_list}
 use Rattle.vx_canonical.proofs.JoinedViews.{values_of_kind}
@@ -189,6 +189,13 @@ pub joined_next : (ts ps rs new : List Tree) (i m : ℕ) (p r : Tree) → AreJoi
     → AreJoinedEach ts 0 (take (i + 1) ps) new
 joined_next ts ps rs new i m p r h l e same j grown =
     rw (take_more ps i p l, ← e, grown) (joined-more ts 0 m (take i ps) rs p r (omega (arith, same, joined_count ts 0 (take i ps) rs h)) h j)
+
+numbers-more : (ts : List Tree) (c m : ℕ) (rs : List Tree) (r : Tree) → m ≡ length rs + c → HaveJoinedNumbers ts c (trees_from rs) → HasJoinedNumbers (map (column_of m) ts) r → HaveJoinedNumbers ts c (trees_from (rs ++ r ∷ []))
+numbers-more ts c m [] r e h j = (subst (λ k. HasJoinedNumbers (map (column_of k) ts) r) {x = m} {y = c} (omega (arith, e)) j, tt)
+numbers-more ts c m (w ∷ rs) r e h j = (h.0, numbers-more ts (suc c) m rs r (omega (arith, e)) h.1 j)
+
+pub numbers_next : (ts rs new : List Tree) (m : ℕ) (r : Tree) → HaveJoinedNumbers ts 0 (trees_from rs) → m ≡ length rs → HasJoinedNumbers (map (column_of m) ts) r → new ≡ rs ++ r ∷ [] → HaveJoinedNumbers ts 0 (trees_from new)
+numbers_next ts rs new m r h same j grown = rw grown (numbers-more ts 0 m rs r (omega (arith, same)) h j)
 
 joined-at : (ts : List Tree) (c : ℕ) (ps rs : List Tree) → AreJoinedEach ts c ps rs → (k m : ℕ) → m ≡ k + c → k < length ps → IsJoined (kind_of (column_at (trees_from rs) k)) (map (column_of m) ts) (column_at (trees_from rs) k)
 joined-at ts c [] [] h k m e l = absurd (omega arith)

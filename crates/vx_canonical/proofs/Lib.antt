@@ -10,6 +10,7 @@ pub mod Kept
 pub mod Gathered
 pub mod Blanks
 pub mod KeptParts
+pub mod CanonicalWithin
 pub mod CanonicalDictionaries
 pub mod CanonicalAt
 pub mod CanonicalFaults

@@ -7,9 +7,10 @@ use Rattle.vx_tree.specs.Tree.{Tree, bools, primitive, constant, dictionary, fix
 use Rattle.vx_tree.specs.Meaning.{trees_from}
 use Rattle.vx_tree.specs.Plain.{IsPlain, ArePlain, IsPlainValid}
 use Rattle.vx_canonical.specs.PlainTests.{is_plain, are_plain, is_plain_valid}
-use Rattle.vx_canonical.specs.Canonical.{HasRowsOf, IsCanonical}
+use Rattle.vx_canonical.specs.Canonical.{HasRowsOf, IsCanonical, IsCanonicalWithin}
 use Rattle.vx_tree.specs.CanonicalFaults.{canonical_fault, columns_fault}
 use Rattle.vx_canonical.proofs.CanonicalArrays.{rows_canonical}
+use Rattle.vx_canonical.proofs.CanonicalWithin.{within_itself}
 
 both_true : (a b : Bool) → (a && b) ≡ true → (a ≡ true) × (b ≡ true)
 both_true true b h = (refl, h)
@@ -95,6 +96,9 @@ not_plain t made told plain = let tested = plain_tested t plain in absurd (cc)
 
 pub plain_itself : (t a : Tree) → is_plain t ≡ true → a ≡ t → IsCanonical t a
 plain_itself t a h e = rw e (itself t (plain_told t h))
+
+pub plain_within : (t a : Tree) → is_plain t ≡ true → a ≡ t → IsCanonicalWithin t a
+plain_within t a h e = rw e (within_itself itself t (plain_told t h))
 
 -- ---- no fault
 

@@ -63,6 +63,66 @@ pub record AreCanonicalAt (ts : Trees) (ps : List ℕ) (us : Trees) : Type 0 whe
   pub plain : ArePlain us
   pub extents : extents_of us ≡ extents_of ts
 
+-- of the kind, the state and the extent of an array, in plain layout: no flag is set
+pub record IsPlainLike (t r : Tree) : Type 0 where
+  pub kind : kind_of r ≡ kind_of t
+  pub plain : IsPlain r
+  pub state : tree_state r ≡ tree_state t
+  pub extent : extent_of r ≡ extent_of t
+  pub flag : is_flagged r ≡ false
+
+-- each part of the plain layout is that of the part, at every depth: the elements of lists, offsets, sizes and columns; of a
+-- dictionary that has values, the rows are some of its values
+abbrev mutual
+  pub IsCanonicalWithin : Tree → Tree → Type 0
+  IsCanonicalWithin (dictionary c v f) r = 0 < tree_len v → IsPickedWithin v r
+  IsCanonicalWithin (fixed_list e k v n) (fixed_list d j w m) = IsCanonical e d × IsCanonicalWithin e d
+  IsCanonicalWithin (fixed_list e k v n) _ = ⊥
+  IsCanonicalWithin (list_view e o s v f) (list_view d p q w g) =
+      IsCanonical e d × IsCanonicalWithin e d × IsCanonical o p × IsCanonical s q
+  IsCanonicalWithin (list_view e o s v f) _ = ⊥
+  IsCanonicalWithin (structure ns ts v n) (structure ms us w m) = AreCanonicalWithin ts us
+  IsCanonicalWithin (structure ns ts v n) _ = ⊥
+  IsCanonicalWithin _ _ = Unit {0}
+
+  -- each column is the plain layout of the column, at every depth
+  pub AreCanonicalWithin : Trees → Trees → Type 0
+  AreCanonicalWithin no_trees no_trees = Unit {0}
+  AreCanonicalWithin (tree t ts) (tree u us) = IsCanonical t u × IsCanonicalWithin t u × AreCanonicalWithin ts us
+  AreCanonicalWithin _ _ = ⊥
+
+  -- the rows are some of an array's, in plain layout: lists keep their elements, each in plain layout at every depth, texts and byte
+  -- lists their buffers, and so do the elements of lists of one size and the columns
+  pub IsPickedWithin : Tree → Tree → Type 0
+  IsPickedWithin (dictionary c v f) r = 0 < tree_len v → IsPickedWithin v r
+  IsPickedWithin (fixed_list e k v n) (fixed_list d j w m) = IsPlainLike e d × IsPickedWithin e d
+  IsPickedWithin (fixed_list e k v n) _ = ⊥
+  IsPickedWithin (list_view e o s v f) (list_view d p q w g) = IsCanonical e d × IsCanonicalWithin e d
+  IsPickedWithin (list_view e o s v f) _ = ⊥
+  IsPickedWithin (structure ns ts v n) (structure ms us w m) = ArePickedWithin ts us
+  IsPickedWithin (structure ns ts v n) _ = ⊥
+  IsPickedWithin (view_array vs bs k v) (view_array ws cs j w) = cs ≡ bs
+  IsPickedWithin (view_array vs bs k v) _ = ⊥
+  IsPickedWithin _ _ = Unit {0}
+
+  -- the same of each column
+  pub ArePickedWithin : Trees → Trees → Type 0
+  ArePickedWithin no_trees no_trees = Unit {0}
+  ArePickedWithin (tree t ts) (tree u us) = IsPlainLike t u × IsPickedWithin t u × ArePickedWithin ts us
+  ArePickedWithin _ _ = ⊥
+
+-- the elements, the columns and the buffers of an array in plain layout
+abbrev pub HasPartsOf : Tree → Tree → Type 0
+HasPartsOf (fixed_list e k v n) (fixed_list d j w m) = d ≡ e
+HasPartsOf (fixed_list e k v n) _ = ⊥
+HasPartsOf (list_view e o s v f) (list_view d p q w g) = d ≡ e
+HasPartsOf (list_view e o s v f) _ = ⊥
+HasPartsOf (structure ns ts v n) (structure ms us w m) = us ≡ ts
+HasPartsOf (structure ns ts v n) _ = ⊥
+HasPartsOf (view_array vs bs k v) (view_array ws cs j w) = cs ≡ bs
+HasPartsOf (view_array vs bs k v) _ = ⊥
+HasPartsOf _ _ = Unit {0}
+
 -- the validity of the same n rows, its array a plain one
 pub record IsCanonicalValid (v : Valid) (n : ℕ) (w : Valid) : Type 0 where
   pub fits : ValidFits w n

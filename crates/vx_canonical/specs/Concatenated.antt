@@ -1,17 +1,18 @@
 -- Arrays that are concatenated.
 use Rattle.std.specs.Prelude.{◌≡◌, ◌*◌, ℕ, suc, Bool, true, ◌&&◌, List, [], ◌∷◌, map, if◌then◌else◌, Option, Some, None}
-use Rattle.std.specs.List.{All, flat_map, sum_by}
+use Rattle.std.specs.List.{All, AllZip, flat_map, sum_by}
 use Rattle.vx_base.specs.Kinds.{Kind, texts, binaries, lists, fixed_lists, records, Kinds, no_kinds, kind}
 use Rattle.vx_base.specs.SameKind.{kind_eq}
 use Rattle.vx_base.specs.Booleans.{count_fault}
 use Rattle.vx_base.specs.Refusals.{Refusal, empty_input, differing_dtypes, or_else}
-use Rattle.vx_tree.specs.Tree.{Tree}
+use Rattle.vx_tree.specs.Tree.{Tree, primitive}
 use Rattle.vx_tree.specs.Meaning.{kind_of, rows, trees_from}
 use Rattle.vx_tree.specs.Plain.{IsPlain}
 use Rattle.vx_tree.specs.CanonicalFaults.{columns_fault}
 use Rattle.vx_tree.specs.CanonicalFaults.{buffers_overflow}
 use Rattle.vx_tree.specs.Extents.{Extent, extent_of, buffer_count, element_count, elements_extent, column_extent, joined_extent}
-use Rattle.vx_canonical.specs.Joined.{joined_len}
+use Rattle.vx_canonical.specs.Canonical.{IsCanonical, IsCanonicalWithin}
+use Rattle.vx_canonical.specs.Joined.{joined_len, HasJoinedNumbers}
 
 -- all of them are of a kind
 abbrev pub are_alike : Kind → List Tree → Bool
@@ -51,6 +52,18 @@ plain_fault (t ∷ ts) = extents_fault (kind_of t) (joined_len (t ∷ ts)) (map 
 -- the first fault of what is given, then that of joining it in plain layout
 abbrev pub concat_fault : List Tree → Option Refusal
 concat_fault ts = or_else (given_fault ts) (plain_fault ts)
+
+-- the plain layouts of arrays, and their numbers, one after another
+pub record HasPlainNumbers (ts : List Tree) (r : Tree) : Type 0 where
+  pub plain : List Tree
+  pub canonical : AllZip IsCanonical ts plain
+  pub within : AllZip IsCanonicalWithin ts plain
+  pub numbers : HasJoinedNumbers plain r
+
+-- the numbers of arrays in plain layout, one after another, at every depth; an array of integers has none beside its rows
+abbrev pub HasNumbersOf : List Tree → Tree → Type 0
+HasNumbersOf ts (primitive p bs v) = Unit {0}
+HasNumbersOf ts r = HasPlainNumbers ts r
 
 -- the rows of arrays, of the kind of all, in plain layout, with the elements and the buffers of all
 pub record IsConcatenated (ts : List Tree) (r : Tree) : Type 0 where

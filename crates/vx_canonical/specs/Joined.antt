@@ -199,6 +199,22 @@ abbrev pub views_from : ℕ → List Tree → List (List ℕ)
 views_from n [] = []
 views_from n (t ∷ ts) = map (shifted_view n) (views_in t) ++ views_from (n + length (buffers_in t)) ts
 
+-- the numbers of arrays, one array after another, at every depth: offsets and sizes of lists are numbers of type U64, each offset
+-- further by the elements of the arrays before; views are numbered further by their buffers, and all buffers stand in order
+abbrev mutual
+  pub HasJoinedNumbers : List Tree → Tree → Type 0
+  HasJoinedNumbers ts (fixed_list e k v n) = HasJoinedNumbers (map elements_in ts) e
+  HasJoinedNumbers ts (list_view e o s v f) =
+      IsCountsOf (offsets_from 0 ts) o × IsCountsOf (joined_sizes ts) s × HasJoinedNumbers (map elements_in ts) e
+  HasJoinedNumbers ts (structure ns us v n) = HaveJoinedNumbers ts 0 us
+  HasJoinedNumbers ts (view_array vs bs k v) = (vs ≡ views_from 0 ts) × (bs ≡ joined_buffers ts)
+  HasJoinedNumbers ts _ = Unit {0}
+
+  -- of the columns from place c on
+  pub HaveJoinedNumbers : List Tree → ℕ → Trees → Type 0
+  HaveJoinedNumbers ts c no_trees = Unit {0}
+  HaveJoinedNumbers ts c (tree u us) = HasJoinedNumbers (map (column_of c) ts) u × HaveJoinedNumbers ts (suc c) us
+
 -- views that resolve in the buffers beside them
 pub record AreResolved (t : Tree) : Type 0 where
   pub layout : is_view_array t ≡ true

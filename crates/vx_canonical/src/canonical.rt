@@ -11,8 +11,9 @@ ghost use Rattle.vx_tree.specs.Formed.{ValidFits, IsDictionary, AllLen};
 ghost use Rattle.vx_tree.specs.Parts.{valid_of};
 ghost use Rattle.vx_tree.specs.Plain.{IsPlain};
 ghost use Rattle.vx_tree.specs.Columns.{AllHave};
-ghost use Rattle.vx_tree.specs.Operations.{AreBelow};
+ghost use Rattle.vx_tree.specs.Operations.{AreBelow, IsNulled};
 ghost use Rattle.vx_canonical.specs.Canonical.{IsCanonical, IsCanonicalAt, IsCanonicalValid, AreCanonical, AreCanonicalAt};
+ghost use Rattle.vx_canonical.specs.Canonical.{IsCanonicalWithin, AreCanonicalWithin, IsPickedWithin, ArePickedWithin, HasPartsOf};
 ghost use Rattle.vx_tree.specs.CanonicalFaults.{canonical_fault, columns_fault, plain_overflow};
 
 use crate::canonical_zeroes::{is_countable, plain_nulls};
@@ -26,6 +27,7 @@ use vx_tree::{ArrayRef, Layout, Validity, told_by};
 #[cycle(canonical)]
 pub(crate) fn canonical(alloc: Global, array: &ArrayRef) -> Result<ArrayRef, VortexError>
     ensures ok { IfOk result (IsCanonical array.now) }
+    ensures within { IfOk result (IsCanonicalWithin array.now) }
     ensures refuses { Refuses result (canonical_fault array.now) }
 {
     match array.layout() {
@@ -50,6 +52,7 @@ pub(crate) fn canonical_at(
     requires within { AreBelow (tree_len array.now) selection.now }
     requires countable { plain_overflow (kind_of array.now) (length selection.now) ≡ None }
     ensures ok { IfOk result (IsCanonicalAt array.now selection.now) }
+    ensures within { IfOk result (IsPickedWithin array.now) }
     ensures refuses { Refuses result (canonical_fault array.now) }
 {
     match array.layout() {
@@ -69,6 +72,7 @@ pub(crate) fn canonical_at(
 fn canonical_dictionary(alloc: Global, array: &ArrayRef) -> Result<ArrayRef, VortexError>
     requires { is_dictionary array.now ≡ true }
     ensures ok { IfOk result (IsCanonical array.now) }
+    ensures within { IfOk result (IsCanonicalWithin array.now) }
     ensures refuses { Refuses result (canonical_fault array.now) }
 {
     let Layout::Dict { codes, values, .. } = array.layout() else {
@@ -90,6 +94,7 @@ fn canonical_dictionary_at(
     requires within { AreBelow (tree_len array.now) selection.now }
     requires countable { plain_overflow (kind_of array.now) (length selection.now) ≡ None }
     ensures ok { IfOk result (IsCanonicalAt array.now selection.now) }
+    ensures within { IfOk result (IsPickedWithin array.now) }
     ensures refuses { Refuses result (canonical_fault array.now) }
 {
     let Layout::Dict { codes, values, .. } = array.layout() else {
@@ -103,8 +108,7 @@ fn canonical_dictionary_at(
     Ok(named)
 }
 
-// The values that codes name, in plain layout. Where there are more values than codes, those
-// that no code names are not made.
+// The values that codes name, in plain layout: those that no code names are not made.
 #[cycle(canonical)]
 fn canonical_named(
     alloc: Global,
@@ -113,44 +117,60 @@ fn canonical_named(
 ) -> Result<ArrayRef, VortexError>
     requires { IsDictionary codes.now values.now false }
     ensures ok { IfOk result (IsCanonical (dictionary codes.now values.now false)) }
+    ensures within { IfOk result (IsCanonicalWithin (dictionary codes.now values.now false)) }
     ensures refuses { Refuses result (canonical_fault (dictionary codes.now values.now false)) }
 {
     if !is_countable(values.dtype(), codes.len()) {
         return Err(VortexError::Overflow);
     }
-    if values.len() <= codes.len() {
+    if values.is_empty() {
         let values = canonical(alloc, values)?;
-        return Ok(named_by(alloc, &values, codes)?);
+        return Ok(named_none(alloc, &values, codes)?);
     }
     let nulls = canonical_validity(alloc, &codes.validity(alloc)?, codes.len())?;
     let positions = codes.code_positions(alloc, values.len())?;
     let picked = canonical_at(alloc, values, &positions.selection())?;
-    Ok(picked.nulled(alloc, &nulls)?)
+    Ok(nulled_parts(alloc, &picked, &nulls)?)
 }
 
-// The values that codes name, in plain layout. Asks that the values are in plain layout, and
-// that so many of them can be counted.
+// A row of null for each code, in plain layout like these values, of which there are none. Asks
+// that the values are in plain layout, and that so many of them can be counted.
 #[tactic(auto, using(crate::proofs::PlainKinds::plain_kinds))]
-fn named_by(alloc: Global, values: &ArrayRef, codes: &ArrayRef) -> Result<ArrayRef, VortexError>
+fn named_none(alloc: Global, values: &ArrayRef, codes: &ArrayRef) -> Result<ArrayRef, VortexError>
     requires plain { IsPlain values.now }
+    requires none { tree_len values.now ≡ 0 }
     requires codes { IsDictionary codes.now values.now false }
     requires countable { plain_overflow (kind_of values.now) (tree_len codes.now) ≡ None }
     ensures { Gives result (IsCanonical (dictionary codes.now values.now false)) }
 {
-    values.known();
     let nulls = canonical_validity(alloc, &codes.validity(alloc)?, codes.len())?;
-    if values.is_empty() {
-        return Ok(plain_nulls(alloc, values, codes.len(), &nulls)?);
+    Ok(plain_nulls(alloc, values, codes.len(), &nulls)?)
+}
+
+// The same rows over the same elements, columns and buffers, null where this validity is not true.
+fn nulled_parts(alloc: Global, array: &ArrayRef, nulls: &Validity) -> Result<ArrayRef, VortexError>
+    requires { ValidFits (valid_of nulls.now) (tree_len array.now) }
+    ensures rows { Gives result (IsNulled array.now (valid_of nulls.now)) }
+    ensures parts { IfOk result (HasPartsOf array.now) }
+{
+    array.known();
+    let nulled = array.nulled(alloc, nulls)?;
+    match nulled.layout() {
+        Layout::FixedSizeList { validity, .. } => {
+            array.with_validity(alloc, validity.try_clone(alloc)?)
+        }
+        Layout::Struct { validity, .. } => {
+            array.with_validity(alloc, validity.try_clone(alloc)?)
+        }
+        _ => Ok(nulled),
     }
-    let positions = codes.code_positions(alloc, values.len())?;
-    let selected = values.select_within(alloc, &positions.selection())?;
-    Ok(selected.nulled(alloc, &nulls)?)
 }
 
 #[cycle(canonical)]
 fn canonical_fixed_lists(alloc: Global, array: &ArrayRef) -> Result<ArrayRef, VortexError>
     requires { is_fixed_list array.now ≡ true }
     ensures ok { IfOk result (IsCanonical array.now) }
+    ensures within { IfOk result (IsCanonicalWithin array.now) }
     ensures refuses { Refuses result (canonical_fault array.now) }
 {
     let Layout::FixedSizeList {
@@ -179,6 +199,7 @@ fn canonical_fixed_lists_at(
     requires within { AreBelow (tree_len array.now) selection.now }
     requires countable { plain_overflow (kind_of array.now) (length selection.now) ≡ None }
     ensures ok { IfOk result (IsCanonicalAt array.now selection.now) }
+    ensures within { IfOk result (IsPickedWithin array.now) }
     ensures refuses { Refuses result (canonical_fault array.now) }
 {
     let Layout::FixedSizeList {
@@ -204,6 +225,7 @@ fn canonical_fixed_lists_at(
 fn canonical_list_view(alloc: Global, array: &ArrayRef) -> Result<ArrayRef, VortexError>
     requires { is_list_view array.now ≡ true }
     ensures ok { IfOk result (IsCanonical array.now) }
+    ensures within { IfOk result (IsCanonicalWithin array.now) }
     ensures refuses { Refuses result (canonical_fault array.now) }
 {
     let Layout::ListView {
@@ -236,6 +258,7 @@ fn canonical_list_view_at(
     requires layout { is_list_view array.now ≡ true }
     requires within { AreBelow (tree_len array.now) selection.now }
     ensures ok { IfOk result (IsCanonicalAt array.now selection.now) }
+    ensures within { IfOk result (IsPickedWithin array.now) }
     ensures refuses { Refuses result (canonical_fault array.now) }
 {
     let Layout::ListView {
@@ -261,6 +284,7 @@ fn canonical_list_view_at(
 fn canonical_struct(alloc: Global, array: &ArrayRef) -> Result<ArrayRef, VortexError>
     requires { is_struct array.now ≡ true }
     ensures ok { IfOk result (IsCanonical array.now) }
+    ensures within { IfOk result (IsCanonicalWithin array.now) }
     ensures refuses { Refuses result (canonical_fault array.now) }
 {
     let Layout::Struct {
@@ -288,6 +312,7 @@ fn canonical_columns(
 ) -> Result<Vec<ArrayRef>, VortexError>
     requires { AllLen len (trees_from columns.now) }
     ensures ok { IfOk result (λ cs. AreCanonical (trees_from columns.now) len (trees_from cs.items)) }
+    ensures within { IfOk result (λ cs. AreCanonicalWithin (trees_from columns.now) (trees_from cs.items)) }
     ensures refuses { Refuses result (columns_fault (trees_from columns.now)) }
 {
     let mut made = Vec::with_capacity(alloc, columns.len())?;
@@ -308,6 +333,7 @@ fn canonical_struct_at(
     requires within { AreBelow (tree_len array.now) selection.now }
     requires countable { plain_overflow (kind_of array.now) (length selection.now) ≡ None }
     ensures ok { IfOk result (IsCanonicalAt array.now selection.now) }
+    ensures within { IfOk result (IsPickedWithin array.now) }
     ensures refuses { Refuses result (canonical_fault array.now) }
 {
     let Layout::Struct {
@@ -338,6 +364,7 @@ fn canonical_columns_at(
     requires within { AllHave selection.now (trees_from columns.now) }
     requires countable { All (λ t. plain_overflow (kind_of t) (length selection.now) ≡ None) columns.now }
     ensures ok { IfOk result (λ cs. AreCanonicalAt (trees_from columns.now) selection.now (trees_from cs.items)) }
+    ensures within { IfOk result (λ cs. ArePickedWithin (trees_from columns.now) (trees_from cs.items)) }
     ensures refuses { Refuses result (columns_fault (trees_from columns.now)) }
 {
     let mut made = Vec::with_capacity(alloc, columns.len())?;

@@ -10,9 +10,9 @@ ghost use Rattle.vx_tree.specs.Plain.{IsPlain};
 ghost use Rattle.vx_tree.specs.Extents.{extent_of, joined_extent};
 ghost use Rattle.vx_canonical.specs.Joined.{joined_state};
 ghost use Rattle.vx_tree.specs.Flags.{is_flagged};
-ghost use Rattle.vx_canonical.specs.Canonical.{IsCanonical};
+ghost use Rattle.vx_canonical.specs.Canonical.{IsCanonical, IsCanonicalWithin};
 ghost use Rattle.vx_tree.specs.CanonicalFaults.{columns_fault};
-ghost use Rattle.vx_canonical.specs.Concatenated.{are_alike, concat_fault};
+ghost use Rattle.vx_canonical.specs.Concatenated.{are_alike, concat_fault, HasNumbersOf};
 
 mod numbers;
 
@@ -26,18 +26,20 @@ use vx_tree::ArrayRef;
 
 /// What can be joined, one after another.
 pub trait Concatenate: Sized {
-    /// The rows of the arrays, one array after another, in the plain layout of their data type: of
-    /// the numbers 1, 2 and 3, null the numbers 1, 2, 3, null. At every depth they have as many
-    /// elements and buffers as all arrays together. Refuses in this order: with
-    /// `EmptyInput` where no array is given; with `DifferingDtypes` where one is not of the data
-    /// type of the first; with `Overflow` where there are more rows than can be counted; by the
-    /// first fault of making each array plain, as `to_canonical` has it; then with `Overflow` where
-    /// the lists of all arrays, at any depth, have together more elements than can be counted, or
-    /// their texts or byte lists more buffers than a view can number, 4294967296. A list view has
-    /// all of its elements and texts all of their buffers; a constant those of its row once,
-    /// whatever its length, with a buffer for each text or byte list above 12 bytes; a dictionary
-    /// those of its values, also where it has no values; lists of one size have the rows times the
-    /// size.
+    /// The rows of the arrays, one array after another, in the plain layout of their data type.
+    /// Parts change: offsets and sizes of lists come out as `u64`, also those that were `u8` or
+    /// `u16`, and each offset is further by the elements of the arrays before; views are numbered
+    /// further by the buffers of the arrays before. Of the numbers 1, 2 and 3, null it makes the
+    /// numbers 1, 2, 3, null. At every depth there are as many elements and buffers as in all
+    /// arrays together, in order. Refuses in this order: with `EmptyInput` where no array is given;
+    /// with `DifferingDtypes` where one is not of the data type of the first; with `Overflow` where
+    /// there are more rows than can be counted; by the first fault of making each array plain, as
+    /// `to_canonical` has it; then with `Overflow` where the lists of all arrays, at any depth,
+    /// have together more elements than can be counted, or their texts or byte lists more buffers
+    /// than a view can number, 4294967296. A list view has all of its elements and texts all of
+    /// their buffers; a constant those of its row once, whatever its length, with a buffer for each
+    /// text or byte list above 12 bytes; a dictionary those of its values, also where it has no
+    /// values; lists of one size have the rows times the size.
     fn concat(alloc: Global, arrays: &[Self]) -> Result<Self, VortexError>;
 }
 
@@ -49,6 +51,7 @@ impl Concatenate for ArrayRef {
         ensures state { IfOk result (λ a. tree_state a ≡ joined_state arrays.now) }
         ensures extent { IfOk result (λ a. extent_of a ≡ joined_extent (kind_of a) (map extent_of arrays.now)) }
         ensures flag { IfOk result (λ a. is_flagged a ≡ false) }
+        ensures numbers { IfOk result (HasNumbersOf arrays.now) }
         ensures refuses { Refuses result (concat_fault arrays.now) }
     {
         let Some(first) = arrays.first() else {
@@ -85,6 +88,7 @@ fn are_alike(dtype: &DType, arrays: &[ArrayRef]) -> bool
 // Each array in plain layout.
 fn plain_arrays(alloc: Global, arrays: &[ArrayRef]) -> Result<Vec<ArrayRef>, VortexError>
     ensures ok { IfOk result (λ ps. AllZip IsCanonical arrays.now ps.items) }
+    ensures within { IfOk result (λ ps. AllZip IsCanonicalWithin arrays.now ps.items) }
     ensures refuses { Refuses result (columns_fault (trees_from arrays.now)) }
 {
     let mut plain = Vec::with_capacity(alloc, arrays.len())?;

@@ -14,7 +14,7 @@ ghost use Rattle.vx_tree.specs.Formed.{column_count};
 ghost use Rattle.vx_tree.specs.Layouts.{is_fixed_list, is_list_view, is_struct};
 ghost use Rattle.vx_tree.specs.Plain.{IsPlain, ArePlain};
 ghost use Rattle.vx_canonical.specs.Joined.{joined_len, IsValidJoined, ArePartsOf, IsJoined, AreJoinable};
-ghost use Rattle.vx_canonical.specs.Joined.{AreColumnsJoinable, AreColumnsJoined, columns_in, parts_join_fault};
+ghost use Rattle.vx_canonical.specs.Joined.{AreColumnsJoinable, AreColumnsJoined, columns_in, parts_join_fault, HasJoinedNumbers, HaveJoinedNumbers};
 ghost use Rattle.vx_canonical.specs.Joined.{columns_join_fault, join_fault};
 
 use crate::layouts::bool::join_bools;
@@ -91,6 +91,7 @@ pub(crate) fn join_like(
     requires plain { IsPlain like.now }
     requires arrays { AreJoinable (kind_of like.now) arrays.now }
     ensures ok { IfOk result (IsJoined (kind_of like.now) arrays.now) }
+    ensures numbers { IfOk result (HasJoinedNumbers arrays.now) }
     ensures refuses { Refuses result (join_fault (kind_of like.now) arrays.now) }
 {
     let len = joined_len(arrays)?;
@@ -123,6 +124,7 @@ fn join_fixed_like(
     requires len { len ≡ joined_len arrays.now }
     requires valid { IsValidJoined (is_nullable_kind (kind_of like.now)) arrays.now (valid_of validity) }
     ensures ok { IfOk result (IsJoined (kind_of like.now) arrays.now) }
+    ensures numbers { IfOk result (HasJoinedNumbers arrays.now) }
     ensures refuses { Refuses result (parts_join_fault (kind_of like.now) arrays.now) }
 {
     let Layout::FixedSizeList { elements, size, .. } = like.layout() else {
@@ -147,6 +149,7 @@ fn join_lists_like(
     requires arrays { AreJoinable (kind_of like.now) arrays.now }
     requires valid { IsValidJoined (is_nullable_kind (kind_of like.now)) arrays.now (valid_of validity) }
     ensures ok { IfOk result (IsJoined (kind_of like.now) arrays.now) }
+    ensures numbers { IfOk result (HasJoinedNumbers arrays.now) }
     ensures refuses { Refuses result (parts_join_fault (kind_of like.now) arrays.now) }
 {
     let Layout::ListView { elements, .. } = like.layout() else {
@@ -172,6 +175,7 @@ fn join_structs_like(
     requires len { len ≡ joined_len arrays.now }
     requires valid { IsValidJoined (is_nullable_kind (kind_of like.now)) arrays.now (valid_of validity) }
     ensures ok { IfOk result (IsJoined (kind_of like.now) arrays.now) }
+    ensures numbers { IfOk result (HasJoinedNumbers arrays.now) }
     ensures refuses { Refuses result (parts_join_fault (kind_of like.now) arrays.now) }
 {
     let Layout::Struct { names, columns, .. } = like.layout() else {
@@ -195,6 +199,7 @@ fn join_columns(
     requires each { AreColumnsJoinable columns.now arrays.now }
     ensures ok { IfOk result (λ cs. AreColumnsJoined arrays.now (length columns.now) (trees_from cs.items)) }
     ensures kinds { IfOk result (λ cs. kinds_of (trees_from cs.items) ≡ kinds_of (trees_from columns.now)) }
+    ensures numbers { IfOk result (λ cs. HaveJoinedNumbers arrays.now 0 (trees_from cs.items)) }
     ensures refuses { Refuses result (columns_join_fault (kinds_of (trees_from columns.now)) 0 arrays.now) }
 {
     let mut made = Vec::with_capacity(alloc, columns.len())?;

@@ -1,12 +1,13 @@
 // Numbers of arrays, one array after another, each written once.
 
-ghost use Rattle.std.specs.Prelude.{◌≡◌, ◌<◌, ◌/◌, false, length};
+ghost use Rattle.std.specs.Prelude.{◌≡◌, ◌<◌, ◌/◌, true, false, length, IfOk};
 ghost use Rattle.std.specs.List.{All};
 ghost use Rattle.vx_base.specs.DTypes.{is_nullable};
 ghost use Rattle.vx_base.specs.Integers.{byte_width, Holds};
 ghost use Rattle.vx_base.specs.Kinds.{integers};
 ghost use Rattle.vx_base.specs.Refusals.{Gives};
 ghost use Rattle.vx_tree.specs.Tree.{dictionary};
+ghost use Rattle.vx_tree.specs.Layouts.{is_primitive};
 ghost use Rattle.vx_tree.specs.Meaning.{tree_len, kind_of, row_at};
 ghost use Rattle.vx_tree.specs.Formed.{IsDictionary};
 ghost use Rattle.vx_canonical.specs.Joined.{joined_len, joined_row, IsJoined};
@@ -31,7 +32,8 @@ pub(crate) fn concat_numbers(
 ) -> Result<ArrayRef, VortexError>
     requires kind { All (λ t. kind_of t ≡ integers ptype (is_nullable nullability)) arrays.now }
     requires len { len ≡ joined_len arrays.now }
-    ensures { Gives result (IsJoined (integers ptype (is_nullable nullability)) arrays.now) }
+    ensures joined { Gives result (IsJoined (integers ptype (is_nullable nullability)) arrays.now) }
+    ensures layout { IfOk result (λ a. is_primitive a ≡ true) }
 {
     let validity = joined_validity(alloc, arrays, nullability)?;
     let size = len.saturating_mul(ptype.byte_width());

@@ -1,12 +1,12 @@
 // Truth values of arrays, one array after another.
 
-ghost use Rattle.std.specs.Prelude.{◌≡◌, true};
+ghost use Rattle.std.specs.Prelude.{◌≡◌, true, IfOk};
 ghost use Rattle.std.specs.List.{All, flat_map};
 ghost use Rattle.vx_base.specs.Kinds.{booleans};
 ghost use Rattle.vx_base.specs.Refusals.{Gives};
 ghost use Rattle.vx_tree.specs.Layouts.{is_bools};
 ghost use Rattle.vx_tree.specs.Meaning.{nullable};
-ghost use Rattle.vx_canonical.specs.Joined.{joined_len, IsJoined, IsValidJoined, bits_in};
+ghost use Rattle.vx_canonical.specs.Joined.{joined_len, IsJoined, IsValidJoined, HasJoinedNumbers, bits_in};
 ghost use Rattle.vx_tree.specs.Parts.{valid_of};
 
 use std::alloc::Global;
@@ -23,7 +23,8 @@ pub(crate) fn join_bools(
     requires layout { All (λ t. is_bools t ≡ true) arrays.now }
     requires len { len ≡ joined_len arrays.now }
     requires valid { IsValidJoined (nullable (valid_of validity)) arrays.now (valid_of validity) }
-    ensures { Gives result (IsJoined (booleans (nullable (valid_of validity))) arrays.now) }
+    ensures joined { Gives result (IsJoined (booleans (nullable (valid_of validity))) arrays.now) }
+    ensures numbers { IfOk result (HasJoinedNumbers arrays.now) }
 {
     let bits = joined_bits(alloc, arrays, len)?;
     ArrayRef::bools(alloc, bits, validity)

@@ -9,7 +9,7 @@ ghost use Rattle.vx_tree.specs.Tree.{constant};
 ghost use Rattle.vx_tree.specs.Layouts.{is_constant};
 ghost use Rattle.vx_tree.specs.Meaning.{kind_of};
 ghost use Rattle.vx_tree.specs.CanonicalFaults.{kept_fault};
-ghost use Rattle.vx_canonical.specs.Canonical.{IsCanonical, IsCanonicalAt};
+ghost use Rattle.vx_canonical.specs.Canonical.{IsCanonical, IsCanonicalAt, IsCanonicalWithin, IsPickedWithin};
 ghost use Rattle.vx_tree.specs.CanonicalFaults.{canonical_fault, constant_fault, plain_overflow};
 
 use crate::canonical_nested::plain_values;
@@ -21,10 +21,11 @@ use vx_tree::{ArrayRef, Layout, Validity, scalar_validity};
 
 // The one row in plain layout, taken as often as it stands. Rows of null are made at once, and
 // where no row stands there is but what the one keeps.
-#[tactic(auto, using(crate::proofs::Blanks::null_rows))]
+#[tactic(auto, using(crate::proofs::Blanks::null_rows, crate::proofs::CanonicalWithin::no_parts))]
 pub(crate) fn canonical_constant(alloc: Global, array: &ArrayRef) -> Result<ArrayRef, VortexError>
     requires { is_constant array.now ≡ true }
     ensures ok { IfOk result (IsCanonical array.now) }
+    ensures within { IfOk result (IsCanonicalWithin array.now) }
     ensures refuses { Refuses result (canonical_fault array.now) }
 {
     let Layout::Constant { scalar, len } = array.layout() else {
@@ -46,6 +47,7 @@ pub(crate) fn canonical_constant(alloc: Global, array: &ArrayRef) -> Result<Arra
 }
 
 // The same, as often as rows are picked.
+#[tactic(auto, using(crate::proofs::CanonicalWithin::no_parts))]
 pub(crate) fn canonical_constant_at(
     alloc: Global,
     array: &ArrayRef,
@@ -54,6 +56,7 @@ pub(crate) fn canonical_constant_at(
     requires layout { is_constant array.now ≡ true }
     requires countable { plain_overflow (kind_of array.now) (length selection.now) ≡ None }
     ensures ok { IfOk result (IsCanonicalAt array.now selection.now) }
+    ensures within { IfOk result (IsPickedWithin array.now) }
     ensures refuses { Refuses result (canonical_fault array.now) }
 {
     let Layout::Constant { scalar, len } = array.layout() else {

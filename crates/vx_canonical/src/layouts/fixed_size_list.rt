@@ -1,11 +1,11 @@
 // Lists of one size of arrays, one array after another.
 
-ghost use Rattle.std.specs.Prelude.{◌≡◌, map};
+ghost use Rattle.std.specs.Prelude.{◌≡◌, map, IfOk};
 ghost use Rattle.vx_base.specs.Refusals.{Gives};
 ghost use Rattle.std.specs.List.{All};
 ghost use Rattle.vx_base.specs.Kinds.{fixed_lists};
 ghost use Rattle.vx_tree.specs.Meaning.{kind_of, nullable};
-ghost use Rattle.vx_canonical.specs.Joined.{joined_len, IsJoined, IsValidJoined, elements_in, AreFixedLists};
+ghost use Rattle.vx_canonical.specs.Joined.{joined_len, IsJoined, IsValidJoined, HasJoinedNumbers, elements_in, AreFixedLists};
 ghost use Rattle.vx_tree.specs.Parts.{valid_of};
 
 use std::alloc::Global;
@@ -26,7 +26,8 @@ pub(crate) fn join_fixed_lists(
     requires elements { IsJoined (kind_of elements) (map elements_in arrays.now) elements }
     requires len { len ≡ joined_len arrays.now }
     requires valid { IsValidJoined (nullable (valid_of validity)) arrays.now (valid_of validity) }
-    ensures { Gives result (IsJoined (fixed_lists (kind_of elements) size (nullable (valid_of validity))) arrays.now) }
+    ensures joined { Gives result (IsJoined (fixed_lists (kind_of elements) size (nullable (valid_of validity))) arrays.now) }
+    ensures numbers { HasJoinedNumbers (map elements_in arrays.now) elements → IfOk result (HasJoinedNumbers arrays.now) }
 {
     let _ = arrays;
     ArrayRef::fixed_size_list(alloc, elements, size, validity, len)

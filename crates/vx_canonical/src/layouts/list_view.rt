@@ -6,7 +6,7 @@ ghost use Rattle.std.specs.List.{All};
 ghost use Rattle.vx_base.specs.Integers.{numbers};
 ghost use Rattle.vx_base.specs.declared.ptypes.PType.TheVariants.{U64};
 ghost use Rattle.vx_tree.specs.Layouts.{is_primitive};
-ghost use Rattle.vx_canonical.specs.Joined.{joined_len, elements_in, counts_in, offsets_from, joined_sizes, AreLists, IsCountsOf, IsJoined, IsValidJoined};
+ghost use Rattle.vx_canonical.specs.Joined.{joined_len, elements_in, counts_in, offsets_from, joined_sizes, AreLists, IsCountsOf, IsJoined, IsValidJoined, HasJoinedNumbers};
 ghost use Rattle.vx_base.specs.Kinds.{lists};
 ghost use Rattle.vx_tree.specs.Meaning.{kind_of, nullable};
 ghost use Rattle.vx_tree.specs.Formed.{IsCounts};
@@ -32,7 +32,8 @@ pub(crate) fn join_list_views(
     requires lists { All AreLists arrays.now }
     requires elements { IsJoined (kind_of elements) (map elements_in arrays.now) elements }
     requires valid { IsValidJoined (nullable (valid_of validity)) arrays.now (valid_of validity) }
-    ensures { Gives result (IsJoined (lists (kind_of elements) (nullable (valid_of validity))) arrays.now) }
+    ensures joined { Gives result (IsJoined (lists (kind_of elements) (nullable (valid_of validity))) arrays.now) }
+    ensures numbers { HasJoinedNumbers (map elements_in arrays.now) elements → IfOk result (HasJoinedNumbers arrays.now) }
 {
     elements.known_len();
     let offsets = wide_offsets(alloc, arrays, len)?;

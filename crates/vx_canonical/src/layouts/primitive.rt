@@ -1,12 +1,12 @@
 // Whole numbers of arrays, one array after another.
 
-ghost use Rattle.std.specs.Prelude.{◌≡◌, true};
+ghost use Rattle.std.specs.Prelude.{◌≡◌, true, IfOk};
 ghost use Rattle.std.specs.List.{All, flat_map};
 ghost use Rattle.vx_base.specs.Kinds.{integers};
 ghost use Rattle.vx_base.specs.Refusals.{Gives};
 ghost use Rattle.vx_tree.specs.Layouts.{is_primitive};
 ghost use Rattle.vx_tree.specs.Meaning.{nullable};
-ghost use Rattle.vx_canonical.specs.Joined.{IsJoined, IsValidJoined, AreNumbers, bytes_in};
+ghost use Rattle.vx_canonical.specs.Joined.{IsJoined, IsValidJoined, HasJoinedNumbers, AreNumbers, bytes_in};
 ghost use Rattle.vx_tree.specs.Parts.{valid_of};
 
 use std::alloc::Global;
@@ -23,7 +23,8 @@ pub(crate) fn join_primitives(
 ) -> Result<ArrayRef, VortexError>
     requires numbers { All (AreNumbers ptype) arrays.now }
     requires valid { IsValidJoined (nullable (valid_of validity)) arrays.now (valid_of validity) }
-    ensures { Gives result (IsJoined (integers ptype (nullable (valid_of validity))) arrays.now) }
+    ensures joined { Gives result (IsJoined (integers ptype (nullable (valid_of validity))) arrays.now) }
+    ensures numbers { IfOk result (HasJoinedNumbers arrays.now) }
 {
     let size = len.saturating_mul(ptype.byte_width());
     let bytes = ByteBuffer::from_vec(alloc, joined_bytes(alloc, arrays, size)?)?;

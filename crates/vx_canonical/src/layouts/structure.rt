@@ -1,13 +1,13 @@
 // Records of arrays, one array after another.
 
-ghost use Rattle.std.specs.Prelude.{◌≡◌, ◌<◌, true, length, map};
+ghost use Rattle.std.specs.Prelude.{◌≡◌, ◌<◌, true, length, map, IfOk};
 ghost use Rattle.vx_base.specs.Refusals.{Gives};
 ghost use Rattle.vx_base.specs.Kinds.{records};
 ghost use Rattle.vx_tree.specs.Layouts.{is_struct};
 ghost use Rattle.vx_tree.specs.Meaning.{kinds_of, trees_from, nullable};
 ghost use Rattle.vx_tree.specs.Formed.{column_count};
 ghost use Rattle.std.specs.List.{All};
-ghost use Rattle.vx_canonical.specs.Joined.{joined_len, IsJoined, IsValidJoined, AreRecords, AreColumnsJoined, columns_in, column_of};
+ghost use Rattle.vx_canonical.specs.Joined.{joined_len, IsJoined, IsValidJoined, HasJoinedNumbers, HaveJoinedNumbers, AreRecords, AreColumnsJoined, columns_in, column_of};
 ghost use Rattle.vx_tree.specs.Parts.{valid_of};
 
 use std::alloc::Global;
@@ -28,7 +28,8 @@ pub(crate) fn join_structs(
     requires columns { AreColumnsJoined arrays.now (length names) (trees_from columns.items) }
     requires len { len ≡ joined_len arrays.now }
     requires valid { IsValidJoined (nullable (valid_of validity)) arrays.now (valid_of validity) }
-    ensures { Gives result (IsJoined (records names (kinds_of (trees_from columns.items)) (nullable (valid_of validity))) arrays.now) }
+    ensures joined { Gives result (IsJoined (records names (kinds_of (trees_from columns.items)) (nullable (valid_of validity))) arrays.now) }
+    ensures numbers { HaveJoinedNumbers arrays.now 0 (trees_from columns.items) → IfOk result (HasJoinedNumbers arrays.now) }
 {
     let _ = arrays;
     ArrayRef::structure(alloc, names, columns, validity, len)

@@ -15,7 +15,7 @@ ghost use Rattle.vx_tree.specs.Plain.{IsPlainValid};
 ghost use Rattle.vx_tree.specs.Extents.{extent_of};
 ghost use Rattle.vx_canonical.specs.Canonical.{IsBlank};
 ghost use Rattle.vx_tree.specs.CanonicalFaults.{buffers_overflow};
-ghost use Rattle.vx_canonical.specs.Joined.{IsJoined, IsValidJoined, AreValues, AreResolved, joined_buffers, shifted_view, views_from};
+ghost use Rattle.vx_canonical.specs.Joined.{IsJoined, IsValidJoined, HasJoinedNumbers, AreValues, AreResolved, joined_buffers, shifted_view, views_from};
 
 use std::alloc::Global;
 use vx_base::{Buffer, ByteBuffer, DType, VortexError};
@@ -38,6 +38,7 @@ pub(crate) fn join_views(
     requires kind { dtype_meaning dtype.now ≡ value_kind (is_texts (dtype_meaning dtype.now)) (nullable (valid_of validity)) }
     requires valid { IsValidJoined (nullable (valid_of validity)) arrays.now (valid_of validity) }
     ensures ok { IfOk result (IsJoined (dtype_meaning dtype.now) arrays.now) }
+    ensures numbers { IfOk result (HasJoinedNumbers arrays.now) }
     ensures refuses { Refuses result (buffers_overflow (length (joined_buffers arrays.now))) }
 {
     let count = buffer_count(arrays)?;

@@ -10,10 +10,13 @@ use Rattle.vx_base.specs.Kinds.{is_nullable_kind, or_nullable}
 use Rattle.vx_base.proofs.SizedLists.{lists_long}
 use Rattle.vx_tree.specs.Named.{AreIndices}
 use Rattle.vx_tree.specs.Operations.{AreBelow}
-use Rattle.vx_canonical.specs.Canonical.{IsCanonical, IsCanonicalAt, IsCanonicalValid}
+use Rattle.vx_canonical.specs.Canonical.{IsCanonical, IsCanonicalAt, IsCanonicalValid, IsCanonicalWithin, IsPickedWithin}
 use Rattle.vx_tree.specs.CanonicalFaults.{plain_overflow, fields_overflow}
-use Rattle.vx_tree.proofs.Columns.{AllZip-next, AllHave-at, AllHave-from_len, columns_below}
+use Rattle.std.proofs.lemmas.Bool.{eqb-true}
+use Rattle.vx_tree.proofs.Dictionaries.{not_empty}
+use Rattle.vx_tree.proofs.Columns.{AllZip-next, AllZip-all, AllHave-at, AllHave-from_len, columns_below}
 use Rattle.vx_canonical.proofs.CanonicalArrays.{fixed_lists_canonical, lists_canonical, AreCanonical-from_each, columns_fault-next, columns_fault-all, columns_refused}
+use Rattle.vx_canonical.proofs.CanonicalWithin.{fixed_lists_within, lists_within, records_within, dictionary_within, fixed_lists_picked, lists_picked, records_picked, dictionary_picked, same_parts_picked, AreCanonicalWithin-from_each, ArePickedWithin-from_each}
 use Rattle.vx_canonical.proofs.CanonicalDictionaries.{dictionary_canonical, dictionary_unflagged, named_at}
 use Rattle.vx_canonical.proofs.CanonicalAt.{AreCanonicalAt-from_each, dictionary_at, elements_at, fixed_lists_at, lists_at}
 use Rattle.vx_canonical.proofs.CanonicalFaults.{dictionary_uncounted, dictionary_fault-counted}
@@ -63,6 +66,8 @@ canonical_columns-loop-column-preserved t c = (
   AllZip-next IsCanonical c.args.columns.now c.loop-column.made.items c.push.new.self.items c.loop-column.column-index c.column-item.result c.in_ok-canonical.field-0
       c.loop-column.invariant.0 c.loop-column-test.true c.column-item.is c.in_ok-canonical.ensures.ok c.in_ok-push.ensures.items,
   columns_fault-next c.args.columns.now c.loop-column.column-index c.column-item.result c.loop-column.invariant.1 c.loop-column-test.true c.column-item.is c.in_ok-canonical.ensures.refuses,
+  AllZip-next IsCanonicalWithin c.args.columns.now c.loop-column.made.items c.push.new.self.items c.loop-column.column-index c.column-item.result c.in_ok-canonical.field-0
+      c.loop-column.invariant.2 c.loop-column-test.true c.column-item.is c.in_ok-canonical.ensures.within c.in_ok-push.ensures.items,
 )
 
 pub canonical_columns-returns-clause-ok : goal.canonical_columns-returns-clause-ok
@@ -108,6 +113,8 @@ canonical_columns_at-loop-column-preserved t c = (
   AllZip-next (λ x y. IsCanonicalAt x c.args.selection.now y) c.args.columns.now c.loop-column.made.items c.push.new.self.items c.loop-column.column-index c.column-item.result c.in_ok-canonical_at.field-0
       c.loop-column.invariant.0 c.loop-column-test.true c.column-item.is c.in_ok-canonical_at.ensures.ok c.in_ok-push.ensures.items,
   columns_fault-next c.args.columns.now c.loop-column.column-index c.column-item.result c.loop-column.invariant.1 c.loop-column-test.true c.column-item.is c.in_ok-canonical_at.ensures.refuses,
+  AllZip-next IsPickedWithin c.args.columns.now c.loop-column.made.items c.push.new.self.items c.loop-column.column-index c.column-item.result c.in_ok-canonical_at.field-0
+      c.loop-column.invariant.2 c.loop-column-test.true c.column-item.is c.in_ok-canonical_at.ensures.within c.in_ok-push.ensures.items,
 )
 
 pub canonical_columns_at-returns-clause-ok : goal.canonical_columns_at-returns-clause-ok
@@ -150,25 +157,34 @@ canonical_named-returns-then-not-is_countable-clause-refuses t c =
     let codes = c.args.codes.now in
     inr (dictionary_uncounted (dictionary codes v false) codes v false refl (sym (λ i. plain_overflow (c.dtype.ensures i) (c.len.ensures i)) ∙ (rw c.if-not-is_countable.true at c.is_countable.ensures)))
 
-pub canonical_named-named_by-requires-clause-countable : goal.canonical_named-named_by-requires-clause-countable
-canonical_named-named_by-requires-clause-countable t c =
+pub canonical_named-named_none-requires-clause-countable : goal.canonical_named-named_none-requires-clause-countable
+canonical_named-named_none-requires-clause-countable t c =
     let codes = c.args.codes.now in
     let all : plain_overflow (kind_of c.args.values.now) (tree_len codes) ≡ None = sym (λ i. plain_overflow (c.dtype.ensures i) (c.len.ensures i)) ∙ (rw c.if-not-is_countable.false at c.is_countable.ensures) in
     ap (λ k. plain_overflow k (tree_len codes)) c.in_ok-values.ensures.ok.same.kind ∙ all
 
-pub canonical_named-returns-then-len-clause-ok : goal.canonical_named-returns-then-len-clause-ok
-canonical_named-returns-then-len-clause-ok t c =
+pub canonical_named-named_none-requires-clause-none : goal.canonical_named-named_none-requires-clause-none
+canonical_named-named_none-requires-clause-none t c =
+    c.in_ok-values.ensures.ok.same.len ∙ eqb-true (tree_len c.args.values.now) 0 (sym c.is_empty.ensures ∙ c.if-is_empty.true)
+
+pub canonical_named-returns-then-is_empty-clause-ok : goal.canonical_named-returns-then-is_empty-clause-ok
+canonical_named-returns-then-is_empty-clause-ok t c =
     let v = c.args.values.now in
     let codes = c.args.codes.now in
-    dictionary_canonical (dictionary codes v false) c.in_ok-named_by.field-0 codes v c.in_ok-values.values false refl c.requires c.in_ok-values.ensures.ok c.in_ok-named_by.ensures
+    dictionary_canonical (dictionary codes v false) c.in_ok-named_none.field-0 codes v c.in_ok-values.values false refl c.requires c.in_ok-values.ensures.ok c.in_ok-named_none.ensures
+
+pub canonical_named-returns-then-is_empty-clause-within : goal.canonical_named-returns-then-is_empty-clause-within
+canonical_named-returns-then-is_empty-clause-within t c = λ some.
+    let none = eqb-true (tree_len c.args.values.now) 0 (sym c.is_empty.ensures ∙ c.if-is_empty.true) in
+    absurd (omega (arith, some, none))
 
 pub canonical_named-canonical_at-requires : goal.canonical_named-canonical_at-requires
 canonical_named-canonical_at-requires t c =
     let v = c.args.values.now in
     let codes = c.args.codes.now in
     let ps = c.in_ok-positions.positions in
-    let are : AreIndices codes (tree_len v) ps = rw c.len-5.ensures at c.in_ok-positions.ensures in
-    let some : 0 < tree_len v = omega (arith, c.len-2.ensures, c.if-len.false) in
+    let are : AreIndices codes (tree_len v) ps = rw c.len-3.ensures at c.in_ok-positions.ensures in
+    let some : 0 < tree_len v = not_empty c.is_empty.result (tree_len v) c.is_empty.ensures c.if-is_empty.false in
     let all : plain_overflow (kind_of v) (tree_len codes) ≡ None = sym (λ i. plain_overflow (c.dtype.ensures i) (c.len.ensures i)) ∙ (rw c.if-not-is_countable.false at c.is_countable.ensures) in
     (search rules, rw c.selection.ensures (positions_below codes (tree_len v) ps are some, ap (plain_overflow (kind_of v)) are.len ∙ all))
 
@@ -177,10 +193,14 @@ canonical_named-returns-clause-ok t c =
     let v = c.args.values.now in
     let codes = c.args.codes.now in
     let ps = c.in_ok-positions.positions in
-    let are : AreIndices codes (tree_len v) ps = rw c.len-5.ensures at c.in_ok-positions.ensures in
+    let are : AreIndices codes (tree_len v) ps = rw c.len-3.ensures at c.in_ok-positions.ensures in
     let made : IsCanonicalAt v ps c.in_ok-picked.picked = rw c.selection.ensures at c.in_ok-picked.ensures.ok in
-    let valid : IsCanonicalValid (valid_of c.in_ok-validity.field-0) (tree_len codes) (valid_of c.in_ok-nulls.nulls) = rw c.len-4.ensures at c.in_ok-nulls.ensures in
-    named_at codes v c.in_ok-picked.picked c.in_ok-nulled.field-0 ps (valid_of c.in_ok-validity.field-0) (valid_of c.in_ok-nulls.nulls) c.in_ok-validity.ensures valid are made c.in_ok-nulled.ensures.by_row
+    let valid : IsCanonicalValid (valid_of c.in_ok-validity.field-0) (tree_len codes) (valid_of c.in_ok-nulls.nulls) = rw c.len-2.ensures at c.in_ok-nulls.ensures in
+    named_at codes v c.in_ok-picked.picked c.in_ok-nulled_parts.field-0 ps (valid_of c.in_ok-validity.field-0) (valid_of c.in_ok-nulls.nulls) c.in_ok-validity.ensures valid are made c.in_ok-nulled_parts.ensures.rows
+
+pub canonical_named-returns-clause-within : goal.canonical_named-returns-clause-within
+canonical_named-returns-clause-within t c = λ some.
+    same_parts_picked c.args.values.now c.in_ok-picked.picked c.in_ok-nulled_parts.field-0 c.in_ok-picked.ensures.within c.in_ok-nulled_parts.ensures.parts
 
 -- ---- lists
 
@@ -221,3 +241,74 @@ canonical_list_view_at-returns-clause-ok t c =
     let valid : IsCanonicalValid u (length ps) w = rw c.len.ensures at c.in_ok-plain.ensures in
     lists_at c.args.array.now c.in_ok-lists.lists parts.elements parts.offsets parts.sizes c.in_ok-elements.elements c.in_ok-offsets.offsets c.in_ok-sizes.sizes v u w parts.flag ps
     same c.in_ok-lists.ensures formed.1 c.requires.within c.in_ok-elements.ensures.ok c.in_ok-offsets.ensures.ok c.in_ok-sizes.ensures.ok c.in_ok-validity.ensures valid
+
+-- ---- at every depth
+
+pub canonical_dictionary-returns-clause-within : goal.canonical_dictionary-returns-clause-within
+canonical_dictionary-returns-clause-within t c =
+    let parts = c.in-Dict in
+    let same = sym c.layout.ensures.parts ∙ ap tree_of parts.is in
+    dictionary_within c.args.array.now c.in_ok-named.named parts.codes parts.values parts.flag same c.in_ok-named.ensures.within
+
+pub canonical_dictionary_at-returns-clause-within : goal.canonical_dictionary_at-returns-clause-within
+canonical_dictionary_at-returns-clause-within t c =
+    let parts = c.in-Dict in
+    let same = sym c.layout.ensures.parts ∙ ap tree_of parts.is in
+    dictionary_picked c.args.array.now c.in_ok-named.named parts.codes c.in_ok-picked.picked parts.values parts.flag same c.in_ok-named.ensures.within
+
+pub canonical_fixed_lists-returns-clause-within : goal.canonical_fixed_lists-returns-clause-within
+canonical_fixed_lists-returns-clause-within t c =
+    let parts = c.in-FixedSizeList in
+    let same = sym c.layout.ensures.parts ∙ ap tree_of parts.is in
+    fixed_lists_within c.args.array.now c.in_ok-lists.lists parts.elements c.in_ok-elements.elements parts.size parts.len (valid_of parts.validity) (valid_of c.in_ok-validity.validity)
+    same c.in_ok-lists.ensures c.in_ok-elements.ensures.ok c.in_ok-elements.ensures.within
+
+pub canonical_fixed_lists_at-returns-clause-within : goal.canonical_fixed_lists_at-returns-clause-within
+canonical_fixed_lists_at-returns-clause-within t c =
+    let parts = c.in-FixedSizeList in
+    let same = sym c.layout.ensures.parts ∙ ap tree_of parts.is in
+    fixed_lists_picked c.args.array.now c.in_ok-lists.lists parts.elements c.in_ok-elements.elements parts.size parts.len _ (valid_of parts.validity) (valid_of c.in_ok-plain.plain) c.in_ok-picked.picked
+    same c.in_ok-lists.ensures c.in_ok-elements.ensures.ok c.in_ok-elements.ensures.within
+
+pub canonical_list_view-returns-clause-within : goal.canonical_list_view-returns-clause-within
+canonical_list_view-returns-clause-within t c =
+    let parts = c.in-ListView in
+    let same = sym c.layout.ensures.parts ∙ ap tree_of parts.is in
+    lists_within c.args.array.now c.in_ok-lists.lists parts.elements parts.offsets parts.sizes c.in_ok-elements.elements c.in_ok-offsets.offsets c.in_ok-sizes.sizes (valid_of parts.validity) (valid_of c.in_ok-validity.validity) parts.flag
+    same c.in_ok-lists.ensures c.in_ok-elements.ensures.ok c.in_ok-elements.ensures.within c.in_ok-offsets.ensures.ok c.in_ok-sizes.ensures.ok
+
+pub canonical_list_view_at-returns-clause-within : goal.canonical_list_view_at-returns-clause-within
+canonical_list_view_at-returns-clause-within t c =
+    let parts = c.in-ListView in
+    let same = sym c.layout.ensures.parts ∙ ap tree_of parts.is in
+    lists_picked c.args.array.now c.in_ok-lists.lists parts.elements parts.offsets parts.sizes c.in_ok-elements.elements c.in_ok-offsets.offsets c.in_ok-sizes.sizes (valid_of parts.validity) (valid_of c.in_ok-plain.plain) parts.flag false
+    same c.in_ok-lists.ensures c.in_ok-elements.ensures.ok c.in_ok-elements.ensures.within
+
+pub canonical_struct-returns-clause-within : goal.canonical_struct-returns-clause-within
+canonical_struct-returns-clause-within t c =
+    let parts = c.in-Struct in
+    let same = sym c.layout.ensures.parts ∙ ap tree_of parts.is in
+    records_within c.args.array.now c.in_ok-records.records parts.names c.in_ok-names.names (trees_from parts.columns.items) (trees_from c.in_ok-columns.columns.items) (valid_of parts.validity) (valid_of c.in_ok-validity.validity) parts.len parts.len
+    same c.in_ok-records.ensures (rw c.deref.ensures.value at c.in_ok-columns.ensures.within)
+
+pub canonical_struct_at-returns-clause-within : goal.canonical_struct_at-returns-clause-within
+canonical_struct_at-returns-clause-within t c =
+    let parts = c.in-Struct in
+    let same = sym c.layout.ensures.parts ∙ ap tree_of parts.is in
+    records_picked c.args.array.now c.in_ok-records.records parts.names c.in_ok-names.names (trees_from parts.columns.items) (trees_from c.in_ok-columns.columns.items) (valid_of parts.validity) (valid_of c.in_ok-plain.plain) parts.len _
+    same c.in_ok-records.ensures (rw c.deref.ensures.value at c.in_ok-columns.ensures.within)
+
+pub canonical_columns-returns-clause-within : goal.canonical_columns-returns-clause-within
+canonical_columns-returns-clause-within t c =
+    let ts = c.args.columns.now in
+    let us = c.loop-column.made.items in
+    let i = c.loop-column.column-index in
+    AreCanonicalWithin-from_each ts us (AllZip-all IsCanonical ts us i c.loop-column.invariant.0 c.loop-column-test.false) (AllZip-all IsCanonicalWithin ts us i c.loop-column.invariant.2 c.loop-column-test.false)
+
+pub canonical_columns_at-returns-clause-within : goal.canonical_columns_at-returns-clause-within
+canonical_columns_at-returns-clause-within t c =
+    let ps = c.args.selection.now in
+    let ts = c.args.columns.now in
+    let us = c.loop-column.made.items in
+    let i = c.loop-column.column-index in
+    ArePickedWithin-from_each ps ts us (AllZip-all (λ x y. IsCanonicalAt x ps y) ts us i c.loop-column.invariant.0 c.loop-column-test.false) (AllZip-all IsPickedWithin ts us i c.loop-column.invariant.2 c.loop-column-test.false)

@@ -11,7 +11,7 @@ use Rattle.vx_tree.specs.Formed.{WellFormed}
 use Rattle.vx_canonical.specs.Joined.{elements_in, column_of, AreJoinable}
 use Rattle.vx_tree.proofs.Columns.{columns_below}
 use Rattle.vx_canonical.proofs.JoinedRecords.{count_of_list}
-use Rattle.vx_canonical.proofs.JoinedParts.{plain_at, joinable_at, joined_done, joined_next, columns_joined, kinds_joined, columns_fault_next, columns_fault_all, columns_join_refused, fixed_elements_joinable, list_elements_joinable, all_values, all_lists, all_records, columns_joinable}
+use Rattle.vx_canonical.proofs.JoinedParts.{plain_at, joinable_at, joined_done, joined_next, columns_joined, kinds_joined, columns_fault_next, columns_fault_all, columns_join_refused, fixed_elements_joinable, list_elements_joinable, all_values, all_lists, all_records, columns_joinable, numbers_next}
 use Rattle.vx_canonical.proofs.join.+join.Goals as goal
 
 pub join_columns-columns_of-requires-clause-place : goal.join_columns-columns_of-requires-clause-place
@@ -58,6 +58,7 @@ join_columns-loop-column-preserved t c =
       joined_next ts ps c.loop-column.made.items c.push.new.self.items i c.len.result p c.in_ok-join_like.field-0 c.loop-column.invariant.0 c.loop-column-test.true c.column-item.is long (rw list at c.in_ok-join_like.ensures.ok)
           c.in_ok-push.ensures.items,
       columns_fault_next ts ps c.loop-column.made.items i c.len.result p c.loop-column.invariant.0 c.loop-column.invariant.1 c.loop-column-test.true c.column-item.is long (rw list at c.in_ok-join_like.ensures.refuses),
+      numbers_next ts c.loop-column.made.items c.push.new.self.items c.len.result c.in_ok-join_like.field-0 c.loop-column.invariant.2 long (rw list at c.in_ok-join_like.ensures.numbers) c.in_ok-push.ensures.items,
     )
 
 pub join_columns-returns-clause-ok : goal.join_columns-returns-clause-ok
@@ -145,3 +146,31 @@ join_structs_like-join_structs-requires-clause-columns t c =
     let long : length c.deref.result.now ≡ length parts.columns.items = ap length c.deref.ensures.value in
     let count : length c.deref.result.now ≡ length c.in_ok-names.names = omega (arith, named, long, formed.1.named, count_of_list parts.columns.items) in
     rw count at c.in_ok-joined.ensures.ok
+
+-- ---- numbers
+
+pub join_columns-returns-clause-numbers : goal.join_columns-returns-clause-numbers
+join_columns-returns-clause-numbers t c = c.loop-column.invariant.2
+
+pub join_fixed_like-returns-clause-numbers : goal.join_fixed_like-returns-clause-numbers
+join_fixed_like-returns-clause-numbers t c =
+    let list : c.deref.result.now ≡ map elements_in c.args.arrays.now = c.deref.ensures.value ∙ c.in_ok-list.ensures in
+    c.in_ok-join_fixed_lists.ensures.numbers (rw list at c.in_ok-joined.ensures.numbers)
+
+pub join_lists_like-returns-clause-numbers : goal.join_lists_like-returns-clause-numbers
+join_lists_like-returns-clause-numbers t c =
+    let list : c.deref.result.now ≡ map elements_in c.args.arrays.now = c.deref.ensures.value ∙ c.in_ok-list.ensures in
+    c.in_ok-join_list_views.ensures.numbers (rw list at c.in_ok-joined.ensures.numbers)
+
+pub join_structs_like-returns-clause-numbers : goal.join_structs_like-returns-clause-numbers
+join_structs_like-returns-clause-numbers t c = c.in_ok-join_structs.ensures.numbers c.in_ok-joined.ensures.numbers
+
+pub join_structs_like-join_structs-requires-clause-records :
+    goal.join_structs_like-join_structs-requires-clause-records
+join_structs_like-join_structs-requires-clause-records t c =
+    let parts = c.in-Struct in
+    let v = valid_of parts.validity in
+    let ks = kinds_of (trees_from parts.columns.items) in
+    let same = sym c.layout.ensures.parts ∙ ap tree_of parts.is in
+    let arrays : AreJoinable (kind_of (structure parts.names (trees_from parts.columns.items) v parts.len)) c.args.arrays.now = rw same at c.requires.arrays in
+    rw c.in_ok-names.ensures (all_records parts.names ks (nullable v) c.args.arrays.now arrays)

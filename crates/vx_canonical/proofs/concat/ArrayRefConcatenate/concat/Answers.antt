@@ -9,7 +9,7 @@ use Rattle.vx_tree.specs.CanonicalFaults.{plain_overflow}
 use Rattle.vx_tree.specs.Extents.{extent_of, joined_extent}
 use Rattle.vx_canonical.specs.Joined.{joined_len, AreJoinable}
 use Rattle.vx_canonical.specs.Concatenated.{are_alike}
-use Rattle.vx_canonical.proofs.Concatenated.{alike_kinds, rows_joined, numbers_concatenated, rows_refused, given_none, join_fault-concat, first_kind, first_plain, kinds_of_first, ok_rows, ok_kind, ok_plain, ok_state, ok_extent, ok_flag, plain_count, plain_joinable}
+use Rattle.vx_canonical.proofs.Concatenated.{alike_kinds, rows_joined, numbers_concatenated, rows_refused, given_none, join_fault-concat, first_kind, first_plain, kinds_of_first, ok_rows, ok_kind, ok_plain, ok_state, ok_extent, ok_flag, ok_numbers, primitive_numbers, plain_count, plain_joinable}
 use Rattle.vx_canonical.proofs.concat.ArrayRefConcatenate.concat.Goals as goal
 
 pub join_like-requires-clause-plain : goal.join_like-requires-clause-plain
@@ -87,7 +87,7 @@ concat_numbers-requires-clause-kind c =
 
 pub returns-in-Primitive-clause-rows : goal.returns-in-Primitive-clause-rows
 returns-in-Primitive-clause-rows c =
-    rows_joined (integers c.in-Primitive.ptype (is_nullable c.in-Primitive.nullability)) c.args.arrays.now c.in_ok-concat_numbers.field-0 c.in_ok-concat_numbers.ensures
+    rows_joined (integers c.in-Primitive.ptype (is_nullable c.in-Primitive.nullability)) c.args.arrays.now c.in_ok-concat_numbers.field-0 c.in_ok-concat_numbers.ensures.joined
 
 pub returns-in-Primitive-clause-kind : goal.returns-in-Primitive-clause-kind
 returns-in-Primitive-clause-kind c =
@@ -95,20 +95,20 @@ returns-in-Primitive-clause-kind c =
     let t = c.in-Some.first.now in
     let alike : are_alike (kind_of t) ts ≡ true = sym (ap (λ k. are_alike k ts) c.dtype.ensures) ∙ sym c.are_alike.ensures ∙ c.if-not-are_alike.false in
     let kind : kind_of t ≡ integers c.in-Primitive.ptype (is_nullable c.in-Primitive.nullability) = sym c.dtype-2.ensures ∙ ap dtype_meaning c.in-Primitive.is in
-    λ i d l. alike_kinds (kind_of t) ts alike i d l ∙ kind ∙ sym c.in_ok-concat_numbers.ensures.kind
+    λ i d l. alike_kinds (kind_of t) ts alike i d l ∙ kind ∙ sym c.in_ok-concat_numbers.ensures.joined.kind
 
 pub returns-in-Primitive-clause-plain : goal.returns-in-Primitive-clause-plain
-returns-in-Primitive-clause-plain c = c.in_ok-concat_numbers.ensures.plain
+returns-in-Primitive-clause-plain c = c.in_ok-concat_numbers.ensures.joined.plain
 
 pub returns-in-Primitive-clause-state : goal.returns-in-Primitive-clause-state
-returns-in-Primitive-clause-state c = c.in_ok-concat_numbers.ensures.state c.in-Some.ensures.item.3.0
+returns-in-Primitive-clause-state c = c.in_ok-concat_numbers.ensures.joined.state c.in-Some.ensures.item.3.0
 
 pub returns-in-Primitive-clause-extent : goal.returns-in-Primitive-clause-extent
 returns-in-Primitive-clause-extent c =
-    c.in_ok-concat_numbers.ensures.extent ∙ ap (λ k. joined_extent k (map extent_of c.args.arrays.now)) (sym c.in_ok-concat_numbers.ensures.kind)
+    c.in_ok-concat_numbers.ensures.joined.extent ∙ ap (λ k. joined_extent k (map extent_of c.args.arrays.now)) (sym c.in_ok-concat_numbers.ensures.joined.kind)
 
 pub returns-in-Primitive-clause-flag : goal.returns-in-Primitive-clause-flag
-returns-in-Primitive-clause-flag c = c.in_ok-concat_numbers.ensures.flag
+returns-in-Primitive-clause-flag c = c.in_ok-concat_numbers.ensures.joined.flag
 
 pub returns-in-Primitive-clause-refuses : goal.returns-in-Primitive-clause-refuses
 returns-in-Primitive-clause-refuses c =
@@ -127,4 +127,11 @@ returns-then-not-is_countable c =
     let alike : are_alike (kind_of t) ts ≡ true = sym (ap (λ k. are_alike k ts) c.dtype.ensures) ∙ sym c.are_alike.ensures ∙ c.if-not-are_alike.false in
     let told : plain_overflow (kind_of t) (joined_len ts) ≡ (if c.is_countable.result then None else Some overflow) =
     (λ i. plain_overflow (sym c.dtype-3.ensures i) (sym c.in_ok-len.ensures.len i)) ∙ c.is_countable.ensures in
-    record { rows = tt; kind = tt; plain = tt; state = tt; extent = tt; flag = tt; refuses = inr (rows_refused ts t c.is_countable.result item.3.0 item.1 alike c.in_ok-len.ensures.tests told c.if-not-is_countable.true) }
+    record { rows = tt; kind = tt; plain = tt; state = tt; extent = tt; flag = tt; numbers = tt; refuses = inr (rows_refused ts t c.is_countable.result item.3.0 item.1 alike c.in_ok-len.ensures.tests told c.if-not-is_countable.true) }
+
+pub returns-clause-numbers : goal.returns-clause-numbers
+returns-clause-numbers c =
+    ok_numbers c.join_like.result c.args.arrays.now c.in_ok-plain.plain.items c.in_ok-plain.ensures.ok c.in_ok-plain.ensures.within (rw c.deref-2.ensures.value at c.join_like.ensures.numbers)
+
+pub returns-in-Primitive-clause-numbers : goal.returns-in-Primitive-clause-numbers
+returns-in-Primitive-clause-numbers c = primitive_numbers c.args.arrays.now c.in_ok-concat_numbers.field-0 c.in_ok-concat_numbers.ensures.layout

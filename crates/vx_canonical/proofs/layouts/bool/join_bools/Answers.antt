@@ -1,5 +1,5 @@
 use Rattle.vx_base.specs.Kinds.{booleans}
-use Rattle.vx_base.proofs.Refused.{Gives-weaker}
+use Rattle.vx_base.proofs.Refused.{Gives-weaker, Gives-IfOk}
 use Rattle.vx_tree.specs.Tree.{bools}
 use Rattle.vx_tree.specs.Parts.{valid_of}
 use Rattle.vx_tree.specs.Meaning.{nullable}
@@ -14,9 +14,12 @@ bools-requires c =
     let joined : IsJoined (booleans (nullable v)) c.args.arrays.now (bools c.in_ok-bits.bits.offset bits v) = bools_joined c.args.arrays.now v bits c.requires.layout c.in_ok-bits.ensures c.requires.valid in
     rw joined.len c.requires.valid.fits
 
-pub returns : goal.returns
-returns c =
+pub returns-clause-joined : goal.returns-clause-joined
+returns-clause-joined c =
     let v = valid_of c.args.validity in
     let bits = c.in_ok-bits.bits.bits in
     let joined : IsJoined (booleans (nullable v)) c.args.arrays.now (bools c.in_ok-bits.bits.offset bits v) = bools_joined c.args.arrays.now v bits c.requires.layout c.in_ok-bits.ensures c.requires.valid in
     Gives-weaker c.bools.result _ _ (λ a e. rw e joined) c.bools.ensures
+
+pub returns-clause-numbers : goal.returns-clause-numbers
+returns-clause-numbers c = Gives-IfOk c.bools.result _ _ (λ a e. rw e tt) c.bools.ensures

@@ -7,6 +7,7 @@ use Rattle.vx_tree.specs.Parts.{tree_of}
 use Rattle.vx_tree.specs.CanonicalFaults.{plain_overflow}
 use Rattle.vx_canonical.proofs.CanonicalFaults.{null_fault, constant_one, constant_uncounted}
 use Rattle.vx_canonical.proofs.PlainKinds.{take_overflow-plain}
+use Rattle.vx_canonical.proofs.CanonicalWithin.{constant_row_within, constant_within}
 use Rattle.vx_canonical.proofs.layouts.constant.canonical_constant.Goals as goal
 
 pub returns-then-is_null-clause-refuses : goal.returns-then-is_null-clause-refuses
@@ -51,3 +52,9 @@ returns-clause-refuses c =
     let same = sym c.layout.ensures.parts ∙ ap tree_of c.in-Constant.is in
     let few : plain_overflow s.kind n ≡ None = sym (ap (λ k. plain_overflow k n) c.dtype-dtype.ensures.value) ∙ (rw c.if-not-is_countable.false at c.is_countable.ensures) in
     sym (constant_one c.args.array.now s.kind s.row n same (omega arith) few) ∙ c.in_ok-row.ensures.refuses
+
+pub returns-clause-within : goal.returns-clause-within
+returns-clause-within c = constant_row_within c.args.array.now c.in_ok-select_within.field-0 c.requires
+
+pub returns-then-is_null-clause-within : goal.returns-then-is_null-clause-within
+returns-then-is_null-clause-within c = constant_within c.args.array.now c.null_rows.result c.requires

@@ -1,4 +1,4 @@
-use Rattle.vx_base.proofs.Refused.{Gives-weaker}
+use Rattle.vx_base.proofs.Refused.{Gives-weaker, Gives-IfOk}
 use Rattle.vx_tree.specs.Meaning.{trees_from}
 use Rattle.vx_tree.specs.Parts.{valid_of}
 use Rattle.vx_canonical.proofs.JoinedRecords.{records_joined}
@@ -9,7 +9,10 @@ structure-requires c =
     let formed = (records_joined c.args.names c.args.len c.args.arrays.now (trees_from c.args.columns.items) (valid_of c.args.validity) c.requires.records c.requires.columns c.requires.len c.requires.valid).1 in
     record { fits = formed.0; columns = formed.1 }
 
-pub returns : goal.returns
-returns c =
+pub returns-clause-joined : goal.returns-clause-joined
+returns-clause-joined c =
     let joined = (records_joined c.args.names c.args.len c.args.arrays.now (trees_from c.args.columns.items) (valid_of c.args.validity) c.requires.records c.requires.columns c.requires.len c.requires.valid).0 in
     Gives-weaker c.structure.result _ _ (λ a e. rw e joined) c.structure.ensures
+
+pub returns-clause-numbers : goal.returns-clause-numbers
+returns-clause-numbers c = λ h. Gives-IfOk c.structure.result _ _ (λ a e. rw e h) c.structure.ensures

@@ -26,3 +26,6 @@ pub returns-clause-ok : goal.returns-clause-ok
 returns-clause-ok c =
     rw (c.in_ok-var_bin_view.ensures, c.in_ok-dtype.ensures) (views_joined (dtype_meaning c.args.dtype.now) c.args.arrays.now c.in_ok-views.views c.in_ok-buffers.buffers.items (valid_of c.args.validity) c.requires.values
     (few_of_none (length (joined_buffers c.args.arrays.now)) c.in_ok-count.ensures.tests) c.in_ok-views.ensures c.in_ok-buffers.ensures c.requires.kind c.requires.valid).0
+
+pub returns-clause-numbers : goal.returns-clause-numbers
+returns-clause-numbers c = rw c.in_ok-var_bin_view.ensures (c.in_ok-views.ensures, c.in_ok-buffers.ensures)
