@@ -24,7 +24,7 @@ use Rattle.vx_canonical.specs.Canonical.{IsCanonical, IsCanonicalAt, IsPlainLike
 -- ---- arrays with no parts
 
 pub leaf_within : (t r : Tree) → is_leaf t ≡ true → IsCanonicalWithin t r
-leaf_within (bools bits v) r e = tt
+leaf_within (bools b bits v) r e = tt
 leaf_within (primitive p bs v) r e = tt
 leaf_within (constant k x n) r e = tt
 leaf_within (dictionary c v f) r e = absurd (cc)
@@ -61,7 +61,7 @@ shape_buffers (view_shape bs s) = bs
 shape_buffers _ = []
 
 pub leaf_picked_within : (t s r : Tree) → is_leaf t ≡ true → shape_of s ≡ selected_shape (shape_of t) → IsCanonical s r → IsPickedWithin t r
-leaf_picked_within (bools bits v) s r k e h = tt
+leaf_picked_within (bools b bits v) s r k e h = tt
 leaf_picked_within (primitive p bs v) s r k e h = tt
 leaf_picked_within (constant q x n) s r k e h = tt
 leaf_picked_within (dictionary c v f) s r k e h = absurd (cc)
@@ -118,7 +118,7 @@ ArePickedWithin-from_each ps (t ∷ ts) (u ∷ us) h g = (plain_like t u ps h.0,
 -- ---- rows that become null over the same parts
 
 pub same_parts_picked : (v s r : Tree) → IsPickedWithin v s → HasPartsOf s r → IsPickedWithin v r
-same_parts_picked (bools bits v) s r h p = tt
+same_parts_picked (bools b bits v) s r h p = tt
 same_parts_picked (primitive q bs v) s r h p = tt
 same_parts_picked (constant k x n) s r h p = tt
 same_parts_picked (dictionary c v f) s r h p = λ some. same_parts_picked v s r (h some) p
@@ -151,7 +151,7 @@ shape_layout (view_shape bs s) = 4
 shape_layout _ = 0
 
 layout_told : (t : Tree) → layout_of t ≡ shape_layout (shape_of t)
-layout_told (bools bits v) = refl
+layout_told (bools b bits v) = refl
 layout_told (primitive t bs v) = refl
 layout_told (constant k r n) = refl
 layout_told (dictionary c v f) = refl
@@ -251,7 +251,7 @@ shape_elements d _ = d
 
 -- other layouts
 pub parts_nulled : (s q : Tree) (u : Valid) → IsNulled s u q → (layout_of q ≡ 1 → ⊥) → (layout_of q ≡ 2 → ⊥) → HasPartsOf s q
-parts_nulled (bools bits v) q u h one two = tt
+parts_nulled (bools b bits v) q u h one two = tt
 parts_nulled (primitive p bs v) q u h one two = tt
 parts_nulled (constant k x n) q u h one two = tt
 parts_nulled (dictionary c v f) q u h one two = tt
@@ -279,7 +279,7 @@ others_nulled s q u l same h one two = parts_nulled s q u h (λ x. not_fixed l o
 
 mutual
   pub within_itself : ((u : Tree) → IsPlain u → IsCanonical u u) → (t : Tree) → IsPlain t → IsCanonicalWithin t t
-  within_itself one (bools bits v) h = tt
+  within_itself one (bools b bits v) h = tt
   within_itself one (primitive p bs v) h = tt
   within_itself one (constant k r n) h = absurd h
   within_itself one (dictionary c v f) h = absurd h
