@@ -35,3 +35,6 @@ pub mod PackedTexts
 pub mod PackedColumns
 pub mod PackedSteps
 pub mod WholeRows
+pub mod StoredTexts
+pub mod FilledTexts
+pub mod StoredCounts

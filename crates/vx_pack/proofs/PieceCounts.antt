@@ -1,13 +1,10 @@
 -- How many rows pieces have and where each begins, as bytes of a type.
 use Rattle.std.proofs.Common.{◌≡◌, ◌∙◌, ◌+◌, ◌<◌, ◌≤◌, ◌^◌, ℕ, List, [], ◌∷◌, ◌++◌, length, map, take, get_or, sum, pos, sym, ap, subst}
-use Rattle.std.proofs.Common.{arith, zero-add, Result, to_z}
-use Rattle.std.specs.Int.{w128}
+use Rattle.std.proofs.Common.{arith, zero-add, Result}
 use Rattle.std.specs.List.{range_with_len}
-use Rattle.std.specs.Prelude.{ℤ}
 use Rattle.std.proofs.lemmas.List.{append-nil, get_or-map, length-map, map_more, map_push, take_all}
 use Rattle.std.proofs.lemmas.List.Concat.{flat_map-append}
 use Rattle.std.proofs.lemmas.List.FromFn.{map-range_with_len_more}
-use Rattle.vx_base.proofs.Positions.{signed_position}
 use Rattle.vx_base.specs.Integers.{bytes_of, Holds}
 use Rattle.vx_base.specs.Refusals.{Gives}
 use Rattle.vx_base.specs.declared.errors.VortexError.{VortexError}
@@ -73,25 +70,23 @@ piece_ends_within ps i p l at =
 -- ---- written
 
 -- the type of counts has each that is no greater than their sum
-pub count_held : (t : PType) (total n : ℕ) → t ≡ count_type total → n ≤ total → total < 2 ^ 63 → Holds t (to_z w128 n)
+pub count_held : (t : PType) (total n : ℕ) → t ≡ count_type total → n ≤ total → total < 2 ^ 63 → Holds t (pos n)
 count_held t total n type below fits =
-    let P : ℤ → Type 0 = λ z. Holds t z in
     let Q : PType → Type 0 = λ u. Holds u (pos n) in
-    subst P (sym (signed_position n (omega arith))) (subst Q (sym type) (holds-count_type total n below fits))
+    subst Q (sym type) (holds-count_type total n below fits)
 
 pub size_written : (t : PType) (ps : List Piece) (i n : ℕ) (p : Piece) (before after : List ℕ) → i < length ps → p ≡ get_or ps i p
-    → n ≡ piece_len p → n < 2 ^ 64
-    → before ≡ size_bytes t ps i → after ≡ before ++ bytes_of t (to_z w128 n) → after ≡ size_bytes t ps (i + 1)
-size_written t ps i n p before after l at len small first more =
-    more ∙ ap (λ bs. bs ++ bytes_of t (to_z w128 n)) first
-    ∙ ap (λ z. size_bytes t ps i ++ bytes_of t z) (signed_position n small ∙ ap pos len)
+    → n ≡ piece_len p → before ≡ size_bytes t ps i → after ≡ before ++ bytes_of t (pos n) → after ≡ size_bytes t ps (i + 1)
+size_written t ps i n p before after l at len first more =
+    more ∙ ap (λ bs. bs ++ bytes_of t (pos n)) first
+    ∙ ap (λ m. size_bytes t ps i ++ bytes_of t (pos m)) len
     ∙ sym (size_bytes_more t ps i p l at)
 
-pub start_written : (t : PType) (ps : List Piece) (i n : ℕ) (before after : List ℕ) → n ≡ place_of (map piece_len ps) i → n < 2 ^ 64
-    → before ≡ start_bytes t ps i → after ≡ before ++ bytes_of t (to_z w128 n) → after ≡ start_bytes t ps (i + 1)
-start_written t ps i n before after start small first more =
-    more ∙ ap (λ bs. bs ++ bytes_of t (to_z w128 n)) first
-    ∙ ap (λ z. start_bytes t ps i ++ bytes_of t z) (signed_position n small ∙ ap pos start)
+pub start_written : (t : PType) (ps : List Piece) (i n : ℕ) (before after : List ℕ) → n ≡ place_of (map piece_len ps) i
+    → before ≡ start_bytes t ps i → after ≡ before ++ bytes_of t (pos n) → after ≡ start_bytes t ps (i + 1)
+start_written t ps i n before after start first more =
+    more ∙ ap (λ bs. bs ++ bytes_of t (pos n)) first
+    ∙ ap (λ m. start_bytes t ps i ++ bytes_of t (pos m)) start
     ∙ sym (start_bytes_more t ps i)
 
 -- bytes of counts make an array

@@ -9,3 +9,4 @@ pub mod Packed
 pub mod Pieces
 pub mod PackedLaws
 pub mod StoredNumbers
+pub mod StoredTexts

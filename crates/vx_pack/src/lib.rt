@@ -33,6 +33,7 @@ mod same_numbers;
 mod same_rows;
 mod stored_bits;
 mod stored_numbers;
+mod stored_texts;
 mod texts;
 mod truths;
 mod values;

@@ -17,6 +17,7 @@ use vx_tree::{ArrayRef, Layout};
 
 impl<'a> Part<'a> {
     // The rows of the list that row `i` is, where it is one.
+    #[inline(always)]
     pub fn list(self, i: usize) -> Option<Part<'a>>
         requires within { IsWithin self }
         requires in_bounds { i < part_len self }
@@ -57,8 +58,21 @@ impl<'a> Part<'a> {
     }
 }
 
-// The rows of the list that a row is, where it is one.
+// The rows of the list that a row is, where it is one: those of a list view with no way to it.
+#[inline(always)]
 fn list_at(array: &ArrayRef, row: usize) -> Option<Part<'_>>
+    requires { row < tree_len array.now }
+    ensures { (item : Kind) → IsItemOf item (kind_of array.now) →
+        IsListIn item (row_at array.now row) result }
+{
+    match array.layout() {
+        Layout::ListView { .. } => list_of_view(array, row),
+        _ => list_of_place(array, row),
+    }
+}
+
+// The same in any layout.
+fn list_of_place(array: &ArrayRef, row: usize) -> Option<Part<'_>>
     requires { row < tree_len array.now }
     ensures { (item : Kind) → IsItemOf item (kind_of array.now) →
         IsListIn item (row_at array.now row) result }
@@ -98,6 +112,7 @@ fn list_of_size(array: &ArrayRef, row: usize) -> Option<Part<'_>>
 }
 
 // The same of a list view.
+#[inline(always)]
 fn list_of_view(array: &ArrayRef, row: usize) -> Option<Part<'_>>
     requires layout { is_list_view array.now ≡ true }
     requires in_bounds { row < tree_len array.now }

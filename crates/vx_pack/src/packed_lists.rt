@@ -11,7 +11,7 @@ ghost use Rattle.vx_pack.specs.Packed.{count_type, counts_array, items_or_blank,
 ghost use Rattle.vx_pack.specs.Pieces.{AreElements, AreJoined, AreListPieces, ArePieces, IsPiece, blank_of, piece_len, piece_rows, pieces_rows};
 ghost use Rattle.vx_pack.specs.declared.pieces.Piece.{Piece as Pieces};
 
-use crate::packed_numbers::push_number;
+use crate::packed_numbers::push_count;
 use crate::pieces::Piece;
 use std::alloc::Global;
 use vx_base::{ByteBuffer, DType, PType, VortexError};
@@ -162,7 +162,7 @@ pub(crate) fn starts_array(
     let mut bytes = Vec::with_capacity(alloc, lists.len().saturating_mul(ptype.byte_width()))?;
     let mut start: usize = 0;
     for list in lists {
-        push_number(&mut bytes, ptype, start as i128)?;
+        push_count(&mut bytes, ptype, start)?;
         start += list.len();
     }
     let bytes = ByteBuffer::from_vec(alloc, bytes)?;
@@ -183,7 +183,7 @@ pub(crate) fn sizes_array(
     let ptype = count_type(total);
     let mut bytes = Vec::with_capacity(alloc, lists.len().saturating_mul(ptype.byte_width()))?;
     for list in lists {
-        push_number(&mut bytes, ptype, list.len() as i128)?;
+        push_count(&mut bytes, ptype, list.len())?;
     }
     let bytes = ByteBuffer::from_vec(alloc, bytes)?;
     ArrayRef::primitive(alloc, ptype, bytes, Validity::NonNullable)

@@ -128,3 +128,17 @@ pub(crate) fn push_number(
     bytes.extend_from_slice(out)?;
     Ok(())
 }
+
+// The bytes of one count more: two types have the counts of lists, and are written as they are.
+#[inline(always)]
+pub(crate) fn push_count(bytes: &mut Vec<u8>, ptype: PType, count: usize) -> Result<(), VortexError>
+    requires { Holds ptype (pos count) }
+    ensures { Gives result (λ _. bytes.new.items ≡ bytes.old.items ++ bytes_of ptype (pos count)) }
+{
+    match ptype {
+        PType::I32 => bytes.extend_from_slice(&(count as u32).to_le_bytes())?,
+        PType::I64 => bytes.extend_from_slice(&(count as u64).to_le_bytes())?,
+        _ => push_number(bytes, ptype, count as i128)?,
+    }
+    Ok(())
+}

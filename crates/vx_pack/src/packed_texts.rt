@@ -1,18 +1,22 @@
 // Texts and byte lists that are packed.
 
-ghost use Rattle.std.specs.Prelude.{◌≡◌, ◌++◌, IfErr, IfOk, map, true};
+ghost use Rattle.std.specs.Prelude.{◌≡◌, ◌<◌, ◌≤◌, ℕ, [], IfErr, IfOk, length, map, slice_index_or, true};
+ghost use Rattle.std.specs.List.{All};
 ghost use Rattle.vx_base.specs.DTypes.{dtype_meaning};
 ghost use Rattle.vx_base.specs.Refusals.{Gives};
-ghost use Rattle.vx_text.specs.Collected.{maybe_value};
-ghost use Rattle.vx_tree.specs.Values.{bytes_in};
+ghost use Rattle.vx_views.specs.Views.{Resolves, view_value};
+ghost use Rattle.vx_text.specs.Filling.{filling};
 ghost use Rattle.vx_pack.specs.Packed.{IsPackRefused, IsPacked, has_bytes};
 ghost use Rattle.vx_pack.specs.Pieces.{ArePieces, IsPiece, piece_rows, pieces_rows};
+ghost use Rattle.vx_pack.specs.StoredTexts.{ArePushed, bytes_or_empty, filled};
 
+use crate::packed_bits::validity_of;
 use crate::pieces::Piece;
 use std::alloc::Global;
-use vx_base::{DType, VortexError};
-use vx_text::VarBinViewArray;
-use vx_tree::{ArrayRef, TypedArray};
+use vx_base::{ByteBuffer, DType, VortexError};
+use vx_text::Filling;
+use vx_tree::ArrayRef;
+use vx_views::{BinaryView, MAX_BUFFER_LEN};
 
 // The packed form of texts or byte lists.
 pub(crate) fn pack_texts(
@@ -28,44 +32,108 @@ pub(crate) fn pack_texts(
     ensures err { let kind = dtype_meaning dtype.now in
         IfErr result (IsPackRefused kind (pieces_rows kind pieces.now)) }
 {
-    let items = text_items(alloc, dtype, pieces, len)?;
+    let texts = filled_with(alloc, dtype, pieces, len)?;
+    let (buffers, views) = texts.finish(alloc)?;
+    let validity = validity_of(alloc, dtype, pieces, len)?;
     let dtype = dtype.try_clone(alloc)?;
-    Ok(VarBinViewArray::from_iter(alloc, items.into_iter(), dtype)?.into_array())
+    ArrayRef::var_bin_view(alloc, views, buffers, dtype, validity)
 }
 
-// The bytes of each row, none where it is null.
-fn text_items<'a>(
+// The values of all rows, no bytes where they are null.
+fn filled_with(
     alloc: Global,
     dtype: &DType,
-    pieces: &[Piece<'a>],
+    pieces: &[Piece],
     len: usize,
-) -> Result<Vec<Option<&'a [u8]>>, VortexError>
+) -> Result<Filling, VortexError>
     requires values { has_bytes (dtype_meaning dtype.now) ≡ true }
     requires pieces { ArePieces (dtype_meaning dtype.now) pieces.now len }
-    ensures { Gives result (λ items. map maybe_value items.items
-        ≡ map bytes_in (pieces_rows (dtype_meaning dtype.now) pieces.now)) }
+    ensures { Gives result (λ f.
+        ArePushed (filling [] [] []) (map bytes_or_empty (pieces_rows (dtype_meaning dtype.now) pieces.now)) (filled f)) }
 {
-    let mut items = Vec::with_capacity(alloc, len)?;
+    let room = heap_len(dtype, pieces).min(MAX_BUFFER_LEN);
+    let mut texts = Filling::with_capacity(alloc, len, room)?;
     for piece in pieces {
-        push_items(&mut items, dtype, *piece)?;
+        push_texts(alloc, &mut texts, dtype, *piece)?;
     }
-    Ok(items)
+    Ok(texts)
 }
 
-// Those of a piece, at the end of the items.
-fn push_items<'a>(
-    items: &mut Vec<Option<&'a [u8]>>,
+// How many bytes of values go into buffers, as far as views tell.
+fn heap_len(dtype: &DType, pieces: &[Piece]) -> usize
+    requires { All (IsPiece (dtype_meaning dtype.now)) pieces.now }
+{
+    let mut total: usize = 0;
+    for piece in pieces {
+        if let Some(stored) = piece.stored_texts() {
+            total = total.saturating_add(long_len(stored.views));
+        }
+    }
+    total
+}
+
+// How many bytes the values have together that stand in no view.
+fn long_len(views: &[BinaryView]) -> usize {
+    let mut total: usize = 0;
+    for view in views {
+        if !view.is_inlined() {
+            total = total.saturating_add(view.len() as usize);
+        }
+    }
+    total
+}
+
+// The values of a piece, after the others.
+fn push_texts(
+    alloc: Global,
+    texts: &mut Filling,
     dtype: &DType,
-    piece: Piece<'a>,
+    piece: Piece,
 ) -> Result<(), VortexError>
     requires values { has_bytes (dtype_meaning dtype.now) ≡ true }
     requires piece { IsPiece (dtype_meaning dtype.now) piece }
-    ensures { Gives result (λ _. map maybe_value items.new.items
-        ≡ map maybe_value items.old.items ++ map bytes_in (piece_rows (dtype_meaning dtype.now) piece.entry)) }
+    ensures { Gives result (λ _.
+        ArePushed (filled texts.old) (map bytes_or_empty (piece_rows (dtype_meaning dtype.now) piece.entry)) (filled texts.new)) }
+{
+    match piece.stored_texts() {
+        Some(stored) => push_views(alloc, texts, stored.views, stored.buffers),
+        None => push_each_text(alloc, texts, dtype, piece),
+    }
+}
+
+// The values that views have: a null row has the view of no bytes.
+fn push_views(
+    alloc: Global,
+    texts: &mut Filling,
+    views: &[BinaryView],
+    buffers: &[ByteBuffer],
+) -> Result<(), VortexError>
+    requires resolve { (i : ℕ) → i < length views.now → Resolves buffers.now (slice_index_or views.now i []) }
+    requires short { (i : ℕ) → i < length views.now →
+        length (view_value buffers.now (slice_index_or views.now i [])) ≤ MAX_BUFFER_LEN }
+    ensures { Gives result (λ _. ArePushed (filled texts.old) (map (view_value buffers.now) views.now) (filled texts.new)) }
+{
+    for row in 0..views.len() {
+        texts.push(alloc, views[row].value_in(buffers))?;
+    }
+    Ok(())
+}
+
+// The same, each row read by itself.
+fn push_each_text(
+    alloc: Global,
+    texts: &mut Filling,
+    dtype: &DType,
+    piece: Piece,
+) -> Result<(), VortexError>
+    requires values { has_bytes (dtype_meaning dtype.now) ≡ true }
+    requires piece { IsPiece (dtype_meaning dtype.now) piece }
+    ensures { Gives result (λ _.
+        ArePushed (filled texts.old) (map bytes_or_empty (piece_rows (dtype_meaning dtype.now) piece.entry)) (filled texts.new)) }
 {
     let is_nullable = dtype.is_nullable();
     for i in 0..piece.len() {
-        items.push(piece.bytes(i, is_nullable))?;
+        texts.push(alloc, piece.bytes(i, is_nullable).unwrap_or(&[]))?;
     }
     Ok(())
 }

@@ -46,6 +46,7 @@ pub(crate) fn part_of_values(values: &[Option<ScalarValue>]) -> Part<'_>
 
 impl<'a> Part<'a> {
     // How many rows there are.
+    #[inline(always)]
     pub fn len(self) -> usize
         ensures { result ≡ part_len self.entry }
     {

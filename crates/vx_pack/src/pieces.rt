@@ -30,6 +30,7 @@ pub(crate) enum Piece<'a> {
 
 impl<'a> Piece<'a> {
     // How many rows there are.
+    #[inline(always)]
     pub fn len(self) -> usize
         ensures { result ≡ piece_len self.entry }
     {
@@ -65,6 +66,7 @@ impl<'a> Piece<'a> {
     }
 
     // The bytes of the numbers, where they stand one after another and none is null.
+    #[inline(always)]
     pub fn number_bytes(self, ptype: PType) -> Option<&'a [u8]>
         requires { (n : Bool) × IsPiece (integers ptype n) self }
         ensures { (n : Bool) → IsPiece (integers ptype n) self.entry → IfSome result (λ bytes.
@@ -128,6 +130,7 @@ impl<'a> Piece<'a> {
     }
 
     // The rows of the list that row `i` is, so many default rows where it is null.
+    #[inline(always)]
     pub fn list_or_blank(self, i: usize, blank: usize) -> Piece<'a>
         requires within { IsWithinPiece self }
         requires in_bounds { i < piece_len self }

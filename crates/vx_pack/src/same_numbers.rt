@@ -13,6 +13,7 @@ use vx_tree::Layout;
 
 impl<'a> Part<'a> {
     // The bytes of the numbers, where they stand one after another and none is null.
+    #[inline(always)]
     pub fn number_bytes(self, ptype: PType) -> Option<&'a [u8]>
         requires ptype { HasType ptype self }
         requires within { IsWithin self }

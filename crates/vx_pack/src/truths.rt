@@ -46,6 +46,7 @@ pub(crate) fn is_valid_at(validity: &Validity, row: usize) -> bool
 }
 
 // Whether the state alone says that every row is valid.
+#[inline(always)]
 pub(crate) fn is_full(validity: &Validity) -> bool
     ensures { IsTrue result → (i : ℕ) → is_valid_at (valid_of validity.now) i ≡ true }
 {

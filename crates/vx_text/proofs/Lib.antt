@@ -2,9 +2,9 @@ mod TextParts
 mod ItemHeaps
 mod ItemViews
 mod Fills
-mod FilledItems
-mod ItemArrays
-mod ItemFaults
+pub mod FilledItems
+pub mod ItemArrays
+pub mod ItemFaults
 mod ShortTexts
 mod HeapCounts
 mod Rebuffering

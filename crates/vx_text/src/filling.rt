@@ -15,20 +15,23 @@ use vx_views::{BinaryView, MAX_BUFFER_LEN, MAX_INLINED_SIZE};
 // How many buffers can be numbered: a view has 32 bits for the number.
 const MAX_BUFFERS: usize = 1 << 32;
 
-// Buffers while they are filled.
+/// Buffers while they are filled with values, as few as can hold them in order, and the views of
+/// these values.
 #[derive(Drop)]
-pub(crate) struct Filling {
-    // The buffers that are full.
+pub struct Filling {
+    /// The buffers that are full.
     pub full: Vec<ByteBuffer>,
-    // The bytes of the last one.
+
+    /// The bytes of the last one.
     pub last: Vec<u8>,
-    // The view of each value.
+
+    /// The view of each value.
     pub views: Vec<BinaryView>,
 }
 
 impl Filling {
-    // No values.
-    pub(crate) fn new(alloc: Global) -> Filling
+    /// No values.
+    pub fn new(alloc: Global) -> Filling
         ensures { filling result.full.items result.last.items result.views.items ≡ filling [] [] [] }
     {
         Filling {
@@ -38,11 +41,29 @@ impl Filling {
         }
     }
 
-    // One value more: its view holds it, or it is put into the last buffer, into another one where
-    // that has no room. Always inlined, with the two calls that it makes: a call for each item
-    // would cost more than the work on a short one.
+    /// No values, and room for so many views and for so many bytes of values in the first buffer.
+    pub fn with_capacity(
+        alloc: Global,
+        views: usize,
+        bytes: usize,
+    ) -> Result<Filling, VortexError>
+        ensures { Gives result (λ f. filling f.full.items f.last.items f.views.items ≡ filling [] [] []) }
+    {
+        let last = Vec::with_capacity(alloc, bytes)?;
+        let views = Vec::with_capacity(alloc, views)?;
+        Ok(Filling {
+            full: Vec::new(alloc),
+            last,
+            views,
+        })
+    }
+
+    /// One value more: its view holds it, or it is put into the last buffer, into another one where
+    /// that has no room. Asks that it is no longer than a buffer may be.
+    // Always inlined, with the two calls that it makes: a call for each item would cost more than
+    // the work on a short one.
     #[inline(always)]
-    pub(crate) fn push(&mut self, alloc: Global, value: &[u8]) -> Result<(), VortexError>
+    pub fn push(&mut self, alloc: Global, value: &[u8]) -> Result<(), VortexError>
         requires { length value.now ≤ MAX_BUFFER_LEN }
         ensures held { length value.now ≤ MAX_INLINED_SIZE → OnOk result
             (filling self.new.full.items self.new.last.items self.new.views.items
@@ -90,9 +111,9 @@ impl Filling {
         Ok(())
     }
 
-    // The buffers, and the views. Refuses `Overflow` where there are more buffers than can be
-    // numbered.
-    pub(crate) fn finish(
+    /// The buffers, and the views. Refuses `Overflow` where there are more buffers than can be
+    /// numbered.
+    pub fn finish(
         self,
         alloc: Global,
     ) -> Result<(Vec<ByteBuffer>, Buffer<BinaryView>), VortexError>

@@ -19,6 +19,7 @@ mod var_bin_view_data;
 mod var_bin_view_ext;
 mod view_parts;
 
+pub use crate::filling::Filling;
 pub use crate::var_bin_view::VarBinViewArray;
 pub use crate::var_bin_view_data::VarBinViewData;
 pub use crate::var_bin_view_ext::{VarBinViewArrayExt, VarBinViewDataParts, VarBinViewSlots};

@@ -1,7 +1,9 @@
 // Texts and byte lists.
 
 use super::{expect_equal, expect_others};
-use crate::layouts::{LONG, byte_lists, counts, named, one_buffer, text, texts};
+use crate::layouts::{
+    LONG, byte_lists, counts, end_to_end, named, one_buffer, out_of_order, text, texts,
+};
 use std::alloc::Global;
 use vx_base::{ByteBuffer, DType, Nullability, Scalar, ScalarValue, VortexError};
 use vx_test_help::bools;
@@ -117,6 +119,45 @@ fn other_same_texts(alloc: Global) -> Result<Vec<ArrayRef>, VortexError> {
 fn texts_that_are_all_one(rt: HostRuntime) {
     let made = same_texts(rt.alloc()).expect(&rt, "made");
     let others = other_same_texts(rt.alloc()).expect(&rt, "made");
+    expect_equal(&rt, made.as_slice());
+    expect_others(&rt, made.as_slice(), others.as_slice());
+}
+
+// The lists `[hi, long]`, `[]`, `[long, no]` of texts: in order, and elsewhere in other buffers.
+fn lists_of_texts(alloc: Global) -> Result<Vec<ArrayRef>, VortexError> {
+    let mut made = Vec::new(alloc);
+    let hi = BinaryView::make_view(b"hi", 0, 0);
+    let no = BinaryView::make_view(b"no", 0, 0);
+    let long = BinaryView::make_view(LONG, 0, 0);
+    let moved = BinaryView::make_view(LONG, 1, 1);
+    let buffers = one_buffer(alloc, LONG)?;
+    made.push(end_to_end(alloc, texts(alloc, &[hi, long, long, no], buffers)?)?)?;
+    let elements = texts(alloc, &[moved, no, hi, moved], two(alloc)?)?;
+    made.push(out_of_order(alloc, elements)?)?;
+    Ok(made)
+}
+
+// Lists that differ from them in a short text, in a long one, and in the order of texts.
+fn other_lists_of_texts(alloc: Global) -> Result<Vec<ArrayRef>, VortexError> {
+    let mut made = Vec::new(alloc);
+    let hi = BinaryView::make_view(b"hi", 0, 0);
+    let no = BinaryView::make_view(b"no", 0, 0);
+    let lost = BinaryView::make_view(LOST, 0, 0);
+    let long = BinaryView::make_view(LONG, 1, 1);
+    for views in [
+        [hi, long, long, hi],
+        [hi, long, lost, no],
+        [long, hi, long, no],
+    ] {
+        made.push(end_to_end(alloc, texts(alloc, &views, two(alloc)?)?)?)?;
+    }
+    Ok(made)
+}
+
+#[test]
+fn texts_of_lists_in_other_places(rt: HostRuntime) {
+    let made = lists_of_texts(rt.alloc()).expect(&rt, "made");
+    let others = other_lists_of_texts(rt.alloc()).expect(&rt, "made");
     expect_equal(&rt, made.as_slice());
     expect_others(&rt, made.as_slice(), others.as_slice());
 }

@@ -4,8 +4,8 @@ use Rattle.vx_pack.specs.Packed.{count_type}
 use Rattle.vx_pack.specs.Pieces.{piece_len}
 use Rattle.vx_pack.proofs.packed_lists.sizes_array.Goals as goal
 
-pub push_number-requires : goal.push_number-requires
-push_number-requires c =
+pub push_count-requires : goal.push_count-requires
+push_count-requires c =
     let within = piece_ends_within c.args.lists.now c.loop-list.list-index c.list-item.result c.loop-list-test.true c.list-item.is in
     count_held c.count_type-ptype.result c.args.total c.len.result c.count_type-ptype.ensures
     (omega (arith, within, c.len.ensures, c.requires.total)) c.requires.fits
@@ -13,8 +13,8 @@ push_number-requires c =
 pub loop-list-preserved : goal.loop-list-preserved
 loop-list-preserved c =
     size_written c.count_type-ptype.result c.args.lists.now c.loop-list.list-index c.len.result c.list-item.result c.loop-list.bytes.items
-    c.push_number.new.bytes.items
-    c.loop-list-test.true c.list-item.is c.len.ensures c.len.type_inv c.loop-list.invariant c.in_ok-push_number.ensures
+    c.push_count.new.bytes.items
+    c.loop-list-test.true c.list-item.is c.len.ensures c.loop-list.invariant c.in_ok-push_count.ensures
 
 pub primitive-requires : goal.primitive-requires
 primitive-requires c =

@@ -7,8 +7,8 @@ use Rattle.vx_pack.specs.Packed.{count_type, list_starts}
 use Rattle.vx_pack.specs.Pieces.{piece_len}
 use Rattle.vx_pack.proofs.packed_lists.starts_array.Goals as goal
 
-pub push_number-requires : goal.push_number-requires
-push_number-requires c =
+pub push_count-requires : goal.push_count-requires
+push_count-requires c =
     let within = piece_ends_within c.args.lists.now c.loop-list.list-index c.list-item.result c.loop-list-test.true c.list-item.is in
     count_held c.count_type-ptype.result c.args.total c.loop-list.start c.count_type-ptype.ensures
     (omega (arith, within, c.loop-list.invariant.start, c.requires.total)) c.requires.fits
@@ -21,14 +21,13 @@ overflow_add-start c =
 pub loop-list-preserved : goal.loop-list-preserved
 loop-list-preserved c =
     let within = piece_ends_within c.args.lists.now c.loop-list.list-index c.list-item.result c.loop-list-test.true c.list-item.is in
-    let small : c.loop-list.start < 2 ^ 64 = omega (arith, within, c.loop-list.invariant.start, c.requires.total, c.requires.fits) in
     let next = piece_start-next c.args.lists.now c.loop-list.list-index c.list-item.result c.loop-list-test.true c.list-item.is in
     record {
       start = omega (arith, next, c.len-start.ensures, c.loop-list.invariant.start);
       bytes =
           start_written c.count_type-ptype.result c.args.lists.now c.loop-list.list-index c.loop-list.start c.loop-list.bytes.items
-          c.push_number.new.bytes.items
-          c.loop-list.invariant.start small c.loop-list.invariant.bytes c.in_ok-push_number.ensures;
+          c.push_count.new.bytes.items
+          c.loop-list.invariant.start c.loop-list.invariant.bytes c.in_ok-push_count.ensures;
     }
 
 pub primitive-requires : goal.primitive-requires

@@ -1,36 +1,38 @@
-use Rattle.std.proofs.Common.{◌∙◌, subst, sym}
-use Rattle.std.proofs.lemmas.Iterator.Adapters.{YieldsList-from_vec}
-use Rattle.std.proofs.lemmas.Result.{err_from_is_err_and}
+use Rattle.std.proofs.Common.{◌∙◌, sym}
+use Rattle.std.proofs.lemmas.Result.{MatchResult-weaker, err_from_is_err_and}
 use Rattle.vx_base.proofs.Defaults.{default_fits, dtype_even}
 use Rattle.vx_base.specs.DTypes.{dtype_meaning}
-use Rattle.vx_pack.specs.Packed.{IsPacked}
+use Rattle.vx_tree.specs.Parts.{valid_of}
 use Rattle.vx_pack.specs.Pieces.{pieces_rows}
+use Rattle.vx_pack.specs.StoredTexts.{filled}
+use Rattle.vx_pack.proofs.FilledTexts.{texts_made, texts_refused}
 use Rattle.vx_pack.proofs.FittingPieces.{pieces_fit}
-use Rattle.vx_pack.proofs.PackedTexts.{collected_packed, refused_packed}
 use Rattle.vx_pack.proofs.packed_texts.pack_texts.Goals as goal
+
+pub var_bin_view-requires : goal.var_bin_view-requires
+var_bin_view-requires c =
+    let k = dtype_meaning c.args.dtype.now in
+    let rs = pieces_rows k c.args.pieces.now in
+    let fit = pieces_fit k c.args.pieces.now (default_fits k (dtype_even c.args.dtype.now)) c.requires.pieces.each in
+    (texts_made k (dtype_meaning c.in_ok-dtype.dtype) rs (filled c.in_ok-texts.texts) c.in_ok-buffers.views c.in_ok-buffers.buffers.items
+    (valid_of c.in_ok-validity.validity) c.in_ok-dtype.ensures c.requires.values fit c.in_ok-texts.ensures c.in_ok-buffers.ensures.buffers
+    c.in_ok-buffers.ensures.views c.in_ok-buffers.ensures.refuses c.in_ok-validity.ensures).formed
+
+pub returns-in_err-buffers-clause-err : goal.returns-in_err-buffers-clause-err
+returns-in_err-buffers-clause-err c =
+    let k = dtype_meaning c.args.dtype.now in
+    let rs = pieces_rows k c.args.pieces.now in
+    let fit = pieces_fit k c.args.pieces.now (default_fits k (dtype_even c.args.dtype.now)) c.requires.pieces.each in
+    let p = err_from_is_err_and c.from_residual-in_err-buffers.result c.from_residual-in_err-buffers.ensures.1 in
+    rw (p.1, p.2) (texts_refused k rs (filled c.in_ok-texts.texts) c.in_err-buffers.field-0.0 c.requires.values fit c.in_ok-texts.ensures
+    c.in_err-buffers.ensures.refuses)
 
 pub returns-clause-ok : goal.returns-clause-ok
 returns-clause-ok c =
     let k = dtype_meaning c.args.dtype.now in
     let rs = pieces_rows k c.args.pieces.now in
-    let items = c.in_ok-items.items.items in
-    let s = c.into_iter.result in
-    let a = c.in_ok-from_iter.field-0 in
-    let given = YieldsList-from_vec {s = s} items c.into_iter.ensures.rest (c.into_iter.ensures.len ∙ c.in_ok-items.items.ok.0) in
-    subst (IsPacked k rs) (sym c.into_array.ensures.value)
-    (collected_packed _ s items given k rs c.requires.values c.in_ok-items.ensures (dtype_meaning c.in_ok-dtype.dtype) a
-    c.in_ok-dtype.ensures c.in_ok-from_iter.ensures.ok)
-
-pub returns-in_err-from_iter-clause-err : goal.returns-in_err-from_iter-clause-err
-returns-in_err-from_iter-clause-err c =
-    let k = dtype_meaning c.args.dtype.now in
-    let rs = pieces_rows k c.args.pieces.now in
-    let items = c.in_ok-items.items.items in
-    let s = c.into_iter.result in
-    let e = c.in_err-from_iter.field-0.0 in
-    let given = YieldsList-from_vec {s = s} items c.into_iter.ensures.rest (c.into_iter.ensures.len ∙ c.in_ok-items.items.ok.0) in
     let fit = pieces_fit k c.args.pieces.now (default_fits k (dtype_even c.args.dtype.now)) c.requires.pieces.each in
-    let p = err_from_is_err_and c.from_residual-in_err-from_iter.result c.from_residual-in_err-from_iter.ensures.1 in
-    rw (p.1, p.2) (refused_packed _ s items given k rs c.requires.values c.in_ok-items.ensures (dtype_meaning c.in_ok-dtype.dtype) e
-    c.in_ok-dtype.ensures fit
-    c.in_err-from_iter.ensures.err)
+    let made = texts_made k (dtype_meaning c.in_ok-dtype.dtype) rs (filled c.in_ok-texts.texts) c.in_ok-buffers.views
+    c.in_ok-buffers.buffers.items (valid_of c.in_ok-validity.validity) c.in_ok-dtype.ensures c.requires.values fit c.in_ok-texts.ensures
+    c.in_ok-buffers.ensures.buffers c.in_ok-buffers.ensures.views c.in_ok-buffers.ensures.refuses c.in_ok-validity.ensures in
+    MatchResult-weaker c.var_bin_view.result c.var_bin_view.ensures (λ a is. made.packed a is) (λ f m. tt)

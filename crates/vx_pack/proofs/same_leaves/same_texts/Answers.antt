@@ -1,5 +1,7 @@
-use Rattle.std.proofs.Common.{below_more, sym, ◌∙◌}
+use Rattle.vx_pack.proofs.StoredTexts.{same_by_values}
 use Rattle.vx_pack.proofs.same_leaves.same_texts.Goals as goal
 
-pub loop-i-preserved : goal.loop-i-preserved
-loop-i-preserved c = λ k. below_more _ _ (c.loop-i.invariant k) (sym (c.bytes.ensures k) ∙ c.same_bytes.ensures.0 c.if-not-same_bytes.false ∙ c.bytes-in-loop-i.ensures k)
+pub returns : goal.returns
+returns c =
+    same_by_values c.args.a c.args.b c.in-Some.first c.in-Some-full_texts.second c.same_values.result c.in-Some.ensures
+    c.in-Some-full_texts.ensures c.requires.same_len c.same_values.ensures

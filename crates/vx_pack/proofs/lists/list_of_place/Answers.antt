@@ -6,7 +6,7 @@ use Rattle.vx_tree.specs.Parts.{tree_of}
 use Rattle.vx_tree.specs.Tree.{Tree, constant}
 use Rattle.vx_pack.specs.Lists.{IsItemOf, IsListOf}
 use Rattle.vx_base.specs.Rows.{Row}
-use Rattle.vx_pack.proofs.lists.list_at.Goals as goal
+use Rattle.vx_pack.proofs.lists.list_of_place.Goals as goal
 
 pub returns-in-FixedSizeList : goal.returns-in-FixedSizeList
 returns-in-FixedSizeList c = λ item of_item.
