@@ -24,9 +24,9 @@ returns-in_ok-try_clone-in-FixedSizeList-clause-rows c =
     let s = c.args.array.now in
     let q = c.in_ok-nulled.nulled in
     let same = sym c.layout.ensures.parts ∙ ap tree_of parts.is in
-    Gives-weaker c.with_validity-in-FixedSizeList.result _ _
+    Gives-weaker c.with_validity.result _ _
     (λ a e. (fixed_lists_nulled s q a parts.elements parts.size parts.len (valid_of c.args.nulls.now) (valid_of parts.validity) same (e ∙ ap (under_validity s) c.in_ok-try_clone-in-FixedSizeList.ensures) c.in_ok-nulled.ensures.by_row).0)
-    c.with_validity-in-FixedSizeList.ensures
+    c.with_validity.ensures
 
 pub returns-in_ok-try_clone-in-FixedSizeList-clause-parts : goal.returns-in_ok-try_clone-in-FixedSizeList-clause-parts
 returns-in_ok-try_clone-in-FixedSizeList-clause-parts c =
@@ -34,12 +34,12 @@ returns-in_ok-try_clone-in-FixedSizeList-clause-parts c =
     let s = c.args.array.now in
     let q = c.in_ok-nulled.nulled in
     let same = sym c.layout.ensures.parts ∙ ap tree_of parts.is in
-    Gives-IfOk c.with_validity-in-FixedSizeList.result _ _
+    Gives-IfOk c.with_validity.result _ _
     (λ a e. (fixed_lists_nulled s q a parts.elements parts.size parts.len (valid_of c.args.nulls.now) (valid_of parts.validity) same (e ∙ ap (under_validity s) c.in_ok-try_clone-in-FixedSizeList.ensures) c.in_ok-nulled.ensures.by_row).1)
-    c.with_validity-in-FixedSizeList.ensures
+    c.with_validity.ensures
 
-pub with_validity-requires-2 : goal.with_validity-requires-2
-with_validity-requires-2 c =
+pub with_validity-requires-in-Struct : goal.with_validity-requires-in-Struct
+with_validity-requires-in-Struct c =
     let parts = c.in-Struct in
     let s = c.args.array.now in
     let q = c.in_ok-nulled.nulled in
