@@ -96,7 +96,7 @@ all_present k rs values fit =
 
 valid_of_items : (n : Bool) (rs : List Row) (bits : List Bool) → map is_present rs ≡ bits → packed_valid n rs ≡ valid_items n bits
 valid_of_items false rs bits same = refl
-valid_of_items true rs bits same = ap (λ bs. valid_from bs all_valid) same
+valid_of_items true rs bits same = ap (λ bs. valid_from 0 bs all_valid) same
 
 -- buffers that are filled with the values of rows make their packed form
 pub record AreTexts (k h : Kind) (rs : List Row) (views buffers : List (List ℕ)) (v : Valid) : Type 0 where
