@@ -16,7 +16,7 @@ use vx_views::{BinaryView, MAX_BUFFER_LEN, MAX_INLINED_SIZE};
 const MAX_BUFFERS: usize = 1 << 32;
 
 /// Buffers while they are filled with values, as few as can hold them in order, and the views of
-/// these values.
+/// these values. For the crates above.
 #[derive(Drop)]
 pub struct Filling {
     /// The buffers that are full.
@@ -30,7 +30,7 @@ pub struct Filling {
 }
 
 impl Filling {
-    /// No values.
+    /// No values. For the crates above.
     pub fn new(alloc: Global) -> Filling
         ensures { filling result.full.items result.last.items result.views.items ≡ filling [] [] [] }
     {
@@ -42,6 +42,7 @@ impl Filling {
     }
 
     /// No values, and room for so many views and for so many bytes of values in the first buffer.
+    /// For the crates above.
     pub fn with_capacity(
         alloc: Global,
         views: usize,
@@ -59,7 +60,7 @@ impl Filling {
     }
 
     /// One value more: its view holds it, or it is put into the last buffer, into another one where
-    /// that has no room. Asks that it is no longer than a buffer may be.
+    /// that has no room. Asks that it is no longer than a buffer may be. For the crates above.
     // Always inlined, with the two calls that it makes: a call for each item would cost more than
     // the work on a short one.
     #[inline(always)]
@@ -112,7 +113,7 @@ impl Filling {
     }
 
     /// The buffers, and the views. Refuses `Overflow` where there are more buffers than can be
-    /// numbered.
+    /// numbered. For the crates above.
     pub fn finish(
         self,
         alloc: Global,

@@ -105,8 +105,8 @@ impl ArrayRef {
         }
     }
 
-    /// The rows of an array of plain booleans, as bits: those of a `Bool` layout where they lie. For
-    /// the crates above.
+    /// The rows of an array of plain booleans, as bits: those of a `Bool` layout where they lie.
+    /// For the crates above.
     pub fn plain_bits(&self, alloc: Global) -> Result<BitBuffer, VortexError>
         requires { kind_of self.now ≡ booleans false }
         ensures bits { Gives result (λ b. b.bits ≡ map (λ i. truth_of (row_at self.now i)) (range_with_len 0 (tree_len self.now))) }
