@@ -43,11 +43,7 @@ impl Filling {
 
     /// No values, and room for so many views and for so many bytes of values in the first buffer.
     /// For the crates above.
-    pub fn with_capacity(
-        alloc: Global,
-        views: usize,
-        bytes: usize,
-    ) -> Result<Filling, VortexError>
+    pub fn with_capacity(alloc: Global, views: usize, bytes: usize) -> Result<Filling, VortexError>
         ensures { Gives result (λ f. filling f.full.items f.last.items f.views.items ≡ filling [] [] []) }
     {
         let last = Vec::with_capacity(alloc, bytes)?;
@@ -61,8 +57,6 @@ impl Filling {
 
     /// One value more: its view holds it, or it is put into the last buffer, into another one where
     /// that has no room. Asks that it is no longer than a buffer may be. For the crates above.
-    // Always inlined, with the two calls that it makes: a call for each item would cost more than
-    // the work on a short one.
     #[inline(always)]
     pub fn push(&mut self, alloc: Global, value: &[u8]) -> Result<(), VortexError>
         requires { length value.now ≤ MAX_BUFFER_LEN }
@@ -74,6 +68,8 @@ impl Filling {
             (filling self.new.full.items self.new.last.items self.new.views.items)) }
         ensures memory { IsOkUnless result Memory }
     {
+        // Always inlined, with the two calls that it makes: a call for each item would cost more
+        // than the work on a short one.
         if value.len() <= MAX_INLINED_SIZE {
             self.views.push(BinaryView::make_view(value, 0, 0))?;
             return Ok(());
@@ -114,10 +110,7 @@ impl Filling {
 
     /// The buffers, and the views. Refuses `Overflow` where there are more buffers than can be
     /// numbered. For the crates above.
-    pub fn finish(
-        self,
-        alloc: Global,
-    ) -> Result<(Vec<ByteBuffer>, Buffer<BinaryView>), VortexError>
+    pub fn finish(self, alloc: Global) -> Result<(Vec<ByteBuffer>, Buffer<BinaryView>), VortexError>
         ensures buffers { IfOk result (λ made. made.0.items
             ≡ all_buffers (filling self.full.items self.last.items self.views.items)) }
         ensures views { IfOk result (λ made. made.1 ≡ self.views.items) }
