@@ -26,11 +26,13 @@ returns-then-definitely_no_nulls-clause-kind c =
     (sym c.definitely_no_nulls.ensures ∙ c.if-definitely_no_nulls.true) c.in_ok-try_clone.ensures in
     kind_of-field c.args.self.now c.args.name.now column r (ap is_struct same) c.in_ok-column.ensures.found pushed
 
-pub nulled-requires-clause-fits : goal.nulled-requires-clause-fits
-nulled-requires-clause-fits c =
+pub nulled-requires : goal.nulled-requires
+nulled-requires c =
     let p = c.parts-parts.result in
-    field_fits c.args.self.now p.names.now p.columns.now (valid_of p.validity.now) p.len c.args.name.now c.in_ok-column.column.now
-    c.parts-parts.ensures.same c.parts-parts.ensures.formed c.in_ok-column.ensures.found
+    record {
+      fits = field_fits c.args.self.now p.names.now p.columns.now (valid_of p.validity.now) p.len c.args.name.now c.in_ok-column.column.now
+          c.parts-parts.ensures.same c.parts-parts.ensures.formed c.in_ok-column.ensures.found;
+    }
 
 pub returns-clause-column : goal.returns-clause-column
 returns-clause-column c =
