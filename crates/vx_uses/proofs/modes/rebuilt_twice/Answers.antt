@@ -15,5 +15,5 @@ pub returns-in_err-twice-clause-refuses : goal.returns-in_err-twice-clause-refus
 returns-in_err-twice-clause-refuses c =
     let once = c.in_ok-once.once in
     let none = c.rebuilt_lists_are_not_refused.ensures c.args.mode c.args.lists.now once c.in_ok-once.ensures.rebuilt in
-    let p = err_from_is_err_and c.from_residual.result c.from_residual.ensures.1 in
+    let p = err_from_is_err_and c.from_residual-in_err-twice.result c.from_residual-in_err-twice.ensures.1 in
     rw (p.1, p.2) (inl (only_memory (rebuild_fault c.args.mode once) c.in_err-twice.field-0.0 none c.in_err-twice.ensures.refuses))
