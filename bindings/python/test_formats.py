@@ -151,7 +151,8 @@ def test_steps_on_records():
         assert out(run([records, texts], [step])[0]) == formats, (formats, out(run([records, texts], [step])[0]))
     assert out(records.field("a")) == ("U",)
     one, other = Column.from_arrow(of.values(["x"], "U")), Column.from_arrow(of.values(["y"]))
-    assert [out(run([one, other, texts], [Step.concat(order)])[0]) for order in ((0, 1), (1, 0), (2, 0))] == [("U",), ("u",), ("vu",)]
+    made = Column.from_pylist(["t"], "text?")
+    assert [out(run([one, other, made], [Step.concat(order)])[0]) for order in ((0, 1), (1, 0), (2, 0))] == [("U",), ("u",), ("vu",)]
     assert out(run([Column.from_arrow(of.lists([["x"]], letters("U")))], [Step.rebuild(0)])[0]) == ("+vL", ("U",))
     assert out(run([Column.from_arrow(of.numbers([1, 2]))], [Step.narrow(0)])[0]) == ("C",)
     chunks = of.Chunked([of.values(["x"], "U"), of.values(["y"])])
