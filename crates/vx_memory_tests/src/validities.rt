@@ -108,6 +108,15 @@ fn compared(alloc: Global, given: &Validity) -> Result<bool, VortexError> {
     Ok(!given.execute_no_nulls(alloc, 3)? && given.mask_eq(alloc, given, 3)?)
 }
 
+// `Validity::simplest`.
+fn simplest(alloc: Global, given: &Validity) -> Result<bool, VortexError> {
+    if !has_three(given) {
+        return Ok(false);
+    }
+    let (made, null_count) = given.simplest(alloc, 3)?;
+    Ok(null_count == 1 && are_valid(alloc, &made, &[true, false, true])?)
+}
+
 // `Validity::is_valid`, `Validity::is_null`, `Validity::execute_is_valid` and
 // `Validity::execute_is_null`.
 fn asked(alloc: Global, given: &Validity) -> Result<bool, VortexError> {
@@ -125,6 +134,7 @@ fn read_calls(alloc: Global, given: &Validity) -> Result<bool, VortexError> {
         masks(alloc, given)?
             && arrays(alloc, given)?
             && compared(alloc, given)?
+            && simplest(alloc, given)?
             && asked(alloc, given)?,
     )
 }

@@ -1,22 +1,23 @@
 -- What the calls of a validity give.
-use Rattle.std.proofs.Common.{ℕ, ◌+◌, ◌<◌, ◌≡◌, ◌↔◌, Bool, true, false, eqb, List, [], ◌∷◌, length, map, replicate, Some, refl, sym, ◌∙◌, ap, subst, zero-add, inl, inr}
+use Rattle.std.proofs.Common.{ℕ, ◌+◌, ◌<◌, ◌≡◌, ◌↔◌, Bool, true, false, cond, arith, eqb, List, [], ◌∷◌, length, map, replicate, Some, refl, sym, ◌∙◌, ap, subst, zero-add, inl, inr}
 use Rattle.std.specs.Prelude.{◌&&◌, ◌||◌, IfSome, IsTrue, is_some, slice_index, count_by, pos, negsuc}
 use Rattle.std.specs.List.{range_with_len}
 use Rattle.std.proofs.lemmas.Bool.{eq-eqb}
 use Rattle.std.proofs.lemmas.Bool.Decides.{eqb_tells}
+use Rattle.std.proofs.lemmas.List.Sums.{sum_by-cons}
 use Rattle.std.proofs.lemmas.List.FromFn.{fill_by_all, length-map-range_with_len, get_or-map-range_with_len}
 use Rattle.vx_base.specs.Bits.{bool_at, both}
 use Rattle.vx_base.specs.Rows.{Row, null, boolean, whole, bytes, text, items, record_of, truth_of, count_in, is_present, position_in}
 use Rattle.vx_base.specs.Kinds.{booleans}
 use Rattle.vx_base.proofs.ListParts.{map_range_same}
-use Rattle.vx_base.proofs.MaskCounts.{count-all_true, count-all_false, all_true_from_count, all_false_from_count}
+use Rattle.vx_base.proofs.MaskCounts.{count-all_true, count-all_false, count-true, count-false, all_true_from_count, all_false_from_count}
 use Rattle.vx_tree.specs.Tree.{Tree, bools, constant, Valid, non_nullable, all_valid, all_invalid, by_array}
 use Rattle.vx_tree.specs.Meaning.{tree_len, row_at, is_valid_at, nullable, valid_mask}
 use Rattle.vx_tree.specs.Shapes.{State, never_null, none_null, every_null, told, state_of, taken_state, tree_state}
 use Rattle.vx_tree.specs.Formed.{ValidFits}
 use Rattle.vx_tree.specs.Named.{IsRepeated, AreIndices}
 use Rattle.vx_tree.specs.Operations.{IsSelected, IsValidityOf, IsValidNulled}
-use Rattle.vx_tree.specs.Validities.{pair_of, both_pairs, opposite, has_no_nulls, kept_array, made_nullable, full_valid, valid_from, IsOpposite, IsValidTaken, nullable_state, IsTrivialCast, BothCommutes, BothAssociates, BothRepeats, BothHasUnit, TrivialCasts}
+use Rattle.vx_tree.specs.Validities.{pair_of, both_pairs, opposite, has_no_nulls, kept_array, made_nullable, full_valid, valid_from, simplest, IsOpposite, IsValidTaken, nullable_state, IsTrivialCast, BothCommutes, BothAssociates, BothRepeats, BothHasUnit, TrivialCasts}
 use Rattle.vx_tree.proofs.Masks.{all_true_mask, all_valid_mask, all_invalid_mask}
 use Rattle.vx_tree.proofs.Positions.{mask_long}
 use Rattle.vx_tree.proofs.Nulled.{nullable_nulled}
@@ -54,6 +55,32 @@ valid_from-mask first bits b = elim (eqb_tells (count_by (λ x. x) bits) (length
     full : (b : Bool) (n : ℕ) → replicate n true ≡ valid_mask (full_valid b) n
     full true n = all_valid_mask all_valid n refl
     full false n = all_true_mask non_nullable n refl
+
+-- ---- the simplest
+
+pub simplest-mask : (v : Valid) (n : ℕ) → valid_mask (simplest v n) n ≡ valid_mask v n
+simplest-mask non_nullable n = refl
+simplest-mask all_valid n = refl
+simplest-mask all_invalid n = refl
+simplest-mask (by_array t) n =
+    let mask = valid_mask (by_array t) n in
+    let long : length mask ≡ n = mask_long (by_array t) mask n refl in
+    elim (eqb_tells (count_by (λ x. x) mask) n) [
+      | inl alike ↦ rw alike.0 (sym (all_valid_mask all_valid n refl) ∙ ap (λ k. replicate k true) (sym long) ∙ sym (all_true_from_count mask (alike.1 ∙ sym long)))
+      | inr apart ↦ rw apart.0 (elim (eqb_tells (count_by (λ x. x) mask) 0) [
+        | inl none ↦ rw none.0 (sym (all_invalid_mask all_invalid n refl) ∙ ap (λ k. replicate k false) (sym long) ∙ sym (all_false_from_count mask none.1))
+        | inr some ↦ rw some.0 refl
+      ])
+    ]
+
+null_and_valid : (bs : List Bool) → count_by opposite bs + count_by (λ b. b) bs ≡ length bs
+null_and_valid [] = refl
+null_and_valid (true ∷ bs) = omega (arith, null_and_valid bs, count-true bs, sum_by-cons (λ (b : Bool). cond (opposite b) 1 0) true bs)
+null_and_valid (false ∷ bs) = omega (arith, null_and_valid bs, count-false bs, sum_by-cons (λ (b : Bool). cond (opposite b) 1 0) false bs)
+
+-- a row is valid or null
+pub nulls_and_valid : (v : Valid) (n : ℕ) → count_by opposite (valid_mask v n) + count_by (λ b. b) (valid_mask v n) ≡ n
+nulls_and_valid v n = null_and_valid (valid_mask v n) ∙ mask_long v (valid_mask v n) n refl
 
 -- ---- valid in both
 

@@ -90,6 +90,15 @@ valid_from b bits full =
     if count_by (λ b. b) bits == length bits then full
     else (if count_by (λ b. b) bits == 0 then all_invalid else by_array (bools b bits non_nullable))
 
+-- the simplest that says the same of n rows: of an array none of whose rows is null all valid, of one whose rows all are all invalid, else it stays
+abbrev pub simplest : Valid → ℕ → Valid
+simplest non_nullable n = non_nullable
+simplest all_valid n = all_valid
+simplest all_invalid n = all_invalid
+simplest (by_array t) n =
+    if has_no_nulls (by_array t) n then all_valid
+    else (if count_by (λ b. b) (valid_mask (by_array t) n) == 0 then all_invalid else by_array t)
+
 -- no null may stand, or no null stands
 abbrev pub full_valid : Bool → Valid
 full_valid true = all_valid

@@ -1,6 +1,7 @@
 // Each caller on values worked by hand.
 
 mod appended;
+mod appended_lists;
 mod collected;
 mod columns;
 mod faulty_rows;

@@ -13,6 +13,7 @@ pub mod SliceSteps
 pub mod JoinedTables
 pub mod TwoFaults
 pub mod AppendedArrays
+pub mod AppendedLists
 pub mod ReadTexts
 pub mod ListFlags
 pub mod SummedOffsets

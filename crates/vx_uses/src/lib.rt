@@ -4,14 +4,15 @@
 //! Read `first` (lists rebuilt and read), `reader` (columns from the bytes of a file) and `kernel`
 //! (columns that are cut, regrouped and read in any layout). Then what is near to your own use:
 //! `writer`, `texts`, `foreign_texts` and `repacking` are of texts; `converter`, `comparison`,
-//! `modes` and `trimming` of lists; `tables` of records; `encoder` of numbers and dictionaries;
-//! `part_by_steps` of lists of steps; `packing` of equal rows. specs/ has what these callers say of
-//! their own results.
+//! `modes`, `trimming` and `appended_lists` of lists; `tables` of records; `encoder` of numbers and
+//! dictionaries; `part_by_steps` of lists of steps; `packing` of equal rows. specs/ has what these
+//! callers say of their own results.
 //!
 //! Nothing recurses.
 #![tactic(auto)]
 
 pub mod appended;
+pub mod appended_lists;
 pub mod collected;
 pub mod comparison;
 pub mod converter;

@@ -10,7 +10,7 @@ ghost use Rattle.vx_tree.specs.Meaning.{is_valid_at, valid_mask};
 ghost use Rattle.vx_tree.specs.Formed.{IsLenOf, ValidFits};
 ghost use Rattle.vx_tree.specs.Parts.{valid_of};
 ghost use Rattle.vx_tree.specs.Faults.{valid_type_fault};
-ghost use Rattle.vx_tree.specs.Validities.{array_of, full_valid, has_no_nulls, valid_from};
+ghost use Rattle.vx_tree.specs.Validities.{array_of, full_valid, has_no_nulls, opposite, simplest, valid_from};
 
 use crate::array::{ArrayRef, Validity};
 use crate::validity::told_by;
@@ -82,6 +82,45 @@ impl Validity {
     {
         let valid_count = self.valid_count(alloc, len)?;
         Ok(valid_count == len)
+    }
+
+    /// The simplest validity that says the same of `len` rows, and how many of them are null:
+    /// `AllValid` in the place of an array none of whose rows is null, as where there are no rows,
+    /// `AllInvalid` where all are; else it stays. Asks that an array has `len` rows. Refuses
+    /// `MismatchedTypes` where the array is not one of plain booleans. Of the array true, true it
+    /// gives `AllValid` and 0.
+    pub fn simplest(&self, alloc: Global, len: usize) -> Result<(Validity, usize), VortexError>
+        requires { IsLenOf (valid_of self.now) len }
+        ensures simplest { IfOk result (λ made. valid_of made.0 ≡ simplest (valid_of self.now) len) }
+        ensures mask { IfOk result (λ made. valid_mask (valid_of made.0) len ≡ valid_mask (valid_of self.now) len) }
+        ensures nulls { IfOk result (λ made. made.1 ≡ count_by opposite (valid_mask (valid_of self.now) len)) }
+        ensures refuses { Refuses result (valid_type_fault (valid_of self.now)) }
+    {
+        let valid_count = self.valid_count(alloc, len)?;
+        let validity = self.simplified(alloc, len, valid_count)?;
+        Ok((validity, len - valid_count))
+    }
+
+    // The simplest validity that says the same of `len` rows, of which so many are valid.
+    fn simplified(
+        &self,
+        alloc: Global,
+        len: usize,
+        valid_count: usize,
+    ) -> Result<Validity, VortexError>
+        requires { valid_count ≡ count_by (λ b. b) (valid_mask (valid_of self.now) len) }
+        ensures { Gives result (λ v. valid_of v ≡ simplest (valid_of self.now) len) }
+    {
+        let Validity::Array(_) = self else {
+            return self.try_clone(alloc);
+        };
+        if valid_count == len {
+            Ok(Validity::AllValid)
+        } else if valid_count == 0 {
+            Ok(Validity::AllInvalid)
+        } else {
+            self.try_clone(alloc)
+        }
     }
 
     // How many of `len` rows are valid. Refuses as `execute_mask` does.

@@ -495,6 +495,54 @@ fn casts_to_nullable(rt: HostRuntime) {
     assert!(rt; matches!(Validity::AllInvalid.into_nullable(), Validity::AllInvalid));
 }
 
+// ---- the simplest
+
+#[test]
+fn states_are_the_simplest(rt: HostRuntime) -> Result<(), VortexError> {
+    let alloc = rt.alloc();
+    let (plain, null_count) = Validity::NonNullable.simplest(alloc, 3)?;
+    assert!(rt; matches!(plain, Validity::NonNullable) && null_count == 0);
+    let (full, null_count) = Validity::AllValid.simplest(alloc, 3)?;
+    assert!(rt; matches!(full, Validity::AllValid) && null_count == 0);
+    let (none, null_count) = Validity::AllInvalid.simplest(alloc, 3)?;
+    assert!(rt; matches!(none, Validity::AllInvalid) && null_count == 3);
+    let (empty, null_count) = Validity::AllInvalid.simplest(alloc, 0)?;
+    assert!(rt; matches!(empty, Validity::AllInvalid) && null_count == 0);
+    Ok(())
+}
+
+#[test]
+fn arrays_of_one_truth_are_states(rt: HostRuntime) -> Result<(), VortexError> {
+    let alloc = rt.alloc();
+    let (full, null_count) = valid(alloc, &[true, true])?.simplest(alloc, 2)?;
+    assert!(rt; matches!(full, Validity::AllValid) && null_count == 0);
+    let (none, null_count) = valid(alloc, &[false, false, false])?.simplest(alloc, 3)?;
+    assert!(rt; matches!(none, Validity::AllInvalid) && null_count == 3);
+    let (empty, null_count) = valid(alloc, &[])?.simplest(alloc, 0)?;
+    assert!(rt; matches!(empty, Validity::AllValid) && null_count == 0);
+    Ok(())
+}
+
+#[test]
+fn mixed_arrays_stay(rt: HostRuntime) -> Result<(), VortexError> {
+    let alloc = rt.alloc();
+    let mixed = valid(alloc, &[true, false, false, true, false])?;
+    let (made, null_count) = mixed.simplest(alloc, 5)?;
+    assert!(rt; matches!(made, Validity::Array(_)) && null_count == 3);
+    expect_valid(&rt, alloc, &made, &[true, false, false, true, false])
+}
+
+#[test]
+fn other_arrays_are_not_made_simpler(rt: HostRuntime) -> Result<(), VortexError> {
+    let alloc = rt.alloc();
+    let found = match not_of_booleans(alloc)?.simplest(alloc, 2) {
+        Err(VortexError::MismatchedTypes) => true,
+        _ => false,
+    };
+    assert!(rt; found);
+    Ok(())
+}
+
 // ---- laws
 
 #[test]
