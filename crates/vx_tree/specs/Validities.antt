@@ -90,7 +90,8 @@ valid_from b bits full =
     if count_by (λ b. b) bits == length bits then full
     else (if count_by (λ b. b) bits == 0 then all_invalid else by_array (bools b bits non_nullable))
 
--- the simplest that says the same of n rows: of an array none of whose rows is null all valid, of one whose rows all are all invalid, else it stays
+-- the simplest that says the same of n rows: all valid for an array none of whose rows is null, all invalid for one whose rows all
+-- are; else it stays
 abbrev pub simplest : Valid → ℕ → Valid
 simplest non_nullable n = non_nullable
 simplest all_valid n = all_valid
