@@ -1,6 +1,7 @@
 // Validities, on values worked out by hand.
 
 ghost use Rattle.std.specs.Prelude.{◌≡◌, ◌≤◌, IfOk};
+ghost use Rattle.vx_tree.specs.Formed.{IsLenOf};
 ghost use Rattle.vx_tree.specs.Parts.{valid_of};
 ghost use Rattle.vx_tree.specs.Tree.{bools, by_array, non_nullable};
 
@@ -22,8 +23,10 @@ fn valid(alloc: Global, values: &[bool]) -> Result<Validity, VortexError>
     Ok(Validity::Array(bools(alloc, values)?))
 }
 
-// A validity array of another data type.
-fn not_of_booleans(alloc: Global) -> Result<Validity, VortexError> {
+// A validity array of two rows of another data type.
+fn not_of_booleans(alloc: Global) -> Result<Validity, VortexError>
+    ensures { IfOk result (λ v. IsLenOf (valid_of v) 2) }
+{
     let scalar = Scalar::int(1, PType::U8, Nullability::NonNullable);
     Ok(Validity::Array(ArrayRef::constant(alloc, scalar, 2)?))
 }
