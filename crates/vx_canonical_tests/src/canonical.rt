@@ -7,7 +7,6 @@ use vx_test_help::samples::dictionary;
 use vx_tree::Layout;
 
 mod joined_arrays;
-mod kept_parts;
 mod many_values;
 mod no_values;
 mod null_lists;
