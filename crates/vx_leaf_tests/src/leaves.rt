@@ -1,6 +1,7 @@
 // The typed arrays on plain parts.
 
 mod bool_arrays;
+mod code_words;
 mod dictionaries;
 mod narrow;
 mod numbers;

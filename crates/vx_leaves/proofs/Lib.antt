@@ -3,7 +3,8 @@ pub mod MarkedBits
 pub mod MaskedRows
 pub mod NamedValues
 pub mod ScanEnds
-pub mod ScannedCodes
+pub mod SetBits
+pub mod WordRows
 pub mod NarrowedRows
 pub mod NarrowedTypes
 pub mod NumbersPut
@@ -11,5 +12,4 @@ pub mod SpreadRows
 pub mod ValueRows
 pub mod Widths
 pub mod RunRows
-pub mod MarkedRuns
 pub mod NumbersPlaced

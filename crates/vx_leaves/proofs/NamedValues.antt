@@ -1,191 +1,216 @@
 -- Values that codes name, marked one after another.
-use Rattle.std.proofs.Common.{ℕ, ◌<◌, ◌≡◌, ◌+◌, Bool, true, false, not, List, [], ◌∷◌, length, map, replicate, set, Option, Some, None, inl, inr, refl, sym, ◌∙◌, ap, subst, suc, zero-add, arith}
-use Rattle.std.specs.Prelude.{ℤ, pos, negsuc, ◌↔◌, ◌≢◌, ◌==◌, IsTrue, IfSome, is_some, count_by, slice_index, slice_index_or, slice_set, unsigned_abs, if◌then◌else◌}
-use Rattle.std.specs.List.{range_with_len}
-use Rattle.std.proofs.lemmas.Bool.{false≢true, cases_lt, cases_eq}
+use Rattle.std.proofs.Common.{ℕ, ◌+◌, ◌-◌, ◌<◌, ◌≤◌, ◌≡◌, Bool, true, false, not, List, [], ◌∷◌, length, replicate, Some, None, inl, inr, refl, sym, ◌∙◌, ap, subst, suc, arith}
+use Rattle.std.specs.Prelude.{ℤ, pos, negsuc, ◌↔◌, ◌⊎◌, ◌≢◌, ◌==◌, IsTrue, count_by, slice_index, slice_set, unsigned_abs, unwrap_or, if◌then◌else◌}
+use Rattle.std.specs.Int.{bit_at}
+use Rattle.std.proofs.lemmas.Bool.{false≢true, cases_lt, cases_Bool, cases_eq}
 use Rattle.std.proofs.lemmas.Bool.Decides.{Decides-eqb}
-use Rattle.std.proofs.lemmas.List.{get_or-map, get_or-replicate, get_or-set_other, length-replicate, length-set}
 use Rattle.std.proofs.lemmas.Grind.{get_or-set_at}
-use Rattle.std.proofs.lemmas.List.FromFn.{get_or-map-range_with_len, length-map-range_with_len}
+use Rattle.std.proofs.lemmas.List.{get_or-map, get_or-replicate, get_or-set_other, length-replicate, length-set}
 use Rattle.vx_base.specs.Bits.{bool_at}
-use Rattle.vx_base.specs.Integers.{numbers}
-use Rattle.vx_base.specs.Rows.{Row, null, boolean, whole, bytes, text, items, record_of, is_present, position_in}
+use Rattle.vx_base.specs.Integers.{numbers, number_nth}
+use Rattle.vx_base.specs.Rows.{Row, null, boolean, whole, bytes, text, items, record_of, is_present, position_in, number_in}
 use Rattle.vx_base.specs.declared.ptypes.PType.{PType}
 use Rattle.vx_base.proofs.MaskCounts.{count-true, all_true_from_count}
-use Rattle.vx_tree.specs.Tree.{Tree, primitive, dictionary, Valid}
+use Rattle.vx_tree.specs.Tree.{Tree, dictionary}
 use Rattle.vx_tree.specs.Formed.{IsCode, IsDictionary, ReferencesAll}
-use Rattle.vx_tree.specs.Meaning.{tree_len, row_at, valid_mask, is_valid_at}
-use Rattle.vx_tree.specs.Operations.{ArePositions, IsValidityOf, or_zero}
-use Rattle.vx_leaves.specs.Dictionaries.{codes_in, values_in, referenced_flag, IsReferenced, MarksReferenced, IsNamed, AreNamed, number_places}
+use Rattle.vx_tree.specs.Meaning.{tree_len, row_at}
+use Rattle.vx_tree.specs.Operations.{masked_numbers}
+use Rattle.vx_leaves.specs.Dictionaries.{codes_in, values_in, referenced_flag, MarksReferenced, IsNamedBefore, AreNamed, Marks, MarksSet, NamesAmong, NamesSet, number_places}
 
 -- ---- marks
 
--- marks follow the places that count alone
-pub AreNamed-places : (ps qs : List ℕ) (counts : ℕ → Bool) (n count : ℕ) (r : Bool) (bits : List Bool) → ((i : ℕ) → i < n → counts i ≡ true → slice_index ps i ≡ slice_index qs i) → AreNamed ps counts n count r bits → AreNamed qs counts n count r bits
-AreNamed-places ps qs counts n count r bits same named = record {
+-- what is named stays named
+named_later : (c : Tree) (n m j : ℕ) → n ≤ m → IsNamedBefore c n j → IsNamedBefore c m j
+named_later c n m j upto found = let inside : found.0 < n = found.1 in (found.0, omega arith, found.2)
+
+pub AreNamed-none : (c : Tree) (r : Bool) (bits : List Bool) → ((j : ℕ) → j < length bits → bool_at bits j ≢ r) → AreNamed c 0 (length bits) r bits
+AreNamed-none c r bits none = record {
+  len = refl;
+  each = λ j inside. ((λ is. absurd (none j inside is)), (λ (found : IsNamedBefore c 0 j). let inside : found.0 < 0 = found.1 in absurd (omega arith)));
+}
+
+-- arrays whose first rows are the same have the same marks
+pub AreNamed-same : (c t : Tree) (n count : ℕ) (r : Bool) (bits : List Bool) → ((i : ℕ) → i < n → row_at c i ≡ row_at t i) → AreNamed c n count r bits → AreNamed t n count r bits
+AreNamed-same c t n count r bits same named = record {
   len = named.len;
   each = λ j inside. (
-    (λ is. let found = (named.each j inside).0 is in (found.0, found.1, found.2, sym (same found.0 found.1 found.2) ∙ found.3)),
-    (λ (found : IsNamed qs counts n j). (named.each j inside).1 (found.0, found.1, found.2, same found.0 found.1 found.2 ∙ found.3)),
+    (λ is. let found = (named.each j inside).0 is in (found.0, found.1, ap position_in (sym (same found.0 found.1)) ∙ found.2)),
+    (λ (found : IsNamedBefore t n j). (named.each j inside).1 (found.0, found.1, ap position_in (same found.0 found.1) ∙ found.2)),
   );
 }
 
--- one row more
-module _ (ps : List ℕ) (counts : ℕ → Bool) (n : ℕ) (r : Bool) (old : List Bool) (named : AreNamed ps counts n (length old) r old) where
-  named_before : (j : ℕ) → (found : IsNamed ps counts (n + 1) j) → (n ≡ found.0 → ⊥) → IsNamed ps counts n j
-  named_before j found other = elim (cases_lt found.0 n) [
-    | inl before ↦ (found.0, before, found.2, found.3)
-    | inr after ↦ let inside : found.0 < n + 1 = found.1 in absurd (other (omega arith))
-  ]
-
-  named_still : (j : ℕ) → IsNamed ps counts n j → IsNamed ps counts (n + 1) j
-  named_still j found = let inside : found.0 < n = found.1 in (found.0, omega arith, found.2, found.3)
-
-  named_skipped : counts n ≡ false → AreNamed ps counts (n + 1) (length old) r old
-  named_skipped skipped = record {
-    len = refl;
-    each = λ j inside. (
-      (λ is. named_still j ((named.each j inside).0 is)),
-      (λ (found : IsNamed ps counts (n + 1) j). (named.each j inside).1 (named_before j found (λ same. false≢true (sym skipped ∙ ap counts same ∙ found.2)))),
-    );
-  }
-
-  named_marked : counts n ≡ true → slice_index ps n < length old → AreNamed ps counts (n + 1) (length (set old (slice_index ps n) r)) r (set old (slice_index ps n) r)
-  named_marked counted within = record {
-    len = refl;
-    each = λ j inside. elim (cases_eq j (slice_index ps n)) [
-      | inl here ↦ ((λ is. (n, omega arith, counted, sym here)), (λ found. get_or-set_at old (slice_index ps n) j r false here within))
-      | inr other ↦
-          let kept : bool_at (set old (slice_index ps n) r) j ≡ bool_at old j = get_or-set_other old (slice_index ps n) j r false other in
-          let long : length (set old (slice_index ps n) r) ≡ length old = length-set old (slice_index ps n) r in (
-            (λ is. named_still j ((named.each j (omega (arith, inside, long))).0 (sym kept ∙ is))),
-            (λ (found : IsNamed ps counts (n + 1) j). kept ∙ (named.each j (omega (arith, inside, long))).1 (named_before j found (λ same. other (sym found.3 ∙ ap (slice_index ps) (sym same))))),
-          )
-    ];
-  }
-
-  pub AreNamed-more : (counts n ≡ true → slice_index ps n < length old) → (new : List Bool) → new ≡ (if counts n then slice_set old (slice_index ps n) r else old) → AreNamed ps counts (n + 1) (length new) r new
-  AreNamed-more within new made = rw made (step (counts n) refl)
-    where
-      step : (c : Bool) → counts n ≡ c → AreNamed ps counts (n + 1) (length (if c then slice_set old (slice_index ps n) r else old)) r (if c then slice_set old (slice_index ps n) r else old)
-      step true counted = named_marked counted (within counted)
-      step false skipped = named_skipped skipped
-
--- ---- codes
-
-pub some_is : (o : Option ℕ) (k j : ℕ) → is_some o ≡ true → k ≡ or_zero o → k ≡ j → o ≡ Some j
-some_is None k j s e h = cc
-some_is (Some p) k j s e h = ap Some (sym e ∙ h)
-
-some_within : (o : Option ℕ) (k bound : ℕ) → is_some o ≡ true → k ≡ or_zero o → IfSome o (λ p. p < bound) → k < bound
-some_within None k bound s e h = cc
-some_within (Some p) k bound s e h = let below : p < bound = h in omega arith
-
--- ---- the codes of a dictionary, as the places that they name
-
-code_within : (n : ℕ) (r : Row) → IsCode n r → IfSome (position_in r) (λ p. p < n)
-code_within n null h = tt
-code_within n (whole (pos k)) h = h
-code_within n (whole (negsuc k)) h = absurd h
-code_within n (boolean b) h = absurd h
-code_within n (bytes bs) h = absurd h
-code_within n (text bs) h = absurd h
-code_within n (items rs) h = absurd h
-code_within n (record_of rs) h = absurd h
-
-code_present : (n : ℕ) (r : Row) → IsCode n r → is_some (position_in r) ≡ is_present r
-code_present n null h = refl
-code_present n (whole (pos k)) h = refl
-code_present n (whole (negsuc k)) h = absurd h
-code_present n (boolean b) h = absurd h
-code_present n (bytes bs) h = absurd h
-code_present n (text bs) h = absurd h
-code_present n (items rs) h = absurd h
-code_present n (record_of rs) h = absurd h
-
--- the place that each code names, 0 for a null row
-abbrev pub code_places : Tree → List ℕ
-code_places c = map (λ i. or_zero (position_in (row_at c i))) (range_with_len 0 (tree_len c))
-
-pub code_positions : (c v : Tree) (f : Bool) → IsDictionary c v f → ArePositions c (tree_len v) (code_places c)
-code_positions c v f formed = record {
-  len = length-map-range_with_len (λ i. or_zero (position_in (row_at c i))) 0 (tree_len c);
-  each = λ i inside. record {
-    told = get_or-map-range_with_len (λ k. or_zero (position_in (row_at c k))) 0 (tree_len c) i i 0 inside (zero-add i);
-    within = code_within (tree_len v) (row_at c i) (formed.within i inside);
-    present = code_present (tree_len v) (row_at c i) (formed.within i inside);
-  };
+-- more codes, which name what Found says
+pub AreNamed-more : (c : Tree) (n m count : ℕ) (r : Bool) (old new : List Bool) (Found : ℕ → Type 0) → n ≤ m
+    → ((j : ℕ) → Found j → IsNamedBefore c m j) → ((i j : ℕ) → n ≤ i → i < m → position_in (row_at c i) ≡ Some j → Found j)
+    → AreNamed c n count r old → length new ≡ length old → ((j : ℕ) → j < length old → (bool_at new j ≡ r) ↔ ((bool_at old j ≡ r) ⊎ Found j))
+    → AreNamed c m count r new
+AreNamed-more c n m count r old new Found le sound complete named long each = record {
+  len = long ∙ named.len;
+  each = λ j inside. let here : j < length old = omega (arith, named.len) in (
+    (λ is. elim ((each j here).0 is) [
+      | inl was ↦ named_later c n m j le ((named.each j inside).0 was)
+      | inr found ↦ sound j found
+    ]),
+    (λ (found : IsNamedBefore c m j). (each j here).1 (elim (cases_lt found.0 n) [
+      | inl before ↦ inl ((named.each j inside).1 (found.0, before, found.2))
+      | inr after ↦ inr (complete found.0 j after found.1 found.2)
+    ])),
+  );
 }
 
--- a number that is there names its size
-size_named : (valid : Bool) (z : ℤ) → is_some (position_in (if valid then whole z else null)) ≡ true → unsigned_abs z ≡ or_zero (position_in (if valid then whole z else null))
-size_named true (pos k) h = refl
-size_named true (negsuc k) h = absurd (false≢true h)
-size_named false z h = absurd (false≢true h)
+-- where all are marked, more codes mark no more
+pub AreNamed-all : (c : Tree) (n m count : ℕ) (r : Bool) (bits : List Bool) → n ≤ m → ((j : ℕ) → j < length bits → bool_at bits j ≡ r) → AreNamed c n count r bits → AreNamed c m count r bits
+AreNamed-all c n m count r bits le all named = record {
+  len = named.len;
+  each = λ j inside. ((λ is. named_later c n m j le ((named.each j inside).0 is)), (λ found. all j (omega (arith, named.len))));
+}
 
--- ---- a dictionary's codes, as positions under the mask of their validity
+-- of rows that are all one the first names all
+pub AreNamed-alike : (c : Tree) (n count : ℕ) (r : Bool) (bits : List Bool) → 0 < n → ((i : ℕ) → row_at c i ≡ row_at c 0) → AreNamed c 1 count r bits → AreNamed c n count r bits
+AreNamed-alike c n count r bits some alike named = record {
+  len = named.len;
+  each = λ j inside. (
+    (λ is. named_later c 1 n j (omega arith) ((named.each j inside).0 is)),
+    (λ (found : IsNamedBefore c n j). (named.each j inside).1 (0, omega arith, ap position_in (sym (alike found.0)) ∙ found.2)),
+  );
+}
 
-module _ (c v : Tree) (ps : List ℕ) (w : Valid) (mask : List Bool) (n bound : ℕ) (len : n ≡ tree_len c) (bound_is : bound ≡ tree_len v) (are : ArePositions c bound ps) (valid : IsValidityOf c w) (made : mask ≡ valid_mask w n) where
-  pub mask_len : length mask ≡ length ps
-  mask_len = ap length made ∙ length-map-range_with_len (is_valid_at w) 0 n ∙ len ∙ sym are.len
+some_same : (a b : ℕ) → Some a ≡ Some b → a ≡ b
+some_same a b e = ap (λ o. unwrap_or o 0) e
 
-  pub counts_is : (i : ℕ) → i < tree_len c → bool_at mask i ≡ is_some (position_in (row_at c i))
-  counts_is i inside =
-      ap (λ m. bool_at m i) made ∙ get_or-map-range_with_len (is_valid_at w) 0 n i i false (omega arith) (zero-add i) ∙ valid.bits i inside ∙ sym (are.each i inside).present
+-- ---- one row
 
-  pub place_within : (i : ℕ) → i < length ps → bool_at mask i ≡ true → slice_index ps i < bound
-  place_within i inside counted =
-      let here : i < tree_len c = omega (arith, are.len) in
-      some_within (position_in (row_at c i)) (slice_index ps i) bound (sym (counts_is i here) ∙ counted) (are.each i here).told (are.each i here).within
+code_named : (bound : ℕ) (row : Row) (z : ℤ) → IsCode bound row → number_in row ≡ Some z → (position_in row ≡ Some (unsigned_abs z)) × (unsigned_abs z < bound)
+code_named bound (whole (pos k)) z code e = let same : pos k ≡ z = number_same (pos k) z e in rw (← same) (refl, code)
+  where
+    number_same : (y z : ℤ) → Some y ≡ Some z → y ≡ z
+    number_same y z e = ap (λ o. unwrap_or o (pos 0)) e
+code_named bound (whole (negsuc k)) z code e = absurd code
+code_named bound null z code e = absurd (cc)
+code_named bound (boolean b) z code e = absurd code
+code_named bound (bytes bs) z code e = absurd code
+code_named bound (text bs) z code e = absurd code
+code_named bound (items rs) z code e = absurd code
+code_named bound (record_of rs) z code e = absurd code
 
-  -- numbers under the mask name the same
-  pub number_counted : (t : PType) (bs : List ℕ) (x : Valid) → c ≡ primitive t bs x → (i : ℕ) → i < length mask → bool_at mask i ≡ true → slice_index (number_places t bs) i ≡ slice_index ps i
-  number_counted t bs x same i inside counted =
-      let here : i < tree_len c = omega (arith, mask_len, are.len) in
-      let z : ℤ = slice_index_or (numbers t bs) i (pos 0) in
-      let row : row_at c i ≡ (if is_valid_at x i then whole z else null) = ap (λ y. row_at y i) same in
-      let there : i < length (numbers t bs) = omega (arith, ap tree_len same) in
-      get_or-map unsigned_abs (numbers t bs) i (pos 0) 0 there
-      ∙ size_named (is_valid_at x i) z (sym (ap (λ r. is_some (position_in r)) row) ∙ sym (counts_is i here) ∙ counted)
-      ∙ sym (ap (λ r. or_zero (position_in r)) row) ∙ sym (are.each i here).told
+code_unnamed : (bound : ℕ) (row : Row) → IsCode bound row → is_present row ≡ false → position_in row ≡ None
+code_unnamed bound null code absent = refl
+code_unnamed bound (whole z) code absent = absurd (false≢true (sym absent))
+code_unnamed bound (boolean b) code absent = absurd code
+code_unnamed bound (bytes bs) code absent = absurd code
+code_unnamed bound (text bs) code absent = absurd code
+code_unnamed bound (items rs) code absent = absurd code
+code_unnamed bound (record_of rs) code absent = absurd code
 
-  pub number_within : (t : PType) (bs : List ℕ) (x : Valid) → c ≡ primitive t bs x → (i : ℕ) → i < length mask → bool_at mask i ≡ true → slice_index (number_places t bs) i < bound
-  number_within t bs x same i inside counted = rw (number_counted t bs x same i inside counted) (place_within i (omega (arith, mask_len)) counted)
+-- a code that is marked, and a null
+pub row_marked : (c : Tree) (n : ℕ) (r : Bool) (old : List Bool) (z : ℤ) → IsCode (length old) (row_at c n) → number_in (row_at c n) ≡ Some z → AreNamed c n (length old) r old
+    → AreNamed c (n + 1) (length old) r (slice_set old (unsigned_abs z) r)
+row_marked c n r old z code number named =
+    let k : ℕ = unsigned_abs z in
+    let told = code_named (length old) (row_at c n) z code number in
+    AreNamed-more c n (n + 1) (length old) r old (slice_set old k r) (λ j. k ≡ j) (omega arith)
+    (λ j same. (n, omega arith, told.0 ∙ ap Some same))
+    (λ i j low high is. let here : i ≡ n = omega arith in some_same k j (sym told.0 ∙ subst (λ x. position_in (row_at c x) ≡ Some j) here is))
+    named (length-set old k r)
+    (λ j inside. elim (cases_eq j k) [
+      | inl here ↦ ((λ is. inr (sym here)), (λ either. get_or-set_at old k j r false here told.1))
+      | inr other ↦
+          let kept : bool_at (slice_set old k r) j ≡ bool_at old j = get_or-set_other old k j r false other in (
+            (λ is. inl (sym kept ∙ is)),
+            (λ (either : (bool_at old j ≡ r) ⊎ (k ≡ j)). elim either [ inl is ↦ kept ∙ is | inr same ↦ absurd (other (sym same)) ]),
+          )
+    ])
 
-  named_is : (j : ℕ) → IsNamed ps (bool_at mask) (length ps) j ↔ IsReferenced c j
-  named_is j = (
-    (λ (found : IsNamed ps (bool_at mask) (length ps) j).
-        let inside : found.0 < length ps = found.1 in
-        let here : found.0 < tree_len c = omega (arith, are.len) in
-        (found.0, here, some_is (position_in (row_at c found.0)) (slice_index ps found.0) j (sym (counts_is found.0 here) ∙ found.2) (are.each found.0 here).told found.3)),
-    (λ (found : IsReferenced c j).
-        let here : found.0 < tree_len c = found.1 in
-        (found.0, omega (arith, are.len), counts_is found.0 here ∙ ap is_some found.2, (are.each found.0 here).told ∙ ap or_zero found.2)),
-  )
+pub row_skipped : (c : Tree) (n : ℕ) (r : Bool) (old : List Bool) → IsCode (length old) (row_at c n) → is_present (row_at c n) ≡ false → AreNamed c n (length old) r old → AreNamed c (n + 1) (length old) r old
+row_skipped c n r old code absent named =
+    AreNamed-more c n (n + 1) (length old) r old old (λ j. ⊥) (omega arith)
+    (λ j none. absurd none)
+    (λ i j low high is.
+    let here : i ≡ n = omega arith in
+    let none : None ≡ Some j = sym (code_unnamed (length old) (row_at c n) code absent) ∙ subst (λ x. position_in (row_at c x) ≡ Some j) here is in
+    absurd (cc))
+    named refl
+    (λ j inside. ((λ is. inl is), (λ (either : (bool_at old j ≡ r) ⊎ ⊥). elim either [ inl is ↦ is | inr none ↦ absurd none ])))
 
-  pub marks_referenced : (t : Tree) (f r : Bool) (bits : List Bool) (count : ℕ) → t ≡ dictionary c v f → count ≡ tree_len v → AreNamed ps (bool_at mask) (length ps) count r bits → MarksReferenced t r bits
-  marks_referenced t f r bits count same count_is named =
-      let here : AreNamed ps (bool_at mask) (length ps) (tree_len v) r bits = subst (λ k. AreNamed ps (bool_at mask) (length ps) k r bits) count_is named in
-      subst (λ x. MarksReferenced x r bits) (sym same) (record {
-        len = here.len;
-        each = λ j inside. ((λ is. (named_is j).0 ((here.each j inside).0 is)), (λ found. (here.each j inside).1 ((named_is j).1 found)));
-      })
+-- ---- numbers under a mask
 
--- marks of plain numbers, read where they lie
-pub numbers_marked : (c v : Tree) (f : Bool) (w : Valid) (mask : List Bool) (n count : ℕ) → IsDictionary c v f → n ≡ tree_len c → count ≡ tree_len v → IsValidityOf c w → mask ≡ valid_mask w n
-    → (t : PType) (bs : List ℕ) (x : Valid) → c ≡ primitive t bs x → (whole_tree : Tree) (r : Bool) (bits : List Bool) → whole_tree ≡ dictionary c v f
-    → AreNamed (number_places t bs) (bool_at mask) (length mask) count r bits → MarksReferenced whole_tree r bits
-numbers_marked c v f w mask n count formed len count_is valid made t bs x same whole_tree r bits is named =
-    let are : ArePositions c (tree_len v) (code_places c) = code_positions c v f formed in
-    let long : length mask ≡ length (code_places c) = mask_len c v (code_places c) w mask n (tree_len v) len refl are valid made in
-    let told = AreNamed-places (number_places t bs) (code_places c) (bool_at mask) (length mask) count r bits (number_counted c v (code_places c) w mask n (tree_len v) len refl are valid made t bs x same) named in
-    marks_referenced c v (code_places c) w mask n (tree_len v) len refl are valid made whole_tree f r bits count is count_is
-    (subst (λ k. AreNamed (code_places c) (bool_at mask) k count r bits) long told)
+module _ (p : PType) (bs : List ℕ) (mask : List Bool) (bound i : ℕ) (code : IsCode bound (row_at (masked_numbers p bs mask) i)) where
+  number_code : bool_at mask i ≡ true → IsCode bound (whole (number_nth (numbers p bs) i))
+  number_code on = subst (λ b. IsCode bound (if b then whole (number_nth (numbers p bs) i) else null)) on code
 
-pub numbers_within : (c v : Tree) (f : Bool) (w : Valid) (mask : List Bool) (n count : ℕ) → IsDictionary c v f → n ≡ tree_len c → count ≡ tree_len v → IsValidityOf c w → mask ≡ valid_mask w n
-    → (t : PType) (bs : List ℕ) (x : Valid) → c ≡ primitive t bs x → (i : ℕ) → i < length mask → bool_at mask i ≡ true → slice_index (number_places t bs) i < count
-numbers_within c v f w mask n count formed len count_is valid made t bs x same i inside counted =
-    rw count_is (number_within c v (code_places c) w mask n (tree_len v) len refl (code_positions c v f formed) valid made t bs x same i inside counted)
+  number_row : (b : Bool) → bool_at mask i ≡ b → row_at (masked_numbers p bs mask) i ≡ (if b then whole (number_nth (numbers p bs) i) else null)
+  number_row b is = ap (λ b. if b then whole (number_nth (numbers p bs) i) else null) is
+
+  place_read : i < length (numbers p bs) → slice_index (number_places p bs) i ≡ unsigned_abs (number_nth (numbers p bs) i)
+  place_read there = get_or-map unsigned_abs (numbers p bs) i (pos 0) 0 there
+
+  -- a number that is valid names its place
+  pub place_named : i < length (numbers p bs) → bool_at mask i ≡ true → position_in (row_at (masked_numbers p bs mask) i) ≡ Some (slice_index (number_places p bs) i)
+  place_named there on =
+      ap position_in (number_row true on) ∙ (code_named bound (whole (number_nth (numbers p bs) i)) (number_nth (numbers p bs) i) (number_code on) refl).0 ∙ sym (ap Some (place_read there))
+
+  pub place_below : i < length (numbers p bs) → bool_at mask i ≡ true → slice_index (number_places p bs) i < bound
+  place_below there on =
+      let below = (code_named bound (whole (number_nth (numbers p bs) i)) (number_nth (numbers p bs) i) (number_code on) refl).1 in
+      rw (place_read there) below
+
+-- the others name none
+none_named : (p : PType) (bs : List ℕ) (mask : List Bool) (i j : ℕ) → bool_at mask i ≡ false → position_in (row_at (masked_numbers p bs mask) i) ≡ Some j → ⊥
+none_named p bs mask i j off named =
+    let row : row_at (masked_numbers p bs mask) i ≡ null = ap (λ b. if b then whole (number_nth (numbers p bs) i) else null) off in
+    let none : None ≡ Some j = sym (ap position_in row) ∙ named in
+    absurd (cc)
+
+-- a bit that is set lies among those that a word holds, and its row is valid
+pub set_inside : (word held : ℕ) → ((i : ℕ) → held ≤ i → bit_at word i ≡ 0) → (i : ℕ) → bit_at word i ≡ 1 → i < held
+set_inside word held none i set = elim (cases_lt i held) [ inl inside ↦ inside | inr past ↦ absurd (omega (arith, none i past, set)) ]
+
+pub set_on : (word held n : ℕ) (mask : List Bool) → ((i : ℕ) → i < held → (bit_at word i == 1) ≡ bool_at mask (n + i)) → (i : ℕ) → i < held → bit_at word i ≡ 1 → bool_at mask (n + i) ≡ true
+set_on word held n mask bits i inside set = sym (bits i inside) ∙ (Decides-eqb (bit_at word i) 1).1 set
+
+module _ (p : PType) (bs : List ℕ) (mask : List Bool) (n m count : ℕ) (r : Bool) (old new : List Bool) (le : n ≤ m) (within : m ≤ length mask) (long : length mask ≡ length (numbers p bs))
+    (codes : (i : ℕ) → i < length mask → IsCode count (row_at (masked_numbers p bs mask) i)) (named : AreNamed (masked_numbers p bs mask) n count r old) where
+  -- a run of rows that are all valid
+  pub named_run : ((i : ℕ) → n ≤ i → i < m → bool_at mask i ≡ true) → Marks (number_places p bs) n m r old new → AreNamed (masked_numbers p bs mask) m count r new
+  named_run on marks =
+      AreNamed-more (masked_numbers p bs mask) n m count r old new (NamesAmong (number_places p bs) n m) le
+      (λ j (found : NamesAmong (number_places p bs) n m j).
+      let low : n ≤ found.0 = found.1 in
+      let high : found.0 < m = found.2 in
+      (found.0, high, place_named p bs mask count found.0 (codes found.0 (omega arith)) (omega arith) (on found.0 low high) ∙ ap Some found.3))
+      (λ i j low high is. (i, low, high, some_same (slice_index (number_places p bs) i) j (sym (place_named p bs mask count i (codes i (omega arith)) (omega arith) (on i low high)) ∙ is)))
+      named marks.len marks.each
+
+  -- the rows whose bits a word holds
+  pub named_word : (word held : ℕ) → n + held ≡ m → ((i : ℕ) → i < held → (bit_at word i == 1) ≡ bool_at mask (n + i)) → ((i : ℕ) → held ≤ i → bit_at word i ≡ 0)
+      → MarksSet (number_places p bs) n word r old new → AreNamed (masked_numbers p bs mask) m count r new
+  named_word word held size bits none marks =
+      AreNamed-more (masked_numbers p bs mask) n m count r old new (NamesSet (number_places p bs) n word) le
+      (λ j (found : NamesSet (number_places p bs) n word j).
+      let set : bit_at word found.0 ≡ 1 = found.1 in
+      let inside : found.0 < held = set_inside word held none found.0 set in
+      let on : bool_at mask (n + found.0) ≡ true = set_on word held n mask bits found.0 inside set in
+      (n + found.0, omega arith, place_named p bs mask count (n + found.0) (codes (n + found.0) (omega arith)) (omega arith) on ∙ ap Some found.2))
+      (λ i j low high is.
+      let k : ℕ = i - n in
+      let at : n + k ≡ i = omega arith in
+      let inside : k < held = omega arith in
+      let seen : (bit_at word k == 1) ≡ bool_at mask i = subst (λ x. (bit_at word k == 1) ≡ bool_at mask x) at (bits k inside) in
+      elim (cases_Bool (bool_at mask i)) [
+        | inl on ↦
+            let set : bit_at word k ≡ 1 = (Decides-eqb (bit_at word k) 1).0 (seen ∙ on) in
+            let place : slice_index (number_places p bs) i ≡ j = some_same (slice_index (number_places p bs) i) j (sym (place_named p bs mask count i (codes i (omega arith)) (omega arith) on) ∙ is) in
+            (k, set, ap (slice_index (number_places p bs)) at ∙ place)
+        | inr off ↦ absurd (none_named p bs mask i j off is)
+      ])
+      named marks.len marks.each
+
+-- ---- the marks of a dictionary
+
+pub marks_referenced : (t c v : Tree) (f r : Bool) (bits : List Bool) (count : ℕ) → t ≡ dictionary c v f → count ≡ tree_len v → AreNamed c (tree_len c) count r bits → MarksReferenced t r bits
+marks_referenced t c v f r bits count same count_is named =
+    let here : AreNamed c (tree_len c) (tree_len v) r bits = subst (λ k. AreNamed c (tree_len c) k r bits) count_is named in
+    subst (λ x. MarksReferenced x r bits) (sym same) (record { len = here.len; each = here.each })
 
 -- no boolean is the other one
 pub not_marked : (r : Bool) (n : ℕ) (bits : List Bool) (j : ℕ) → bits ≡ replicate n (not r) → j < length bits → bool_at bits j ≢ r
@@ -221,9 +246,9 @@ all_referenced_is t bits count len marks count_is len_is = (
 
 -- ---- flags
 
-pub flag_holds : (t c v : Tree) (f : Bool) → t ≡ dictionary c v f → IsDictionary c v f → IsTrue (referenced_flag t) → ReferencesAll (codes_in t) (values_in t)
-flag_holds t c v f same formed set =
-    subst (λ x. ReferencesAll (codes_in x) (values_in x)) (sym same) (formed.referenced (subst (λ x. IsTrue (referenced_flag x)) same set))
+pub flag_holds : (t c v : Tree) (f : Bool) → t ≡ dictionary c v f → (IsTrue f → ReferencesAll c v) → IsTrue (referenced_flag t) → ReferencesAll (codes_in t) (values_in t)
+flag_holds t c v f same holds set =
+    subst (λ x. ReferencesAll (codes_in x) (values_in x)) (sym same) (holds (subst (λ x. IsTrue (referenced_flag x)) same set))
 
 -- the same codes and values with another flag, which holds
 pub flag_set : (t c v : Tree) (f g : Bool) (c' v' : Tree) → t ≡ dictionary c v f → IsDictionary c v f → c' ≡ c → v' ≡ v → (IsTrue g → ReferencesAll (codes_in t) (values_in t)) → IsDictionary c' v' g

@@ -1,13 +1,15 @@
 -- Where a scan of codes ends, and what the marks of a block say of the values.
-use Rattle.std.proofs.Common.{ℕ, zero, suc, ◌+◌, ◌-◌, ◌<◌, ◌≤◌, ◌%◌, ◌≡◌, ◌↔◌, Bool, true, false, cond, List, length, take, drop, replicate, length-take, inl, inr, refl, sym, ◌∙◌, ap, subst, add-one, arith}
-use Rattle.std.specs.Prelude.{◌≢◌, count_by, slice_index, slice_set}
-use Rattle.std.proofs.lemmas.Bool.{false≢true, cases_lt, cases_Bool}
-use Rattle.std.proofs.lemmas.List.{length-replicate, length-set, get_or-replicate, get_or-take, get_or-drop}
-use Rattle.std.proofs.lemmas.List.Sums.{count_by_more_yes, count_by_more_no, sum_by-set, sum_by-take-le}
+use Rattle.std.proofs.Common.{ℕ, zero, suc, ◌+◌, ◌-◌, ◌<◌, ◌≤◌, ◌%◌, ◌≡◌, Bool, true, false, not, List, [], ◌∷◌, length, take, drop, length-take, length-drop, inl, inr, refl, sym, ◌∙◌, ap, subst, arith}
+use Rattle.std.specs.Bool.{beq}
+use Rattle.std.specs.List.{list_any}
+use Rattle.std.proofs.lemmas.Bool.{false≢true, cases_lt}
+use Rattle.std.proofs.lemmas.List.{get_or-take, get_or-drop}
 use Rattle.vx_base.specs.Bits.{bool_at}
-use Rattle.vx_leaves.specs.Dictionaries.{IsNamed, AreNamed}
-use Rattle.vx_leaves.specs.Scan.{MayEnd, IsScanEnd, NamesAll}
-use Rattle.vx_leaves.proofs.NamedValues.{AreNamed-more, count_all}
+use Rattle.vx_base.specs.Rows.{position_in}
+use Rattle.vx_tree.specs.Tree.{Tree}
+use Rattle.vx_tree.specs.Meaning.{tree_len, row_at}
+use Rattle.vx_leaves.specs.Dictionaries.{IsNamedBefore, AreNamed}
+use Rattle.vx_leaves.specs.Scan.{MayEnd, IsScanEnd, NameAllBefore}
 
 -- ---- the least place at which a scan may end
 
@@ -31,100 +33,88 @@ module _ (len : ℕ) (Found : ℕ → Type 0) (start : ℕ) (whole : start % 204
     ];
   }
 
--- an end is the same where the same is found
-pub IsScanEnd-same : (len len' : ℕ) (Found Found' : ℕ → Type 0) (end : ℕ) → len ≡ len' → ((n : ℕ) → n < len → Found n ↔ Found' n) → IsScanEnd len Found end → IsScanEnd len' Found' end
-IsScanEnd-same len len' Found Found' end long same ends = subst (λ m. IsScanEnd m Found' end) long (record {
-  there = elim ends.there [ inl last ↦ inl last | inr may ↦ inr (may.0, may.1, may.2, (same end may.2).0 may.3) ];
-  least = λ n before may. ends.least n before (may.0, may.1, may.2, (same n may.2).1 may.3);
-})
-
 -- ---- marks
 
--- what is named stays named
-named_later : (ps : List ℕ) (counts : ℕ → Bool) (n m j : ℕ) → n ≤ m → IsNamed ps counts n j → IsNamed ps counts m j
-named_later ps counts n m j upto found = let inside : found.0 < n = found.1 in (found.0, omega arith, found.2, found.3)
-
-pub AreNamed-none : (ps : List ℕ) (counts : ℕ → Bool) (r : Bool) (bits : List Bool) → ((j : ℕ) → j < length bits → bool_at bits j ≢ r) → AreNamed ps counts 0 (length bits) r bits
-AreNamed-none ps counts r bits none = record {
-  len = refl;
-  each = λ j inside. ((λ is. absurd (none j inside is)), (λ (found : IsNamed ps counts 0 j). let inside : found.0 < 0 = found.1 in absurd (omega arith)));
-}
-
-module _ (ps : List ℕ) (counts : ℕ → Bool) (n count : ℕ) (r : Bool) (bits : List Bool) (named : AreNamed ps counts n count r bits) where
+module _ (c : Tree) (n count : ℕ) (r : Bool) (bits : List Bool) (named : AreNamed c n count r bits) where
   -- a mark stays
-  pub still_marked : (m : ℕ) (new : List Bool) (j : ℕ) → n ≤ m → AreNamed ps counts m count r new → j < count → bool_at bits j ≡ r → bool_at new j ≡ r
-  still_marked m new j upto after inside is = (after.each j inside).1 (named_later ps counts n m j upto ((named.each j inside).0 is))
+  pub still_marked : (m : ℕ) (new : List Bool) (j : ℕ) → n ≤ m → AreNamed c m count r new → j < count → bool_at bits j ≡ r → bool_at new j ≡ r
+  still_marked m new j upto after inside is =
+      let found : IsNamedBefore c n j = (named.each j inside).0 is in
+      let before : found.0 < n = found.1 in
+      (after.each j inside).1 (found.0, omega arith, found.2)
 
-  pub names_all : ((j : ℕ) → j < length bits → bool_at bits j ≡ r) → NamesAll ps counts count n
+  pub names_all : ((j : ℕ) → j < length bits → bool_at bits j ≡ r) → NameAllBefore c count n
   names_all all j inside = (named.each j inside).0 (all j (omega (arith, named.len)))
 
-  pub all_by_names : NamesAll ps counts count n → (j : ℕ) → j < length bits → bool_at bits j ≡ r
+  pub all_by_names : NameAllBefore c count n → (j : ℕ) → j < length bits → bool_at bits j ≡ r
   all_by_names names j inside = let here : j < count = omega (arith, named.len) in (named.each j here).1 (names j here)
 
--- ---- fewer valid codes than values do not name them all
+-- ---- one row, however often
 
--- the marks that the first n codes make
-marks : List ℕ → List Bool → ℕ → ℕ → List Bool
-marks ps mask count zero = replicate count false
-marks ps mask count (suc n) = cond (bool_at mask n) (slice_set (marks ps mask count n) (slice_index ps n) true) (marks ps mask count n)
+module _ (c : Tree) (count : ℕ) (alike : (i : ℕ) → row_at c i ≡ row_at c 0) where
+  first_names : (n : ℕ) → NameAllBefore c count n → NameAllBefore c count 1
+  first_names n names j inside = let found : IsNamedBefore c n j = names j inside in (0, omega arith, ap position_in (sym (alike found.0)) ∙ found.2)
 
-none_true : (count : ℕ) → count_by (λ b. b) (replicate count false) ≡ 0
-none_true zero = refl
-none_true (suc count) = none_true count
+  -- where the first row names all, a block is enough
+  pub block_ends : 2048 < tree_len c → NameAllBefore c count 1 → IsScanEnd (tree_len c) (NameAllBefore c count) 2048
+  block_ends more names = record {
+    there = inr (omega arith, omega arith, more, λ j inside. let found : IsNamedBefore c 1 j = names j inside in let first : found.0 < 1 = found.1 in (found.0, omega arith, found.2));
+    least = λ n before may. let some : 0 < n = may.0 in let whole : n % 2048 ≡ 0 = may.1 in absurd (omega arith);
+  }
 
-module _ (ps : List ℕ) (mask : List Bool) (count : ℕ) where
-  marks_length : (n : ℕ) → length (marks ps mask count n) ≡ count
-  unfolding marks
-  marks_length zero = length-replicate count false
-  marks_length (suc n) = elim (cases_Bool (bool_at mask n)) [
-    | inl on ↦ rw on (length-set (marks ps mask count n) (slice_index ps n) true ∙ marks_length n)
-    | inr off ↦ rw off (marks_length n)
-  ]
+  -- else it ends with the rows
+  pub rows_end : (2048 < tree_len c → ¬ (NameAllBefore c count 1)) → IsScanEnd (tree_len c) (NameAllBefore c count) (tree_len c)
+  rows_end missing = record {
+    there = inl refl;
+    least = λ n before may.
+        let some : 0 < n = may.0 in
+        let whole : n % 2048 ≡ 0 = may.1 in
+        let within : n < tree_len c = may.2 in
+        missing (omega arith) (first_names n may.3);
+  }
 
-  module _ (within : (i : ℕ) → i < length mask → bool_at mask i ≡ true → slice_index ps i < count) where
-    marks_named : (n : ℕ) → n ≤ length mask → AreNamed ps (bool_at mask) n (length (marks ps mask count n)) true (marks ps mask count n)
-    unfolding marks
-    marks_named zero upto = AreNamed-none ps (bool_at mask) true (replicate count false) (λ j inside is. let off : bool_at (replicate count false) j ≡ false = get_or-replicate count j false false (omega (arith, length-replicate count false)) in false≢true (sym off ∙ is))
-    marks_named (suc n) upto =
-        let old = marks ps mask count n in
-        let new = cond (bool_at mask n) (slice_set old (slice_index ps n) true) old in
-        subst (λ k. AreNamed ps (bool_at mask) k (length new) true new) (add-one n)
-        (AreNamed-more ps (bool_at mask) n true old (marks_named n (omega arith)) (λ counted. rw (marks_length n) (within n (omega arith) counted)) new refl)
+-- ---- marks that are looked at together
 
-    few_step : (n : ℕ) (on : Bool) → bool_at mask n ≡ on → n < length mask → count_by (λ b. b) (marks ps mask count n) ≤ count_by (λ b. b) (take n mask)
-        → count_by (λ b. b) (cond on (slice_set (marks ps mask count n) (slice_index ps n) true) (marks ps mask count n)) ≤ count_by (λ b. b) (take (n + 1) mask)
-    few_step n true on inside few =
-        let place : slice_index ps n < length (marks ps mask count n) = rw (marks_length n) (within n inside on) in
-        omega (arith, few, count_by_more_yes (λ b. b) mask n false inside on, sum_by-set (λ b. cond b 1 0) (marks ps mask count n) (slice_index ps n) true false place)
-    few_step n false off inside few = omega (arith, few, count_by_more_no (λ b. b) mask n false inside off)
+none_other : (r : Bool) (bs : List Bool) → list_any (λ y. beq y (not r)) bs ≡ false → (j : ℕ) → j < length bs → bool_at bs j ≡ r
+none_other r [] none j inside = absurd (omega arith)
+none_other true (true ∷ bs) none zero inside = refl
+none_other true (true ∷ bs) none (suc j) inside = none_other true bs none j (omega arith)
+none_other true (false ∷ bs) none j inside = absurd (false≢true (sym none))
+none_other false (false ∷ bs) none zero inside = refl
+none_other false (false ∷ bs) none (suc j) inside = none_other false bs none j (omega arith)
+none_other false (true ∷ bs) none j inside = absurd (false≢true (sym none))
 
-    few_marks : (n : ℕ) → n ≤ length mask → count_by (λ b. b) (marks ps mask count n) ≤ count_by (λ b. b) (take n mask)
-    unfolding marks
-    few_marks zero upto = omega (arith, none_true count)
-    few_marks (suc n) upto =
-        subst (λ k. count_by (λ b. b) (cond (bool_at mask n) (slice_set (marks ps mask count n) (slice_index ps n) true) (marks ps mask count n)) ≤ count_by (λ b. b) (take k mask)) (add-one n)
-        (few_step n (bool_at mask n) refl (omega arith) (few_marks n (omega arith)))
-
-    pub too_few : (n : ℕ) → n ≤ length mask → count_by (λ b. b) mask < count → ¬ (NamesAll ps (bool_at mask) count n)
-    too_few n upto few names =
-        let named : AreNamed ps (bool_at mask) n count true (marks ps mask count n) = subst (λ k. AreNamed ps (bool_at mask) n k true (marks ps mask count n)) (marks_length n) (marks_named n upto) in
-        let all : count_by (λ b. b) (marks ps mask count n) ≡ length (marks ps mask count n) = count_all (marks ps mask count n) (all_by_names ps (bool_at mask) n count true (marks ps mask count n) named names) in
-        omega (arith, all, marks_length n, few_marks n upto, sum_by-take-le (λ b. cond b 1 0) mask n)
+other_there : (r : Bool) (bs : List Bool) → list_any (λ y. beq y (not r)) bs ≡ true → ((j : ℕ) → j < length bs → bool_at bs j ≡ r) → ⊥
+other_there r [] some all = absurd (false≢true some)
+other_there true (true ∷ bs) some all = other_there true bs some (λ j inside. all (suc j) (omega arith))
+other_there true (false ∷ bs) some all = false≢true (all 0 (omega arith))
+other_there false (false ∷ bs) some all = other_there false bs some (λ j inside. all (suc j) (omega arith))
+other_there false (true ∷ bs) some all = false≢true (sym (all 0 (omega arith)))
 
 -- ---- a cursor over marks
 
+-- a place of a step
+step_read : (marks : List Bool) (cursor m n : ℕ) (step : List Bool) → step ≡ take m (take n (drop cursor marks)) → (k : ℕ) → k < length step → (bool_at step k ≡ bool_at marks (cursor + k)) × (cursor + k < length marks)
+step_read marks cursor m n step made k within =
+    let first : k < m = omega (arith, ap length made, length-take m (take n (drop cursor marks))) in
+    let second : k < n = omega (arith, ap length made, length-take m (take n (drop cursor marks)), length-take n (drop cursor marks)) in (
+      ap (λ bs. bool_at bs k) made ∙ get_or-take m (take n (drop cursor marks)) k false first ∙ get_or-take n (drop cursor marks) k false second ∙ get_or-drop cursor marks k false,
+      omega (arith, ap length made, length-take m (take n (drop cursor marks)), length-take n (drop cursor marks), length-drop cursor marks),
+    )
+
 -- the places of a step that is all marked
-pub step_marked : (marks : List Bool) (cursor m n : ℕ) (r : Bool) (step : List Bool) → step ≡ take m (take n (drop cursor marks)) → ((j : ℕ) → j < cursor → bool_at marks j ≡ r) → ((j : ℕ) → j < length step → bool_at step j ≡ r)
+pub step_marked : (marks : List Bool) (cursor m n : ℕ) (r : Bool) (step : List Bool) → step ≡ take m (take n (drop cursor marks)) → ((j : ℕ) → j < cursor → bool_at marks j ≡ r) → list_any (λ y. beq y (not r)) step ≡ false
     → (j : ℕ) → j < cursor + length step → bool_at marks j ≡ r
-step_marked marks cursor m n r step made before here j inside = elim (cases_lt j cursor) [
+step_marked marks cursor m n r step made before none j inside = elim (cases_lt j cursor) [
   | inl less ↦ before j less
   | inr after ↦
       let k : ℕ = j - cursor in
       let at : cursor + k ≡ j = omega arith in
       let within : k < length step = omega arith in
-      let first : k < m = omega (arith, ap length made, length-take m (take n (drop cursor marks))) in
-      let second : k < n = omega (arith, ap length made, length-take m (take n (drop cursor marks)), length-take n (drop cursor marks)) in
-      let read : bool_at step k ≡ bool_at marks (cursor + k) =
-      ap (λ bs. bool_at bs k) made ∙ get_or-take m (take n (drop cursor marks)) k false first ∙ get_or-take n (drop cursor marks) k false second ∙ get_or-drop cursor marks k false in
-      ap (bool_at marks) (sym at) ∙ sym read ∙ here k within
+      ap (bool_at marks) (sym at) ∙ sym (step_read marks cursor m n step made k within).0 ∙ none_other r step none k within
 ]
+
+-- a step that is not
+pub step_unmarked : (marks : List Bool) (cursor m n : ℕ) (r : Bool) (step : List Bool) → step ≡ take m (take n (drop cursor marks)) → list_any (λ y. beq y (not r)) step ≡ true → ((j : ℕ) → j < length marks → bool_at marks j ≡ r) → ⊥
+step_unmarked marks cursor m n r step made some all =
+    other_there r step some (λ k within. let read = step_read marks cursor m n step made k within in read.0 ∙ all (cursor + k) read.1)

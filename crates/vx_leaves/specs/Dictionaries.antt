@@ -1,6 +1,7 @@
 -- Dictionaries: their parts, the fault of these, and which values are referenced.
-use Rattle.std.specs.Prelude.{◌≡◌, ◌⊎◌, ◌≤◌, ◌<◌, ◌↔◌, ℕ, Bool, true, false, List, codes, Option, Some, length, map, unsigned_abs}
+use Rattle.std.specs.Prelude.{◌≡◌, ◌⊎◌, ◌≤◌, ◌<◌, ◌+◌, ◌↔◌, ℕ, Bool, true, false, List, codes, Option, Some, length, map, unsigned_abs}
 use Rattle.std.specs.Prelude.{slice_index, if◌then◌else◌}
+use Rattle.std.specs.Int.{bit_at}
 use Rattle.vx_base.specs.Bits.{bool_at}
 use Rattle.vx_base.specs.Integers.{numbers}
 use Rattle.vx_base.specs.Kinds.{is_integers}
@@ -39,14 +40,14 @@ pub record MarksReferenced (t : Tree) (r : Bool) (bits : List Bool) : Type 0 whe
   pub len : length bits ≡ tree_len (values_in t)
   pub each : (j : ℕ) → j < tree_len (values_in t) → (bool_at bits j ≡ r) ↔ IsReferenced (codes_in t) j
 
--- one of the first n codes that count is j
-abbrev pub IsNamed : List ℕ → (ℕ → Bool) → ℕ → ℕ → Type 0
-IsNamed ps counts n j = (i : ℕ) × (i < n) × (counts i ≡ true) × (slice_index ps i ≡ j)
+-- one of the first n codes is j
+abbrev pub IsNamedBefore : Tree → ℕ → ℕ → Type 0
+IsNamedBefore c n j = (i : ℕ) × (i < n) × (position_in (row_at c i) ≡ Some j)
 
--- a boolean is r exactly where one of the first n codes that count names it
-pub record AreNamed (ps : List ℕ) (counts : ℕ → Bool) (n count : ℕ) (r : Bool) (bits : List Bool) : Type 0 where
+-- a boolean is r exactly where one of the first n codes names it
+pub record AreNamed (c : Tree) (n count : ℕ) (r : Bool) (bits : List Bool) : Type 0 where
   pub len : length bits ≡ count
-  pub each : (j : ℕ) → j < count → (bool_at bits j ≡ r) ↔ IsNamed ps counts n j
+  pub each : (j : ℕ) → j < count → (bool_at bits j ≡ r) ↔ IsNamedBefore c n j
 
 -- some of the codes from first up to last is j
 abbrev pub NamesAmong : List ℕ → ℕ → ℕ → ℕ → Type 0
@@ -56,6 +57,15 @@ NamesAmong ps first last j = (i : ℕ) × (first ≤ i) × (i < last) × (slice_
 pub record Marks (ps : List ℕ) (first last : ℕ) (r : Bool) (old new : List Bool) : Type 0 where
   pub len : length new ≡ length old
   pub each : (j : ℕ) → j < length old → (bool_at new j ≡ r) ↔ ((bool_at old j ≡ r) ⊎ NamesAmong ps first last j)
+
+-- some of the codes from first on whose bit is set in a word is j
+abbrev pub NamesSet : List ℕ → ℕ → ℕ → ℕ → Type 0
+NamesSet ps first word j = (i : ℕ) × (bit_at word i ≡ 1) × (slice_index ps (first + i) ≡ j)
+
+-- the codes from first on whose bit is set in a word mark what they name
+pub record MarksSet (ps : List ℕ) (first word : ℕ) (r : Bool) (old new : List Bool) : Type 0 where
+  pub len : length new ≡ length old
+  pub each : (j : ℕ) → j < length old → (bool_at new j ≡ r) ↔ ((bool_at old j ≡ r) ⊎ NamesSet ps first word j)
 
 -- the places that the numbers of bytes name, where they are not negative
 abbrev pub number_places : PType → List ℕ → List ℕ

@@ -1,5 +1,6 @@
 pub mod Dictionaries
 pub mod Scan
+pub mod ValidRows
 pub mod Leaves
 pub mod Narrow
 pub mod Spread

@@ -1,9 +1,9 @@
 -- Where a scan of a dictionary's codes ends, which reads them in blocks of 2,048.
-use Rattle.std.specs.Prelude.{◌≡◌, ◌⊎◌, ◌<◌, ◌%◌, ℕ, Bool, List, Some}
+use Rattle.std.specs.Prelude.{◌≡◌, ◌⊎◌, ◌<◌, ◌%◌, ℕ, Some}
 use Rattle.vx_base.specs.Rows.{position_in}
 use Rattle.vx_tree.specs.Tree.{Tree}
 use Rattle.vx_tree.specs.Meaning.{tree_len, row_at}
-use Rattle.vx_leaves.specs.Dictionaries.{codes_in, values_in, IsNamed}
+use Rattle.vx_leaves.specs.Dictionaries.{codes_in, values_in}
 
 -- a scan of len codes may end before code n: after whole blocks, not at the last code, and all is found by then
 abbrev pub MayEnd : ℕ → (ℕ → Type 0) → ℕ → Type 0
@@ -25,7 +25,3 @@ ReferencesAllBefore t n = NameAllBefore (codes_in t) (tree_len (values_in t)) n
 -- the end of the scan of a dictionary
 abbrev pub EndsScan : Tree → ℕ → Type 0
 EndsScan t end = IsScanEnd (tree_len (codes_in t)) (ReferencesAllBefore t) end
-
--- each place below count is named by one of the first n codes that count
-abbrev pub NamesAll : List ℕ → (ℕ → Bool) → ℕ → ℕ → Type 0
-NamesAll ps counts count n = (j : ℕ) → j < count → IsNamed ps counts n j

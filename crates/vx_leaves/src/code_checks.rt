@@ -1,20 +1,23 @@
 // Whether codes are positions of values: they are read where they lie, and none is written.
 
-ghost use Rattle.std.specs.Prelude.{◌≡◌, ◌<◌, ◌≤◌, ◌-◌, ◌^◌, ◌≤ℤ◌, pos, true, length, nat_le, if◌then◌else◌};
+ghost use Rattle.std.specs.Prelude.{◌≡◌, ◌<◌, ◌≤◌, ◌+◌, ◌-◌, ◌^◌, ◌≤ℤ◌, ℕ, pos, true, length, None, IsTrue};
+ghost use Rattle.std.specs.Int.{bit_at};
 ghost use Rattle.vx_base.specs.Integers.{numbers, number_nth};
 ghost use Rattle.vx_base.specs.Kinds.{is_integers};
 ghost use Rattle.vx_base.specs.Refusals.{Refuses, Tests, first_fault};
-ghost use Rattle.vx_base.specs.Rows.{null, whole};
+ghost use Rattle.vx_base.specs.Rows.{whole};
 ghost use Rattle.vx_tree.specs.Faults.{index_fault, indices_fault};
 ghost use Rattle.vx_tree.specs.Meaning.{tree_len, kind_of, row_at};
 ghost use Rattle.vx_tree.specs.Operations.{masked_numbers};
 
-use crate::narrow::typed_span;
+use crate::valid_rows::ValidRows;
 use std::alloc::Global;
-use vx_base::{Mask, NativePType, PType, VortexError, call_native, int_at};
+use std::ops::Range;
+use vx_base::{NativePType, PType, VortexError, call_native, int_at};
 use vx_tree::{ArrayRef, Layout};
 
-// Refuses the first valid code that is no position below `len`. Of a constant one row is read.
+// Refuses the first valid code that is no position below `len`. Numbers are tested a word of rows at
+// a time up to the first word with a fault. Of a constant one row is read.
 pub(crate) fn check_codes(alloc: Global, codes: &ArrayRef, len: usize) -> Result<(), VortexError>
     requires { is_integers (kind_of codes.now) ≡ true }
     ensures { Refuses result (indices_fault len codes.now) }
@@ -25,21 +28,24 @@ pub(crate) fn check_codes(alloc: Global, codes: &ArrayRef, len: usize) -> Result
             bytes,
             validity,
         } => {
-            let mask = validity.execute_mask(alloc, codes.len())?;
-            check_numbers(*ptype, bytes.as_slice(), &mask, len)
+            let valid = ValidRows::new(alloc, validity, codes.len())?;
+            let faultless = faultless_rows(*ptype, bytes.as_slice(), &valid, len);
+            check_rows(codes, faultless..codes.len(), len)
         }
-        Layout::Constant { .. } => check_rows(codes, codes.len().min(1), len),
-        _ => check_rows(codes, codes.len(), len),
+        Layout::Constant { .. } => check_rows(codes, 0..codes.len().min(1), len),
+        _ => check_rows(codes, 0..codes.len(), len),
     }
 }
 
-// Tests the first `count` rows, one after another.
-fn check_rows(codes: &ArrayRef, count: usize, len: usize) -> Result<(), VortexError>
+// Tests rows, one after another, where none before them has a fault.
+fn check_rows(codes: &ArrayRef, rows: Range<usize>, len: usize) -> Result<(), VortexError>
     requires ints { is_integers (kind_of codes.now) ≡ true }
-    requires within { count ≤ tree_len codes.now }
-    ensures { Tests result (first_fault (λ i. index_fault len i (row_at codes.now i)) count) }
+    requires order { rows.start ≤ rows.end }
+    requires within { rows.end ≤ tree_len codes.now }
+    requires before { (i : ℕ) → i < rows.start → index_fault len i (row_at codes.now i) ≡ None }
+    ensures { Tests result (first_fault (λ i. index_fault len i (row_at codes.now i)) rows.end) }
 {
-    for row in 0..count {
+    for row in rows.start..rows.end {
         check_row(codes, row, len)?;
     }
     Ok(())
@@ -58,7 +64,6 @@ fn check_row(codes: &ArrayRef, row: usize, len: usize) -> Result<(), VortexError
 }
 
 // Whether a number is a position below `len`.
-#[inline]
 fn check_number(number: i128, row: usize, len: usize) -> Result<(), VortexError>
     requires { number ≤ℤ pos (2 ^ 64 - 1) }
     ensures { Tests result (index_fault len row (whole number)) }
@@ -73,62 +78,80 @@ fn check_number(number: i128, row: usize, len: usize) -> Result<(), VortexError>
     Ok(())
 }
 
-// Whether the numbers of these bytes are positions below `len`, save those at which the mask is
-// false.
-fn check_numbers(ptype: PType, bytes: &[u8], mask: &Mask, len: usize) -> Result<(), VortexError>
-    requires { length mask.now ≡ length (numbers ptype bytes.now) }
-    ensures { Tests result (indices_fault len (masked_numbers ptype bytes.now mask.now)) }
+// A row before which no number that is valid has a fault: where one has, a row shortly before it.
+fn faultless_rows(ptype: PType, bytes: &[u8], valid: &ValidRows, len: usize) -> usize
+    requires { length valid.now ≡ length (numbers ptype bytes.now) }
+    ensures within { result ≤ length valid.now }
+    ensures none { (i : ℕ) → i < result
+        → index_fault len i (row_at (masked_numbers ptype bytes.now valid.now) i) ≡ None }
 {
-    call_native!(ptype, check_typed(bytes, mask, len))
+    call_native!(ptype, typed_faultless_rows(bytes, valid, len))
 }
 
-// Whether numbers of one type are positions below `len`, save those at which the mask is false. The
-// first that is none is looked for where the least or the greatest of them is none.
-fn check_typed<T: NativePType>(bytes: &[u8], mask: &Mask, len: usize) -> Result<(), VortexError>
-    requires { length mask.now ≡ length (numbers T.PTYPE bytes.now) }
-    ensures { Tests result (indices_fault len (masked_numbers T.PTYPE bytes.now mask.now)) }
+// Such a row, where the numbers are of one type: that of the first word with a fault, or the end.
+fn typed_faultless_rows<T: NativePType>(bytes: &[u8], valid: &ValidRows, len: usize) -> usize
+    requires { length valid.now ≡ length (numbers T.PTYPE bytes.now) }
+    ensures within { result ≤ length valid.now }
+    ensures none { (i : ℕ) → i < result
+        → index_fault len i (row_at (masked_numbers T.PTYPE bytes.now valid.now) i) ≡ None }
 {
-    let (least, greatest) = typed_span::<T>(bytes, mask);
-    if len > 0 && least >= 0 && greatest < len as i128 {
-        return Ok(());
+    let count = valid.len();
+    let mut row = 0;
+    while row < count {
+        let (word, held) = valid.word(row, count);
+        if !are_positions::<T>(bytes, row..row + held, word, len) {
+            return row;
+        }
+        row += held;
     }
-    check_each::<T>(bytes, mask, len)
+    count
 }
 
-// Tests the numbers of one run after another: a null row is no fault.
-fn check_each<T: NativePType>(bytes: &[u8], mask: &Mask, len: usize) -> Result<(), VortexError>
-    requires { length mask.now ≡ length (numbers T.PTYPE bytes.now) }
-    ensures { Tests result (indices_fault len (masked_numbers T.PTYPE bytes.now mask.now)) }
+// Whether each number is a position below `len` whose row has its bit set in a word: at once where
+// none has, or where the numbers of all rows are positions.
+fn are_positions<T: NativePType>(bytes: &[u8], rows: Range<usize>, word: u64, len: usize) -> bool
+    requires order { rows.start ≤ rows.end }
+    requires within { rows.end ≤ length (numbers T.PTYPE bytes.now) }
+    requires none { (i : ℕ) → rows.end ≤ rows.start + i → bit_at word i ≡ 0 }
+    ensures { IsTrue result → (i : ℕ) → bit_at word i ≡ 1
+        → index_fault len (rows.start + i) (whole (number_nth (numbers T.PTYPE bytes.now) (rows.start + i))) ≡ None }
 {
-    for run in mask.runs() {
-        let (start, end) = *run;
-        check_run::<T>(bytes, (start, end), len)?;
+    let start = rows.start;
+    if word == 0 || are_all_positions::<T>(bytes, rows, len) {
+        return true;
     }
-    Ok(())
+    let mut rest = word;
+    while rest != 0 {
+        let row = start + rest.trailing_zeros() as usize;
+        if !is_position(int_at(bytes, T::PTYPE, row), len) {
+            return false;
+        }
+        rest &= rest - 1;
+    }
+    true
 }
 
-// Tests one number of a run after another.
-fn check_run<T: NativePType>(
-    bytes: &[u8],
-    run: (usize, usize),
-    len: usize,
-) -> Result<(), VortexError>
-    requires order { run.0 ≤ run.1 }
-    requires here { run.1 ≤ length (numbers T.PTYPE bytes.now) }
-    ensures { Tests result (first_fault (λ i. index_fault len i
-        (if nat_le run.0 i then whole (number_nth (numbers T.PTYPE bytes.now) i) else null)) run.1) }
+// Whether each number of some rows is a position below `len`: no number ends the loop.
+#[inline(never)]
+fn are_all_positions<T: NativePType>(bytes: &[u8], rows: Range<usize>, len: usize) -> bool
+    requires order { rows.start ≤ rows.end }
+    requires within { rows.end ≤ length (numbers T.PTYPE bytes.now) }
+    ensures { IsTrue result → (i : ℕ) → rows.start ≤ i → i < rows.end
+        → index_fault len i (whole (number_nth (numbers T.PTYPE bytes.now) i)) ≡ None }
 {
-    for row in run.0..run.1 {
-        check_number_at(bytes, T::PTYPE, row, len)?;
+    let mut are_all = true;
+    for row in rows.start..rows.end {
+        if !is_position(int_at(bytes, T::PTYPE, row), len) {
+            are_all = false;
+        }
     }
-    Ok(())
+    are_all
 }
 
-// Whether the number of a row is a position below `len`.
+// Whether a number is a position below `len`, and so no fault of any row.
 #[inline]
-fn check_number_at(bytes: &[u8], ptype: PType, row: usize, len: usize) -> Result<(), VortexError>
-    requires { row < length (numbers ptype bytes.now) }
-    ensures { Tests result (index_fault len row (whole (number_nth (numbers ptype bytes.now) row))) }
+fn is_position(number: i128, len: usize) -> bool
+    ensures { (row : ℕ) → IsTrue result → index_fault len row (whole number) ≡ None }
 {
-    check_number(int_at(bytes, ptype, row), row, len)
+    0 <= number && number < len as i128
 }

@@ -1,19 +1,18 @@
 // What a dictionary tells of its values and parts.
 
-ghost use Rattle.std.specs.Prelude.{◌≡◌, ◌≢◌, ◌<◌, ℕ, length, IsTrue};
-ghost use Rattle.vx_base.specs.Bits.{bool_at};
+ghost use Rattle.std.specs.Prelude.{◌≡◌, IsTrue};
 ghost use Rattle.vx_base.specs.DTypes.{dtype_meaning};
 ghost use Rattle.vx_base.specs.Refusals.{Gives};
 ghost use Rattle.vx_tree.specs.Formed.{ReferencesAll};
-ghost use Rattle.vx_tree.specs.Meaning.{kind_of, tree_len};
+ghost use Rattle.vx_tree.specs.Meaning.{kind_of};
 ghost use Rattle.vx_leaves.specs.Dictionaries.{codes_in, values_in, referenced_flag, MarksReferenced};
 ghost use Rattle.vx_leaves.specs.Scan.{EndsScan};
 
-use crate::code_scan::{scan_constant, scan_numbers, scan_places};
+use crate::code_scan::scan_codes;
 use crate::dict_array::DictArray;
 use std::alloc::Global;
 use vx_base::{BitBuffer, DType, VortexError};
-use vx_tree::{ArrayRef, Layout, TypedArray};
+use vx_tree::{ArrayRef, TypedArray};
 
 /// The parts of a dictionary.
 #[derive(Drop)]
@@ -48,9 +47,9 @@ pub trait DictArrayExt: TypedArray {
     ) -> Result<BitBuffer, VortexError>
         ensures { Gives result (λ b. MarksReferenced (Self.as_tree self.now) referenced b.bits) };
 
-    /// The same booleans, and the end of the scan that tells them. It goes by blocks of 2,048 codes,
-    /// and ends after the first block but the last by which every value is referenced, else after
-    /// all codes: where the codes 0, 1, 0, 1 and so on are 5,000 into two values, it ends at 2,048.
+    /// The same booleans, and the least positive multiple of 2,048 below the number of codes before
+    /// which valid codes reference every value, else the number of codes: of 5,000 codes 0, 1, 0, 1
+    /// and so on into two values it is 2,048. Fails only for want of memory.
     fn referenced_values_scan(
         &self,
         alloc: Global,
@@ -75,8 +74,7 @@ impl DictArrayExt for DictArray {
     }
 
     fn validate_all_values_referenced(&self, _alloc: Global) -> Result<(), VortexError> {
-        self.parts();
-        Ok(())
+        self.parts().validate()
     }
 
     fn compute_referenced_values_mask(
@@ -93,9 +91,10 @@ impl DictArrayExt for DictArray {
         alloc: Global,
         referenced: bool,
     ) -> Result<(BitBuffer, usize), VortexError> {
-        let count = self.parts().values.len();
+        let parts = self.parts();
+        let count = parts.values.len();
         let mut marks = vec![in alloc; !referenced; count]?;
-        let end = mark_references(alloc, self, referenced, &mut marks)?;
+        let end = scan_codes(alloc, parts.codes, referenced, &mut marks)?;
         Ok((BitBuffer::from_bools(alloc, &marks)?, end))
     }
 }
@@ -108,34 +107,5 @@ impl DictOwnedExt for DictArray {
             codes: parts.codes.try_clone(alloc)?,
             values: parts.values.try_clone(alloc)?,
         })
-    }
-}
-
-// Marks the values that some valid code of a dictionary names, and tells where the scan ended.
-// Codes that are plain numbers are read where they lie, and codes that are one row once.
-fn mark_references(
-    alloc: Global,
-    dictionary: &DictArray,
-    referenced: bool,
-    out: &mut [bool],
-) -> Result<usize, VortexError>
-    requires room { length out.old ≡ tree_len (values_in dictionary.now) }
-    requires none { (j : ℕ) → j < length out.old → bool_at out.old j ≢ referenced }
-    ensures marks { Gives result (λ _. MarksReferenced dictionary.now referenced out.new) }
-    ensures end { Gives result (λ end. EndsScan dictionary.now end) }
-{
-    let codes = dictionary.parts().codes;
-    let validity = codes.validity(alloc)?;
-    let mask = validity.execute_mask(alloc, codes.len())?;
-    match codes.layout() {
-        Layout::Primitive { ptype, bytes, .. } => {
-            let bytes = bytes.as_slice();
-            Ok(scan_numbers(*ptype, bytes, &mask, referenced, out))
-        }
-        Layout::Constant { .. } => Ok(scan_constant(codes, referenced, out)),
-        _ => {
-            let positions = codes.positions(alloc, out.len())?;
-            Ok(scan_places(&positions, &mask, referenced, out))
-        }
     }
 }

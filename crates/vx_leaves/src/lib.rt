@@ -3,9 +3,10 @@
 //!
 //! A type has up to three files: its array (`primitive_array`), what it tells of its parts, a trait
 //! (`primitive_ext`), and its data apart from the validity (`primitive_data`). Read these three
-//! first, with specs/Leaves; then `narrow`, with specs/Narrow, and of dictionaries `code_checks`
-//! (which codes are refused) and `code_scan`, with specs/Scan (which values codes name). `collect`,
-//! `number_bytes` and `bool_iterators` read iterators; `spread` lays values over valid rows.
+//! first, with specs/Leaves; then `narrow`, with specs/Narrow, and of dictionaries `valid_rows` (the
+//! rows of codes by words), `code_checks` (which codes are refused) and `code_scan` over
+//! `code_marks`, with specs/Scan (which values codes name). `collect`, `number_bytes` and
+//! `bool_iterators` read iterators; `spread` lays values over valid rows.
 //!
 //! Nothing recurses: the trees below are walked by vx_tree.
 #![tactic(auto)]
@@ -15,6 +16,7 @@ mod bool_data;
 mod bool_ext;
 mod bool_iterators;
 mod code_checks;
+mod code_marks;
 mod code_scan;
 mod collect;
 mod constant_array;
@@ -29,6 +31,7 @@ mod primitive_buffers;
 mod primitive_data;
 mod primitive_ext;
 mod spread;
+mod valid_rows;
 
 pub use crate::bool_array::BoolArray;
 pub use crate::bool_data::{BoolData, BoolDataParts};

@@ -61,7 +61,7 @@ fn span(ptype: PType, bytes: &[u8], mask: &Mask) -> (i128, i128)
 
 // The least and the greatest of the numbers of one type at which the mask is true, one run after
 // another.
-pub(crate) fn typed_span<T: NativePType>(bytes: &[u8], mask: &Mask) -> (i128, i128)
+fn typed_span<T: NativePType>(bytes: &[u8], mask: &Mask) -> (i128, i128)
     requires { length mask.now ≡ length (numbers T.PTYPE bytes.now) }
     ensures { IsSpan T.PTYPE (kept mask.now (numbers T.PTYPE bytes.now)) result.0 result.1 }
 {
