@@ -1,3 +1,2 @@
 pub mod ListViews
-pub mod ListLaws
 pub mod FixedSizeLists

@@ -13,6 +13,12 @@ pub mod Faults
 pub mod Plans
 pub mod MarkedRuns
 pub mod ReferencedElements
+pub mod RepeatedCounts
 pub mod RepeatedLists
+pub mod TotalSizes
 pub mod TrimmedViews
 pub mod TrimmedLayouts
+pub mod AlikeViews
+pub mod ExactViews
+pub mod RebuiltAlike
+pub mod RebuiltTwice

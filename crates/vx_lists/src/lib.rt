@@ -1,12 +1,13 @@
 //! Columns of lists: the one layout that their rows fix, and their arrays.
 //!
 //! Read `list_view/array` first, with specs/ListViews; then `list_view/checks`, what `try_new`
-//! tests, and `list_view/rebuild`, with specs/ListViews/Layout: `plan` makes the runs and the new
-//! numbers, `positions` the places of elements. `references` tells which elements the lists lie in,
-//! and `trim` lets the others go. `number_rows` has the loops over offsets and sizes, one for each
-//! pair of their types. `fixed_size_list/` is lists of one size. `laws` are for callers.
+//! tests, and `list_view/rebuild`, with specs/ListViews/Layout: `totals` tells what is refused,
+//! `plan` makes the runs and the new numbers, `positions` the places of elements. `references` tells
+//! which elements the lists lie in, and `trim` lets the others go. `number_rows` has the loops over
+//! offsets and sizes, one for each pair of their types. `fixed_size_list/` is lists of one size.
+//! `laws` are for callers.
 //!
-//! Nothing recurses: the trees below are walked by vx_tree.
+//! Two walks recurse: `#[cycle(is_countable)]` in `totals`, and `has_one_row` in `counts`.
 #![tactic(auto)]
 
 mod fixed_size_list;

@@ -10,4 +10,5 @@ mod plan;
 mod positions;
 pub(crate) mod rebuild;
 mod references;
+mod totals;
 mod trim;

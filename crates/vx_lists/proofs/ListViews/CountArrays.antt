@@ -101,6 +101,17 @@ count_of-whole : (z : ℤ) → count_of z ≡ count_in (whole_row z)
 count_of-whole (pos n) = refl
 count_of-whole (negsuc n) = refl
 
+counts_of-whole : (zs : List ℤ) → map count_of zs ≡ map count_in (map whole_row zs)
+counts_of-whole [] = refl
+counts_of-whole (z ∷ zs) =
+    let first = count_of-whole z in
+    let rest = counts_of-whole zs in
+    cc
+
+-- the counts that they are read as are those of the rows
+pub counts_of-rows : (t : PType) (bs : List ℕ) → counts_of t bs ≡ counts_in (primitive t bs non_nullable)
+counts_of-rows t bs = counts_of-whole (numbers t bs) ∙ sym (ap (map count_in) (rows-by_numbers t bs))
+
 -- each is read as the count of its row
 pub number_count : (t : PType) (bs : List ℕ) (i : ℕ) → i < length (numbers t bs) → get_or (counts_of t bs) i 0 ≡ count_in (row_at (primitive t bs non_nullable) i)
 number_count t bs i inside = get_or-counts_of t bs i inside ∙ count_of-whole (number_nth (numbers t bs) i)

@@ -54,7 +54,7 @@ module _ (bits : List Bool) (start end : ℕ) (ordered : start ≤ end) (within 
       ]
 
 -- the same of booleans that are filled so
-pub bool_at-filled : (bits bits' : List Bool) (start end : ℕ) → start ≤ end → end ≤ length bits → bits' ≡ take start bits ++ replicate (end - start) true ++ drop end bits → (k : ℕ) → (bool_at bits' k ≡ true) ↔ ((bool_at bits k ≡ true) ⊎ ((start ≤ k) × (k < end)))
+bool_at-filled : (bits bits' : List Bool) (start end : ℕ) → start ≤ end → end ≤ length bits → bits' ≡ take start bits ++ replicate (end - start) true ++ drop end bits → (k : ℕ) → (bool_at bits' k ≡ true) ↔ ((bool_at bits k ≡ true) ⊎ ((start ≤ k) × (k < end)))
 bool_at-filled bits bits' start end ordered within filled_is k = rw filled_is (filled_each bits start end ordered within k)
 
 -- ---- a list

@@ -1,18 +1,15 @@
 -- Valid rows laid end to end, one row after another.
-use Rattle.std.proofs.Common.{◌≡◌, ◌⊎◌, ⊎_elim, ℕ, zero, suc, ◌+◌, ◌-◌, ◌<◌, ◌≤◌, Bool, true, false, cond, List, [], ◌∷◌, ◌++◌, length, take, replicate, get_or, sum, min, refl, sym, ◌∙◌, ap, subst, zero-add, add-one, arith}
+use Rattle.std.proofs.Common.{◌≡◌, ◌⊎◌, ⊎_elim, ℕ, zero, suc, ◌+◌, ◌-◌, ◌<◌, ◌≤◌, Bool, true, false, cond, List, [], ◌∷◌, ◌++◌, length, take, replicate, get_or, sum, min, refl, sym, ◌∙◌, ap, zero-add, add-one, arith}
 use Rattle.std.specs.Prelude.{count_by}
-use Rattle.std.specs.List.{All, flat_map, range_with_len}
+use Rattle.std.specs.List.{flat_map, range_with_len}
 use Rattle.std.proofs.lemmas.List.{append_assoc, append-nil, length-append, length-take, take_all}
 use Rattle.std.proofs.lemmas.List.Concat.{flat_map-append}
-use Rattle.std.proofs.lemmas.List.Elements.{All-nil, All-push}
 use Rattle.std.proofs.lemmas.List.FromFn.{length-range_with_len}
 use Rattle.std.proofs.lemmas.List.Sums.{sum_by_more, sum_by-take-le, get_or-le-sum_by}
 use Rattle.vx_base.proofs.MaskCounts.{all_true_from_count}
 use Rattle.vx_base.proofs.Runs.{range_append}
 use Rattle.vx_base.specs.Selections.{run_positions}
-use Rattle.vx_tree.specs.Runs.{IsRunWithin}
 use Rattle.vx_lists.specs.ListViews.Layout.{items_of, position_rows, joined_positions, starts_from, valid_sizes, valid_total}
-use Rattle.vx_lists.specs.ListViews.PlannedRuns.{EndWithin, AreListRuns}
 use Rattle.vx_lists.proofs.ListViews.CanonicalRows.{sum-cons, get_or-starts_from}
 
 -- ---- the total of the valid sizes
@@ -144,49 +141,9 @@ module _ (offsets sizes : List ℕ) (rows : ℕ) (pushed : List ℕ) (start end 
   ArePushed-all all =
       so_far.joined ∙ ap (λ os. joined_positions os (take rows sizes)) (take_all rows offsets all) ∙ ap (joined_positions offsets) (take_all rows sizes (omega arith))
 
--- ---- runs of them, the last of which may grow
+-- ---- one run of them more
 
-pub record AreRuns (offsets sizes : List ℕ) (rows : ℕ) (runs : List (ℕ × ℕ)) (start end : ℕ) : Type 0 where
-  pub pushed : ArePushed offsets sizes rows (flat_map run_positions runs) start end
-  pub within : (n : ℕ) → EndWithin offsets sizes n → All (IsRunWithin n) runs × (end ≤ n)
-
--- one run more
-runs_push : (runs runs' : List (ℕ × ℕ)) (start end : ℕ) → runs' ≡ runs ++ (start, end) ∷ [] → flat_map run_positions runs' ≡ flat_map run_positions runs ++ range_with_len start (end - start)
+pub runs_push : (runs runs' : List (ℕ × ℕ)) (start end : ℕ) → runs' ≡ runs ++ (start, end) ∷ [] → flat_map run_positions runs' ≡ flat_map run_positions runs ++ range_with_len start (end - start)
 runs_push runs runs' start end pushed =
     ap (flat_map run_positions) pushed ∙ flat_map-append run_positions runs ((start, end) ∷ [])
     ∙ ap (λ ps. flat_map run_positions runs ++ ps) (append-nil (range_with_len start (end - start)))
-
-runs_within : (runs runs' : List (ℕ × ℕ)) (start end n : ℕ) → runs' ≡ runs ++ (start, end) ∷ [] → start ≤ end → All (IsRunWithin n) runs × (end ≤ n) → All (IsRunWithin n) runs'
-runs_within runs runs' start end n pushed forward within =
-    subst (All (IsRunWithin n)) (sym pushed) (All-push (IsRunWithin n) runs (start, end) within.0 (forward, within.1))
-
-pub AreRuns-none : (offsets sizes : List ℕ) → AreRuns offsets sizes 0 [] 0 0
-AreRuns-none offsets sizes = record {
-  pushed = record { forward = omega arith; joined = refl };
-  within = λ n ends. (All-nil (IsRunWithin n), omega arith);
-}
-
-module _ (offsets sizes : List ℕ) (i : ℕ) (runs : List (ℕ × ℕ)) (start end : ℕ) (same_len : length sizes ≡ length offsets) (inside : i < length offsets) (so_far : AreRuns offsets sizes i runs start end) where
-  -- a list that begins where the last run ends, or has no element, makes it longer
-  pub AreRuns-grow : (runs' : List (ℕ × ℕ)) (start' end' : ℕ) → runs' ≡ runs → start' ≡ start → end' ≡ end + get_or sizes i 0 → (get_or offsets i 0 ≡ end) ⊎ (get_or sizes i 0 ≡ 0) → AreRuns offsets sizes (i + 1) runs' start' end'
-  AreRuns-grow runs' start' end' same_runs same_start grown meets = record {
-    pushed = ArePushed-grow offsets sizes i (flat_map run_positions runs) start end same_len inside so_far.pushed (flat_map run_positions runs') start' end' (ap (flat_map run_positions) same_runs) same_start grown meets;
-    within = λ n ends. (
-      subst (All (IsRunWithin n)) (sym same_runs) (so_far.within n ends).0,
-      ⊎_elim (λ (at : get_or offsets i 0 ≡ end). omega (arith, ends i inside)) (λ (none : get_or sizes i 0 ≡ 0). omega (arith, (so_far.within n ends).1)) meets,
-    );
-  }
-
-  -- any other begins a run
-  pub AreRuns-next : (runs' : List (ℕ × ℕ)) (start' end' : ℕ) → runs' ≡ runs ++ (start, end) ∷ [] → start' ≡ get_or offsets i 0 → end' ≡ get_or offsets i 0 + get_or sizes i 0 → AreRuns offsets sizes (i + 1) runs' start' end'
-  AreRuns-next runs' start' end' more same_start end_is = record {
-    pushed = ArePushed-next offsets sizes i (flat_map run_positions runs) start end same_len inside so_far.pushed (flat_map run_positions runs') start' end' (runs_push runs runs' start end more) same_start end_is;
-    within = λ n ends. (runs_within runs runs' start end n more so_far.pushed.forward (so_far.within n ends), omega (arith, ends i inside));
-  }
-
-pub AreRuns-all : (offsets sizes : List ℕ) (rows : ℕ) (runs runs' : List (ℕ × ℕ)) (start end : ℕ) → length sizes ≡ length offsets → length offsets ≤ rows → AreRuns offsets sizes rows runs start end → runs' ≡ runs ++ (start, end) ∷ []
-    → AreListRuns offsets sizes runs'
-AreRuns-all offsets sizes rows runs runs' start end same_len all so_far pushed = record {
-  positions = runs_push runs runs' start end pushed ∙ ArePushed-all offsets sizes rows (flat_map run_positions runs) start end same_len so_far.pushed all;
-  within = λ n ends. runs_within runs runs' start end n pushed so_far.pushed.forward (so_far.within n ends);
-}

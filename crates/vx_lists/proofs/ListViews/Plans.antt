@@ -1,35 +1,29 @@
 -- What a list view is rebuilt from, and what that gives.
-use Rattle.std.proofs.Common.{◌≡◌, ℕ, ◌+◌, ◌^◌, ◌<◌, ◌≤◌, Bool, true, List, length, map, sum, get_or, cond, false, None, sym, ◌∙◌, ap, subst, Result, Ok, Err, arith}
+use Rattle.std.proofs.Common.{◌≡◌, ℕ, ◌+◌, ◌^◌, ◌<◌, ◌≤◌, Bool, true, List, length, map, sum, get_or, cond, false, Option, None, sym, ◌∙◌, ap, subst, Result, Ok, Err, arith}
 use Rattle.std.specs.Prelude.{pos, ◌≤ℤ◌, int_le, IsTrue, OnOk}
-use Rattle.std.specs.List.{flat_map}
 use Rattle.std.proofs.lemmas.Float.{T_from_true}
 use lib.Signed.{le_z_yes}
 use Rattle.vx_base.specs.declared.ptypes.PType.{PType}
 use Rattle.vx_base.specs.Integers.{Holds, greatest, numbers}
 use Rattle.vx_base.specs.Kinds.{integer_type}
-use Rattle.vx_base.specs.Booleans.{count_fault}
-use Rattle.vx_base.specs.Refusals.{or_else}
-use Rattle.vx_base.specs.Selections.{run_positions}
+use Rattle.vx_base.specs.Refusals.{Refusal}
 use Rattle.vx_tree.specs.Tree.{Tree, list_view, primitive, Valid, non_nullable}
 use Rattle.vx_tree.specs.Meaning.{tree_len, kind_of, valid_mask}
 use Rattle.vx_tree.specs.Formed.{IsConsecutive, WellFormed}
 use Rattle.vx_tree.specs.Faults.{take_overflow}
 use Rattle.vx_tree.specs.Operations.{IsSelected, AreBelow}
-use Rattle.vx_tree.specs.Runs.{runs_len, runs_fault}
 use Rattle.vx_lists.specs.ListViews.Layout.{valid_sizes, valid_total, position_rows, joined_positions, starts_from, IsPlan}
 use Rattle.vx_lists.specs.ListViews.CountBytes.{counts_of, AreCountBytes, HoldCounts}
-use Rattle.vx_lists.specs.ListViews.PlannedRuns.{EndWithin, AreListBytes}
-use Rattle.vx_lists.specs.ListViews.{counts_in, elements_of, offsets_of, sizes_of, rebuilt_ptype, total_of, valid_sizes_of, valid_positions_of, IsCountArray, IsRebuildPlan, IsRebuilt}
+use Rattle.vx_lists.specs.ListViews.PlannedRuns.{AreListBytes, AreElementsToTake}
+use Rattle.vx_lists.specs.ListViews.{counts_in, elements_of, mask_of, offsets_of, sizes_of, rebuilt_ptype, total_of, valid_sizes_of, valid_positions_of, IsCountArray, IsRebuildPlan, IsRebuilt}
 use Rattle.vx_lists.specs.ListViews.Faults.{total_fault, either_total_fault, rebuilt_total_fault, rebuild_overflow}
 use Rattle.vx_lists.proofs.ListViews.CountBytes.{counts_of-held, held_are_counts, length-held, length-counts_of}
 use Rattle.vx_lists.proofs.ListViews.CountArrays.{count_array_of_numbers}
 use Rattle.vx_lists.proofs.ListViews.Faults.{passed}
-use Rattle.vx_base.proofs.FirstFaults.{or_else-none}
-use Rattle.vx_base.proofs.Joined.{counted}
+use Rattle.vx_base.proofs.FirstFaults.{or_else-none, or_else-second}
 use Rattle.vx_tree.proofs.RowLists.{length-rows}
-use Rattle.vx_tree.proofs.Runs.{length_of_runs, runs_fault-counted}
-use Rattle.vx_lists.proofs.ListViews.ViewLayouts.{layout_well_formed}
-use Rattle.vx_lists.proofs.ListViews.PlannedNumbers.{Holds-below, greatest_small, map-size_of-position_rows}
+use Rattle.vx_lists.proofs.ListViews.ViewLayouts.{layout_well_formed, length-counts_in}
+use Rattle.vx_lists.proofs.ListViews.PlannedNumbers.{Holds-below, map-size_of-position_rows}
 use Rattle.vx_lists.proofs.ListViews.PlannedRows.{get_or-valid_sizes, length-valid_sizes, joined_positions-valid, length-joined_positions}
 use Rattle.vx_lists.proofs.ListViews.RebuiltViews.{planned_below, rebuilt_formed, rebuilt_view}
 
@@ -42,6 +36,12 @@ pub total_held : (o s : PType) (total : ℕ) → either_total_fault o s total �
 total_held o s total none =
     let each = or_else-none (total_fault o total) (total_fault s total) none in
     (Holds-below o total total (omega arith) (fits_greatest o total each.0), Holds-below s total total (omega arith) (fits_greatest s total each.1))
+
+-- where nothing is refused, the rebuilt types hold the total
+totals_held : (t : Tree) → rebuild_overflow t ≡ None → (Holds (rebuilt_ptype (integer_type (kind_of (offsets_of t)))) (pos (total_of t))) × (Holds (rebuilt_ptype (integer_type (kind_of (sizes_of t)))) (pos (total_of t)))
+totals_held t none =
+    total_held (rebuilt_ptype (integer_type (kind_of (offsets_of t)))) (rebuilt_ptype (integer_type (kind_of (sizes_of t)))) (total_of t)
+    (or_else-none (rebuilt_total_fault t) (take_overflow (elements_of t) (total_of t)) none).0
 
 -- ---- the plan over offsets, sizes and a mask
 
@@ -85,55 +85,80 @@ module _ (t e o s : Tree) (v : Valid) (f : Bool) (same : t ≡ list_view e o s v
   positions_are : valid_positions_of t ≡ positions
   positions_are = ap valid_positions_of same
 
+  sizes_read : (size_type : PType) (sizes : List ℕ) → size_type ≡ integer_type (kind_of s) → HoldCounts (integer_type (kind_of s)) sizes (counts_in s) → counts_of size_type sizes ≡ counts_in s
+  sizes_read size_type sizes s_is sizes_hold = counts_of-held size_type sizes (counts_in s) (rw s_is sizes_hold.are)
+
   -- what is read of the parts
-  pub plan_made : (offset_type size_type new_type : PType) (offsets sizes valid : List ℕ) (ms : List Bool) (n count : ℕ)
-      → offset_type ≡ integer_type (kind_of o) → size_type ≡ integer_type (kind_of s) → new_type ≡ rebuilt_ptype size_type → HoldCounts (integer_type (kind_of o)) offsets (counts_in o) → HoldCounts (integer_type (kind_of s)) sizes (counts_in s) → ms ≡ valid_mask v n → n ≡ tree_len o
-      → HoldCounts new_type valid (valid_sizes (counts_of size_type sizes) ms) → count ≡ valid_total (counts_of size_type sizes) ms → IsRebuildPlan t offset_type offsets new_type valid count
-  plan_made offset_type size_type new_type offsets sizes valid ms n count o_is s_is new_is offsets_hold sizes_hold ms_is n_is valid_hold count_is =
-      let mask_is : ms ≡ mask = ms_is ∙ ap (valid_mask v) n_is in
-      let counts_are : counts_of size_type sizes ≡ counts_in s = counts_of-held size_type sizes (counts_in s) (rw s_is sizes_hold.are) in
-      let valid_are : valid_sizes (counts_of size_type sizes) ms ≡ valid_sizes_of t = ap (λ ns. valid_sizes ns ms) counts_are ∙ ap (valid_sizes (counts_in s)) mask_is ∙ sym (ap valid_sizes_of same) in
+  pub plan_made : (offset_type size_type new_type : PType) (offsets sizes valid : List ℕ) (ms : List Bool) (count : ℕ)
+      → offset_type ≡ integer_type (kind_of o) → size_type ≡ integer_type (kind_of s) → new_type ≡ rebuilt_ptype size_type → HoldCounts (integer_type (kind_of o)) offsets (counts_in o) → HoldCounts (integer_type (kind_of s)) sizes (counts_in s) → ms ≡ mask_of t
+      → HoldCounts new_type valid (valid_sizes (counts_of size_type sizes) ms) → count ≡ total_of t → IsRebuildPlan t offset_type offsets new_type valid count
+  plan_made offset_type size_type new_type offsets sizes valid ms count o_is s_is new_is offsets_hold sizes_hold ms_is valid_hold count_is =
+      let valid_are : valid_sizes (counts_of size_type sizes) ms ≡ valid_sizes_of t = ap (λ ns. valid_sizes ns ms) (sizes_read size_type sizes s_is sizes_hold) ∙ ap (valid_sizes (counts_in s)) ms_is ∙ sym (ap (λ x. valid_sizes (counts_in (sizes_of x)) (mask_of t)) same) in
       record {
         offset_type_is = o_is ∙ sym (ap (λ x. integer_type (kind_of (offsets_of x))) same);
         offsets_are = subst (λ x. HoldCounts offset_type offsets (counts_in (offsets_of x))) (sym same) (subst (λ p. HoldCounts p offsets (counts_in o)) (sym o_is) offsets_hold);
         size_type_is = new_is ∙ ap rebuilt_ptype (s_is ∙ sym (ap (λ x. integer_type (kind_of (sizes_of x))) same));
         sizes_are = subst (HoldCounts new_type valid) valid_are valid_hold;
-        count_is = count_is ∙ ap sum valid_are;
+        count_is = count_is;
       }
 
-  -- the total that is compared
-  pub total_fault_is : (offset_type size_type : PType) (sizes : List ℕ) (ms : List Bool) (n total : ℕ) → offset_type ≡ integer_type (kind_of o) → size_type ≡ integer_type (kind_of s) → HoldCounts (integer_type (kind_of s)) sizes (counts_in s) → ms ≡ valid_mask v n → n ≡ tree_len o
-      → total ≡ valid_total (counts_of size_type sizes) ms → either_total_fault (rebuilt_ptype offset_type) (rebuilt_ptype size_type) total ≡ rebuilt_total_fault t
-  total_fault_is offset_type size_type sizes ms n total o_is s_is sizes_hold ms_is n_is total_is =
-      let mask_is : ms ≡ mask = ms_is ∙ ap (valid_mask v) n_is in
-      let counts_are : counts_of size_type sizes ≡ counts_in s = counts_of-held size_type sizes (counts_in s) (rw s_is sizes_hold.are) in
-      let count : total ≡ total_of t = total_is ∙ ap (λ ns. valid_total ns ms) counts_are ∙ ap (valid_total (counts_in s)) mask_is ∙ sym (ap total_of same) in
-      let offset_is : rebuilt_ptype offset_type ≡ rebuilt_ptype (integer_type (kind_of (offsets_of t))) = ap rebuilt_ptype (o_is ∙ sym (ap (λ x. integer_type (kind_of (offsets_of x))) same)) in
-      let size_is : rebuilt_ptype size_type ≡ rebuilt_ptype (integer_type (kind_of (sizes_of t))) = ap rebuilt_ptype (s_is ∙ sym (ap (λ x. integer_type (kind_of (sizes_of x))) same)) in
-      ap (λ p. either_total_fault p (rebuilt_ptype size_type) total) offset_is
-      ∙ ap (λ p. either_total_fault (rebuilt_ptype (integer_type (kind_of (offsets_of t)))) p total) size_is
-      ∙ ap (either_total_fault (rebuilt_ptype (integer_type (kind_of (offsets_of t)))) (rebuilt_ptype (integer_type (kind_of (sizes_of t))))) count
+  -- the mask that the validity gives
+  pub mask_is : (ms : List Bool) (n : ℕ) → ms ≡ valid_mask v n → n ≡ tree_len o → ms ≡ mask_of t
+  mask_is ms n ms_is n_is = ms_is ∙ ap (valid_mask v) n_is ∙ sym (ap mask_of same)
 
-  pub positions_below : AreBelow (tree_len e) (valid_positions_of t)
+  -- the total of the sizes at its rows
+  pub total_is : (ms : List Bool) (total : ℕ) → ms ≡ mask_of t → total ≡ valid_total (counts_in s) ms → total ≡ total_of t
+  total_is ms total ms_is of_sizes = of_sizes ∙ ap (valid_total (counts_in s)) ms_is ∙ sym (ap (λ x. valid_total (counts_in (sizes_of x)) (mask_of t)) same)
+
+  -- there are as many rows in it
+  pub mask_len : (ms : List Bool) → ms ≡ mask_of t → length ms ≡ tree_len s
+  mask_len ms ms_is =
+      let well = layout_well_formed e o s v f formed.1 in
+      ap length (ms_is ∙ ap mask_of same) ∙ well.mask_len ∙ sym well.sizes_len ∙ length-counts_in s
+
+  -- the fault of that total, by the types that offsets and sizes are to have
+  pub total_fault_is : (o_type s_type : PType) (ms : List Bool) (total : ℕ) → o_type ≡ rebuilt_ptype (integer_type (kind_of o)) → s_type ≡ rebuilt_ptype (integer_type (kind_of s)) → ms ≡ mask_of t → total ≡ valid_total (counts_in s) ms
+      → either_total_fault o_type s_type total ≡ rebuilt_total_fault t
+  total_fault_is o_type s_type ms total o_is s_is ms_is of_sizes =
+      let offset_is : o_type ≡ rebuilt_ptype (integer_type (kind_of (offsets_of t))) = o_is ∙ sym (ap (λ x. rebuilt_ptype (integer_type (kind_of (offsets_of x)))) same) in
+      let size_is : s_type ≡ rebuilt_ptype (integer_type (kind_of (sizes_of t))) = s_is ∙ sym (ap (λ x. rebuilt_ptype (integer_type (kind_of (sizes_of x)))) same) in
+      ap (λ p. either_total_fault p s_type total) offset_is
+      ∙ ap (λ p. either_total_fault (rebuilt_ptype (integer_type (kind_of (offsets_of t)))) p total) size_is
+      ∙ ap (either_total_fault (rebuilt_ptype (integer_type (kind_of (offsets_of t)))) (rebuilt_ptype (integer_type (kind_of (sizes_of t))))) (total_is ms total ms_is of_sizes)
+
+  -- and that of taking so many elements, where the total has none
+  pub overflow_is : (ms : List Bool) (total count : ℕ) (fault : Option Refusal) → ms ≡ mask_of t → total ≡ valid_total (counts_in s) ms → count ≡ total → rebuilt_total_fault t ≡ None → take_overflow e count ≡ fault → rebuild_overflow t ≡ fault
+  overflow_is ms total count fault ms_is of_sizes count_is none taken =
+      or_else-second (rebuilt_total_fault t) (take_overflow (elements_of t) (total_of t)) fault none
+      (ap (λ x. take_overflow (elements_of x) (total_of t)) same ∙ ap (take_overflow e) (sym (count_is ∙ total_is ms total ms_is of_sizes)) ∙ taken)
+
+  -- where nothing is refused, the rebuilt size type holds it
+  pub total_fits : (size_type new_type : PType) (sizes : List ℕ) (ms : List Bool) → size_type ≡ integer_type (kind_of s) → new_type ≡ rebuilt_ptype size_type → HoldCounts (integer_type (kind_of s)) sizes (counts_in s) → ms ≡ mask_of t → rebuild_overflow t ≡ None
+      → Holds new_type (pos (valid_total (counts_of size_type sizes) ms))
+  total_fits size_type new_type sizes ms s_is new_is sizes_hold ms_is none =
+      let count : valid_total (counts_of size_type sizes) ms ≡ total_of t = total_is ms (valid_total (counts_of size_type sizes) ms) ms_is (ap (λ ns. valid_total ns ms) (sizes_read size_type sizes s_is sizes_hold)) in
+      let type_is : new_type ≡ rebuilt_ptype (integer_type (kind_of (sizes_of t))) = new_is ∙ ap rebuilt_ptype (s_is ∙ sym (ap (λ x. integer_type (kind_of (sizes_of x))) same)) in
+      subst (λ n. Holds new_type (pos n)) (sym count) (subst (λ p. Holds p (pos (total_of t))) (sym type_is) (totals_held t none).1)
+
+  positions_below : AreBelow (tree_len e) (valid_positions_of t)
   positions_below =
       let well = layout_well_formed e o s v f formed.1 in
       subst (AreBelow (tree_len e)) (sym positions_are) (planned_below (counts_in o) (counts_in s) mask (starts_from 0 kept) kept positions plan_is well.sizes_len well.mask_len (tree_len e) (λ i inside. omega (arith, well.within i inside, length-rows e)))
 
-  pub positions_count : length (valid_positions_of t) ≡ total_of t
+  positions_count : length (valid_positions_of t) ≡ total_of t
   positions_count = ap length positions_are ∙ length-joined_positions (counts_in o) kept kept_len ∙ sym (ap total_of same)
 
-  -- once the total fits, only taking can be refused
-  pub overflow_of_take : rebuilt_total_fault t ≡ None → take_overflow (elements_of t) (length (valid_positions_of t)) ≡ rebuild_overflow t
-  overflow_of_take none = ap (take_overflow (elements_of t)) positions_count ∙ ap (λ a. or_else a (take_overflow (elements_of t) (total_of t))) (sym none)
-
-  pub overflow_of_runs : (found : List (ℕ × ℕ)) → flat_map run_positions found ≡ valid_positions_of t → rebuilt_total_fault t ≡ None → runs_fault (elements_of t) found ≡ rebuild_overflow t
-  overflow_of_runs found runs none =
-      let o_type : PType = rebuilt_ptype (integer_type (kind_of (offsets_of t))) in
-      let s_type : PType = rebuilt_ptype (integer_type (kind_of (sizes_of t))) in
-      let each = or_else-none (total_fault o_type (total_of t)) (total_fault s_type (total_of t)) none in
-      let few : total_of t < 2 ^ 64 = greatest_small o_type (total_of t) (fits_greatest o_type (total_of t) each.0) in
-      let len : runs_len found ≡ total_of t = sym (length_of_runs found) ∙ ap length runs ∙ positions_count in
-      sym (runs_fault-counted (elements_of t) found (valid_positions_of t) (sym runs) (ap count_fault len ∙ counted (total_of t) few)) ∙ overflow_of_take none
+  -- where nothing is refused, so many elements can be taken
+  pub to_take : AreElementsToTake t e
+  to_take =
+      let own : e ≡ elements_of t = sym (ap elements_of same) in
+      record {
+        elements = own;
+        within = positions_below;
+        count = positions_count;
+        countable = λ none. ap (λ x. take_overflow x (length (valid_positions_of t))) own ∙ ap (take_overflow (elements_of t)) positions_count
+            ∙ (or_else-none (rebuilt_total_fault t) (take_overflow (elements_of t) (total_of t)) none).1;
+      }
 
   -- ---- what is asked of the numbers of a plan
 
@@ -153,7 +178,7 @@ module _ (t e o s : Tree) (v : Valid) (f : Bool) (same : t ≡ list_view e o s v
     planned_same_len : length (numbers size_type sizes) ≡ length (numbers offset_type offsets)
     planned_same_len = length-held size_type sizes kept sizes_hold.are ∙ kept_len ∙ sym (length-held offset_type offsets (counts_in o) offsets_hold.are)
 
-    pub planned_ends_within : EndWithin (counts_of offset_type offsets) (counts_of size_type sizes) (tree_len e)
+    planned_ends_within : (i : ℕ) → i < length (counts_of offset_type offsets) → get_or (counts_of offset_type offsets) i 0 + get_or (counts_of size_type sizes) i 0 ≤ tree_len e
     planned_ends_within i inside =
         let well = layout_well_formed e o s v f formed.1 in
         let offsets_are = counts_of-held offset_type offsets (counts_in o) offsets_hold.are in
@@ -185,10 +210,9 @@ module _ (t e o s : Tree) (v : Valid) (f : Bool) (same : t ≡ list_view e o s v
         ∙ ap (joined_positions (counts_in o)) (counts_of-held size_type sizes kept sizes_hold.are) ∙ sym positions_are
 
     -- the new offset type holds the end of the last list
-    pub planned_starts_held : rebuilt_total_fault t ≡ None → Holds (rebuilt_ptype offset_type) (pos (sum (counts_of size_type sizes)))
+    pub planned_starts_held : rebuild_overflow t ≡ None → Holds (rebuilt_ptype offset_type) (pos (sum (counts_of size_type sizes)))
     planned_starts_held none =
-        let held : Holds (rebuilt_ptype (integer_type (kind_of (offsets_of t)))) (pos (total_of t)) = (total_held (rebuilt_ptype (integer_type (kind_of (offsets_of t)))) (rebuilt_ptype (integer_type (kind_of (sizes_of t)))) (total_of t) none).0 in
-        subst (λ n. Holds (rebuilt_ptype offset_type) (pos n)) (sym planned_total) (subst (λ p. Holds (rebuilt_ptype p) (pos (total_of t))) (sym plan.offset_type_is) held)
+        subst (λ n. Holds (rebuilt_ptype offset_type) (pos n)) (sym planned_total) (subst (λ p. Holds (rebuilt_ptype p) (pos (total_of t))) (sym plan.offset_type_is) (totals_held t none).0)
 
     -- ---- the list view that it makes
 

@@ -1,12 +1,13 @@
 -- Lists that all have the offset and the size of the first.
-use Rattle.std.proofs.Common.{◌≡◌, ℕ, zero, suc, ◌+◌, ◌-◌, ◌<◌, ◌≤◌, ◌↔◌, ◌++◌, Bool, true, false, List, length, take, drop, replicate, inl, inr, Some, None, Result, Ok, Err, refl, sym, ◌∙◌, ap, subst, arith}
+use Rattle.std.proofs.Common.{◌≡◌, ℕ, ◌+◌, ◌<◌, ◌≤◌, ◌↔◌, Bool, true, List, [], ◌∷◌, length, inl, inr, Some, None, Result, Ok, Err, refl, sym, ◌∙◌, ap, subst, arith}
 use Rattle.std.specs.Prelude.{ℤ, pos, negsuc, IsSome, IfOk, unwrap_or}
 use Rattle.vx_base.proofs.FirstFaults.{first_fault-of_none, first_fault-found}
 use Rattle.vx_base.specs.declared.errors.VortexError.{VortexError}
 use Rattle.vx_base.specs.Refusals.{refusal_of, Tests}
 use Rattle.vx_base.specs.Bits.{bool_at}
-use Rattle.std.proofs.lemmas.Bool.{false≢true}
-use Rattle.std.proofs.lemmas.List.{length-append, length-drop, length-replicate, length-take-le}
+use Rattle.vx_base.specs.MaskRuns.{is_in_run, is_in_runs, marked}
+use Rattle.vx_base.proofs.MaskRuns.{run_in, run_before, run_past, or_false, bool_at-marked, length-marked}
+use Rattle.std.proofs.lemmas.Bool.{cases_lt, false≢true}
 use Rattle.vx_base.specs.Rows.{number_in, count_in}
 use Rattle.vx_base.specs.Kinds.{is_plain_integers}
 use Rattle.vx_tree.specs.Tree.{Tree}
@@ -15,7 +16,6 @@ use Rattle.vx_tree.specs.Formed.{IsCounts}
 use Rattle.vx_lists.specs.ListViews.References.{LiesIn, AreMarked, AreBounds}
 use Rattle.vx_lists.specs.ListViews.Faults.{list_row_fault, whole_at, list_rows_fault, AreRepeated}
 use Rattle.vx_lists.proofs.ListViews.Faults.{list_row-not_negative, count_row}
-use Rattle.vx_lists.proofs.ListViews.MarkedRuns.{bool_at-filled}
 
 -- a list that is no fault at its place is none at any other
 faultless_anywhere : (count i j : ℕ) (o s : ℤ) → list_row_fault count i o s ≡ None → list_row_fault count j o s ≡ None
@@ -61,56 +61,37 @@ repeated_bounds o s start end h first last =
       greatest_is = (0, h.some, ends 0);
     }
 
--- and mark what the first marks
-pub repeated_marked : (o s : Tree) (start end count : ℕ) (bits : List Bool) → AreRepeated o s → start ≡ count_in (row_at o 0) → end ≡ start + count_in (row_at s 0) → length bits ≡ count
-    → ((k : ℕ) → (bool_at bits k ≡ true) ↔ ((start ≤ k) × (k < end))) → AreMarked (λ i. count_in (row_at o i)) (λ i. count_in (row_at o i) + count_in (row_at s i)) (tree_len o) count bits
-repeated_marked o s start end count bits h first last long marked =
-    record {
-      len = long;
-      each = λ k inside. (
-        (λ is. let found = (marked k).0 is in (0, h.some, omega (arith, first, found.0), omega (arith, first, last, found.1))),
-        (λ (found : LiesIn (λ i. count_in (row_at o i)) (λ i. count_in (row_at o i) + count_in (row_at s i)) (tree_len o) k).
-            let low : count_in (row_at o 0) ≤ k = subst (λ r. count_in r ≤ k) (h.offsets found.0) found.2 in
-            let high : k < count_in (row_at o 0) + count_in (row_at s 0) = rw (h.offsets found.0, h.sizes found.0) at found.3 in
-            (marked k).1 (omega (arith, first, low), omega (arith, first, last, high))),
-      );
-    }
+-- and mark what the first marks: the run of its elements, or none
+module _ (o s : Tree) (start end count : ℕ) (h : AreRepeated o s) (first : start ≡ count_in (row_at o 0)) (last : end ≡ start + count_in (row_at s 0)) (within : end ≤ count) where
+  repeated_marked : (bits : List Bool) → length bits ≡ count → ((k : ℕ) → k < count → (bool_at bits k ≡ true) ↔ ((start ≤ k) × (k < end)))
+      → AreMarked (λ i. count_in (row_at o i)) (λ i. count_in (row_at o i) + count_in (row_at s i)) (tree_len o) count bits
+  repeated_marked bits long marked_by =
+      record {
+        len = long;
+        each = λ k inside. (
+          (λ is. let found = (marked_by k inside).0 is in (0, h.some, omega (arith, first, found.0), omega (arith, first, last, found.1))),
+          (λ (found : LiesIn (λ i. count_in (row_at o i)) (λ i. count_in (row_at o i) + count_in (row_at s i)) (tree_len o) k).
+              let low : count_in (row_at o 0) ≤ k = subst (λ r. count_in r ≤ k) (h.offsets found.0) found.2 in
+              let high : k < count_in (row_at o 0) + count_in (row_at s 0) = rw (h.offsets found.0, h.sizes found.0) at found.3 in
+              (marked_by k inside).1 (omega (arith, first, low), omega (arith, first, last, high))),
+        );
+      }
 
--- a range of unmarked elements that is marked
-pub range_marked : (count start end : ℕ) (bits bits' : List Bool) → start ≤ end → end ≤ count → bits ≡ replicate count false → bits' ≡ take start bits ++ replicate (end - start) true ++ drop end bits
-    → (k : ℕ) → (bool_at bits' k ≡ true) ↔ ((start ≤ k) × (k < end))
-range_marked count start end bits bits' ordered within unset filled k =
-    let long : length bits ≡ count = ap length unset ∙ length-replicate count false in
-    let each = bool_at-filled bits bits' start end ordered (omega (arith, long)) filled k in (
-      (λ is. elim (each.0 is) [ inl before ↦ absurd (false≢true (sym (unset_at count k) ∙ ap (λ bs. bool_at bs k) (sym unset) ∙ before)) | inr here ↦ here ]),
-      (λ here. each.1 (inr here)),
-    )
-  where
-    unset_at : (n i : ℕ) → bool_at (replicate n false) i ≡ false
-    unset_at zero i = refl
-    unset_at (suc n) zero = refl
-    unset_at (suc n) (suc i) = unset_at n i
+  pub run_marked : (runs : List (ℕ × ℕ)) → runs ≡ (start, end) ∷ [] → AreMarked (λ i. count_in (row_at o i)) (λ i. count_in (row_at o i) + count_in (row_at s i)) (tree_len o) count (marked count runs)
+  run_marked runs one = repeated_marked (marked count runs) (length-marked count runs) (λ k inside.
+      let here : bool_at (marked count runs) k ≡ is_in_run (start, end) k = bool_at-marked count runs k inside ∙ ap (λ rs. is_in_runs rs k) one ∙ or_false (is_in_run (start, end) k) in (
+        (λ is. elim (cases_lt k start) [
+          | inl below ↦ absurd (false≢true (sym (run_before (start, end) k below) ∙ sym here ∙ is))
+          | inr low ↦ elim (cases_lt k end) [
+            | inl high ↦ (low, high)
+            | inr past ↦ absurd (false≢true (sym (run_past (start, end) k past) ∙ sym here ∙ is))
+          ]
+        ]),
+        (λ lies. here ∙ run_in (start, end) k lies.0 lies.1),
+      ))
 
-filled_length : (count start end : ℕ) (old new : List Bool) → start ≤ end → end ≤ count → old ≡ replicate count false → new ≡ take start old ++ replicate (end - start) true ++ drop end old → length new ≡ count
-filled_length count start end old new ordered within unset filled =
-    let long : length old ≡ count = ap length unset ∙ length-replicate count false in
-    let front : length (take start old) ≡ start = length-take-le start old (omega (arith, long, ordered, within)) in
-    let all : length (take start old ++ replicate (end - start) true ++ drop end old) ≡ length (take start old ++ replicate (end - start) true) + length (drop end old) = length-append (take start old ++ replicate (end - start) true) (drop end old) in
-    let rest : length (take start old ++ replicate (end - start) true) ≡ length (take start old) + length (replicate (end - start) true) = length-append (take start old) (replicate (end - start) true) in
-    let middle : length (replicate (end - start) true) ≡ end - start = length-replicate (end - start) true in
-    let back : length (drop end old) ≡ length old - end = length-drop end old in
-    ap length filled ∙ all ∙ sum_of (length (take start old)) (length (take start old ++ replicate (end - start) true)) (length (replicate (end - start) true)) (length (drop end old)) (length old) front rest middle back long
-  where
-    sum_of : (a b m d n : ℕ) → a ≡ start → b ≡ a + m → m ≡ end - start → d ≡ n - end → n ≡ count → b + d ≡ count
-    sum_of a b m d n front rest middle back long = omega (arith, front, rest, middle, back, long, ordered, within)
-
--- so it is where just the elements of the first are marked
-pub first_marked : (o s : Tree) (start size count : ℕ) (old new bits m : List Bool) → AreRepeated o s → start ≡ count_in (row_at o 0) → size ≡ count_in (row_at s 0) → count_in (row_at o 0) + count_in (row_at s 0) ≤ count
-    → old ≡ replicate count false → new ≡ take start old ++ replicate ((start + size) - start) true ++ drop (start + size) old → bits ≡ new → m ≡ bits
-    → AreMarked (λ i. count_in (row_at o i)) (λ i. count_in (row_at o i) + count_in (row_at s i)) (tree_len o) count m
-first_marked o s start size count old new bits m h first second within unset filled frozen made =
-    let inside : start + size ≤ count = omega (arith, first, second, within) in
-    let ordered : start ≤ start + size = omega arith in
-    let marked = range_marked count start (start + size) old new ordered inside unset filled in
-    let long : length new ≡ count = filled_length count start (start + size) old new ordered inside unset filled in
-    rw (made ∙ frozen) (repeated_marked o s start (start + size) count new h first (ap (λ n. start + n) second) long marked)
+  pub none_marked : (runs : List (ℕ × ℕ)) → runs ≡ [] → end ≤ start → AreMarked (λ i. count_in (row_at o i)) (λ i. count_in (row_at o i) + count_in (row_at s i)) (tree_len o) count (marked count runs)
+  none_marked runs none empty = repeated_marked (marked count runs) (length-marked count runs) (λ k inside. (
+    (λ is. absurd (false≢true (sym (ap (λ rs. is_in_runs rs k) none) ∙ sym (bool_at-marked count runs k inside) ∙ is))),
+    (λ lies. absurd (omega (arith, lies.0, lies.1, empty))),
+  ))

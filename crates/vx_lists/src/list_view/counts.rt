@@ -1,6 +1,7 @@
 // Arrays of counts, as offsets and sizes are: read one at a time, as bytes of their type, and made.
+// Counts that are all one, as the layout says, are read once.
 
-ghost use Rattle.std.specs.Prelude.{◌≡◌, ◌<◌, pos, true, length, slice_index, IfOk, IfSome, IsTrue};
+ghost use Rattle.std.specs.Prelude.{◌≡◌, ◌<◌, ℕ, pos, true, length, slice_index, IfOk, IfSome, IsTrue};
 ghost use Rattle.std.specs.List.{All};
 ghost use Rattle.vx_base.specs.Integers.{Holds, numbers};
 ghost use Rattle.vx_base.specs.Kinds.{integer_type, is_plain_integers};
@@ -14,7 +15,10 @@ ghost use Rattle.vx_lists.specs.ListViews.Faults.{AreRepeated};
 ghost use Rattle.vx_lists.specs.ListViews.{counts_in};
 
 use std::alloc::Global;
-use vx_base::{ByteBuffer, NativePType, PType, VortexError, int_at, read_counts, write_counts};
+use vx_base::{
+    ByteBuffer, NativePType, PType, Selection, VortexError, gather_numbers, int_at, read_counts,
+    write_counts,
+};
 use vx_tree::{ArrayRef, Layout};
 
 // Row `i` of an array of counts.
@@ -59,8 +63,25 @@ pub(crate) fn count_bytes(alloc: Global, array: &ArrayRef) -> Result<ByteBuffer,
     if let Layout::Primitive { bytes, .. } = array.layout() {
         return Ok(bytes.try_clone(alloc)?);
     }
+    if is_repeated(array) {
+        return repeated_bytes(alloc, array);
+    }
     let counts = counts_by_row(alloc, array)?;
     Ok(write_counts(alloc, array.dtype().as_ptype(), &counts)?)
+}
+
+// The rows of an array of counts, all of which are the first, as bytes of its type.
+fn repeated_bytes(alloc: Global, array: &ArrayRef) -> Result<ByteBuffer, VortexError>
+    requires counts { IsCounts array.now }
+    requires some { 0 < tree_len array.now }
+    requires alike { (i : ℕ) → row_at array.now i ≡ row_at array.now 0 }
+    ensures { Gives result (λ b.
+        HoldCounts (integer_type (kind_of array.now)) b (counts_in array.now)) }
+{
+    let ptype = array.dtype().as_ptype();
+    let first = write_counts(alloc, ptype, &[count_at(array, 0)])?;
+    let selection = Selection::repeated(0, array.len());
+    Ok(gather_numbers(alloc, ptype, first.as_slice(), &selection)?)
 }
 
 // The rows of an array of counts.
@@ -70,6 +91,9 @@ pub(crate) fn counts_of(alloc: Global, array: &ArrayRef) -> Result<Vec<usize>, V
 {
     if let Layout::Primitive { ptype, bytes, .. } = array.layout() {
         return Ok(read_counts(alloc, *ptype, bytes.as_slice())?);
+    }
+    if is_repeated(array) {
+        return Ok(vec![in alloc; count_at(array, 0); array.len()]?);
     }
     Ok(counts_by_row(alloc, array)?)
 }
@@ -88,12 +112,30 @@ fn counts_by_row(alloc: Global, array: &ArrayRef) -> Result<Vec<usize>, VortexEr
     Ok(counts)
 }
 
-// Whether there are lists, of which each has the offset and the size of the first: those of
-// constants.
+// Whether there are lists, of which each has the offset and the size of the first, as the layouts
+// say.
 pub(crate) fn are_repeated(offsets: &ArrayRef, sizes: &ArrayRef) -> bool
     ensures { IsTrue result → AreRepeated offsets.now sizes.now }
 {
-    !offsets.is_empty()
-        && matches!(offsets.layout(), Layout::Constant { .. })
-        && matches!(sizes.layout(), Layout::Constant { .. })
+    is_repeated(offsets) && is_repeated(sizes)
+}
+
+// Whether there are rows, and the layout says that they are all one.
+pub(crate) fn is_repeated(array: &ArrayRef) -> bool
+    ensures some { IsTrue result → 0 < tree_len array.now }
+    ensures alike { IsTrue result → (i : ℕ) → row_at array.now i ≡ row_at array.now 0 }
+{
+    !array.is_empty() && has_one_row(array)
+}
+
+// Whether the layout says that all rows are one: those of a constant, and those that such codes
+// name.
+fn has_one_row(array: &ArrayRef) -> bool
+    ensures { IsTrue result → (i : ℕ) → row_at array.now i ≡ row_at array.now 0 }
+{
+    match array.layout() {
+        Layout::Constant { .. } => true,
+        Layout::Dict { codes, .. } => has_one_row(codes),
+        _ => false,
+    }
 }

@@ -3,12 +3,13 @@
 
 ghost use Rattle.std.specs.Prelude.{◌≡◌, ◌+◌, ◌*◌, ◌-◌, ◌≤◌, ◌^◌, ◌++◌, ◌∷◌, [], pos, length, sum, replicate};
 ghost use Rattle.std.specs.Prelude.{slice_range};
-ghost use Rattle.std.specs.List.{All};
+ghost use Rattle.std.specs.List.{All, flat_map};
 ghost use Rattle.vx_base.specs.Integers.{byte_width, Holds, numbers};
 ghost use Rattle.vx_base.specs.Refusals.{Gives};
+ghost use Rattle.vx_base.specs.Selections.{run_positions};
 ghost use Rattle.vx_lists.specs.ListViews.CountBytes.{counts_of, numbers_before, AreCountBytes, HoldCounts};
-ghost use Rattle.vx_lists.specs.ListViews.Layout.{starts_from, valid_sizes, valid_total};
-ghost use Rattle.vx_lists.specs.ListViews.PlannedRuns.{AreListBytes, AreListRuns};
+ghost use Rattle.vx_lists.specs.ListViews.Layout.{joined_positions, starts_from, valid_sizes, valid_total};
+ghost use Rattle.vx_lists.specs.ListViews.PlannedRuns.{AreListBytes};
 ghost use Rattle.vx_lists.specs.ListViews.{rebuilt_ptype};
 
 use crate::list_view::counts::count_of_bytes;
@@ -259,8 +260,8 @@ pub(crate) fn element_runs(
     sizes: &[u8],
 ) -> Result<Vec<(usize, usize)>, VortexError>
     requires { AreListBytes offset_type offsets.now size_type sizes.now }
-    ensures { Gives result (λ runs. AreListRuns
-        (counts_of offset_type offsets.now) (counts_of size_type sizes.now) runs.items) }
+    ensures { Gives result (λ runs. flat_map run_positions runs.items
+        ≡ joined_positions (counts_of offset_type offsets.now) (counts_of size_type sizes.now)) }
 {
     call_native!(offset_type, runs_from(alloc, offsets, size_type, sizes))
 }
@@ -272,8 +273,8 @@ fn runs_from<O: NativePType>(
     sizes: &[u8],
 ) -> Result<Vec<(usize, usize)>, VortexError>
     requires { AreListBytes O.PTYPE offsets.now size_type sizes.now }
-    ensures { Gives result (λ runs. AreListRuns
-        (counts_of O.PTYPE offsets.now) (counts_of size_type sizes.now) runs.items) }
+    ensures { Gives result (λ runs. flat_map run_positions runs.items
+        ≡ joined_positions (counts_of O.PTYPE offsets.now) (counts_of size_type sizes.now)) }
 {
     call_native!(size_type, typed_runs::<O>(alloc, offsets, sizes))
 }
@@ -285,8 +286,8 @@ fn typed_runs<O: NativePType, S: NativePType>(
     sizes: &[u8],
 ) -> Result<Vec<(usize, usize)>, VortexError>
     requires { AreListBytes O.PTYPE offsets.now S.PTYPE sizes.now }
-    ensures { Gives result (λ runs. AreListRuns
-        (counts_of O.PTYPE offsets.now) (counts_of S.PTYPE sizes.now) runs.items) }
+    ensures { Gives result (λ runs. flat_map run_positions runs.items
+        ≡ joined_positions (counts_of O.PTYPE offsets.now) (counts_of S.PTYPE sizes.now)) }
 {
     let count = number_count(offsets, O::PTYPE);
     let mut runs = Vec::new(alloc);

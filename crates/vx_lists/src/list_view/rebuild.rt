@@ -1,26 +1,24 @@
 // Rebuilding: the rows of a list view in another layout of the same lists.
 
 ghost use Rattle.std.specs.Prelude.{◌≡◌, ◌≢◌, ◌/◌, ◌==◌, ◌||◌, true, false, None, IfOk, nat_lt};
-ghost use Rattle.vx_base.specs.Refusals.{Gives, Refuses};
-ghost use Rattle.vx_tree.specs.Faults.{take_overflow};
+ghost use Rattle.vx_base.specs.Refusals.{Gives, Refuses, Tests};
 ghost use Rattle.vx_tree.specs.Meaning.{tree_len, rows};
 ghost use Rattle.vx_tree.specs.Operations.{IsSelected};
 ghost use Rattle.vx_lists.specs.declared.list_view.rebuild.ListViewRebuildMode.TheVariants.{MakeZeroCopyToList, TrimElements, MakeExact};
-ghost use Rattle.vx_lists.specs.ListViews.Faults.{rebuilt_total_fault, rebuild_overflow, rebuild_fault};
+ghost use Rattle.vx_lists.specs.ListViews.Faults.{rebuild_overflow, rebuild_fault};
 ghost use Rattle.vx_lists.specs.ListViews.References.{IsTrimmedToBounds};
-ghost use Rattle.vx_lists.specs.ListViews.{elements_of, flag_of, with_flag, valid_positions_of, IsRebuildPlan};
+ghost use Rattle.vx_lists.specs.ListViews.{elements_of, flag_of, with_flag, mask_of, total_of, valid_positions_of, IsRebuildPlan};
 ghost use Rattle.vx_lists.specs.ListViews.{IsRebuilt};
 ghost use Rattle.vx_lists.specs.ListViews.PlannedRuns.{ArePlannedRuns, ArePlannedPositions};
 
 use crate::list_view::array::ListViewArray;
 use crate::list_view::checks::check_total;
 use crate::list_view::counts::count_bytes;
-use crate::list_view::plan::{
-    RebuildPlan, element_runs, list_starts, rebuilt_ptype, valid_sizes, valid_total,
-};
+use crate::list_view::plan::{RebuildPlan, element_runs, list_starts, rebuilt_ptype, valid_sizes};
 use crate::list_view::positions::list_positions;
+use crate::list_view::totals::{is_countable, total_size};
 use std::alloc::Global;
-use vx_base::{Selection, VortexError};
+use vx_base::{Mask, Selection, VortexError};
 use vx_tree::{ArrayRef, Layout, TypedArray, Validity};
 
 /// How a list view is to be rebuilt.
@@ -38,30 +36,45 @@ pub enum ListViewRebuildMode {
 }
 
 impl ListViewArray {
-    // What is needed of the numbers, once both rebuilt types are known to hold the total of the
-    // valid sizes. Refuses `Overflow` where one does not.
+    // What is needed of the numbers. Refuses what `rebuilt_total` refuses, before any is listed.
     fn plan(&self, alloc: Global) -> Result<RebuildPlan, VortexError>
         ensures ok { IfOk result (λ plan. IsRebuildPlan self.now plan.offset_type plan.offsets
             plan.size_type plan.sizes plan.count) }
-        ensures refuses { Refuses result (rebuilt_total_fault self.now) }
+        ensures refuses { Refuses result (rebuild_overflow self.now) }
     {
         let parts = self.parts();
-        let offset_type = parts.offsets.dtype().as_ptype();
-        let size_type = parts.sizes.dtype().as_ptype();
         let mask = parts.validity.execute_mask(alloc, parts.offsets.len())?;
-        let sizes = count_bytes(alloc, parts.sizes)?;
-        let total = valid_total(size_type, sizes.as_slice(), &mask);
+        let count = self.rebuilt_total(&mask)?;
+        let size_type = parts.sizes.dtype().as_ptype();
         let rebuilt_type = rebuilt_ptype(size_type);
-        let count = check_total(rebuilt_ptype(offset_type), rebuilt_type, total)?;
+        let sizes = count_bytes(alloc, parts.sizes)?;
         let sizes = valid_sizes(alloc, size_type, &sizes, &mask, rebuilt_type)?;
         let offsets = count_bytes(alloc, parts.offsets)?;
         Ok(RebuildPlan {
-            offset_type,
+            offset_type: parts.offsets.dtype().as_ptype(),
             offsets,
             size_type: rebuilt_type,
             sizes,
             count,
         })
+    }
+
+    // How many elements the valid rows have in all, those of the mask. Refuses `Overflow` where a
+    // rebuilt type does not hold the total, or so many elements cannot be taken.
+    fn rebuilt_total(&self, mask: &Mask) -> Result<usize, VortexError>
+        requires { mask.now ≡ mask_of self.now }
+        ensures total { IfOk result (λ count. count ≡ total_of self.now) }
+        ensures tests { Tests result (rebuild_overflow self.now) }
+    {
+        let parts = self.parts();
+        let offset_type = rebuilt_ptype(parts.offsets.dtype().as_ptype());
+        let size_type = rebuilt_ptype(parts.sizes.dtype().as_ptype());
+        let total = total_size(parts.sizes, mask);
+        let count = check_total(offset_type, size_type, total)?;
+        if !is_countable(parts.elements, count) {
+            return Err(VortexError::Overflow);
+        }
+        Ok(count)
     }
 
     // The elements, and the runs of those of the plan.
@@ -118,17 +131,15 @@ impl ListViewArray {
     ) -> Result<ArrayRef, VortexError>
         requires plan { IsRebuildPlan self.now plan.now.offset_type plan.now.offsets
             plan.now.size_type plan.now.sizes plan.now.count }
-        requires fits { rebuilt_total_fault self.now ≡ None }
-        ensures selected { IfOk result
-            (IsSelected (elements_of self.now) (valid_positions_of self.now)) }
-        ensures refuses { Refuses result (rebuild_overflow self.now) }
+        requires countable { rebuild_overflow self.now ≡ None }
+        ensures { Gives result (IsSelected (elements_of self.now) (valid_positions_of self.now)) }
     {
         if by_runs {
             let (elements, runs) = self.planned_runs(alloc, plan)?;
-            return elements.take_runs(alloc, &runs);
+            return elements.select_within(alloc, &Selection::of_runs(&runs, plan.count));
         }
         let (elements, positions) = self.planned_positions(alloc, plan)?;
-        elements.select(alloc, &Selection::at_positions(&positions))
+        elements.select_within(alloc, &Selection::at_positions(&positions))
     }
 
     // Whether ranges of the elements are copied in any case: of numbers and of bits.
@@ -148,7 +159,7 @@ impl ListViewArray {
     ) -> Result<ListViewArray, VortexError>
         requires plan { IsRebuildPlan self.now plan.offset_type plan.offsets plan.size_type
             plan.sizes plan.count }
-        requires fits { rebuilt_total_fault self.now ≡ None }
+        requires countable { rebuild_overflow self.now ≡ None }
         requires elements { IsSelected (elements_of self.now) (valid_positions_of self.now)
             elements }
         ensures { Gives result (IsRebuilt self.now) }
@@ -171,7 +182,7 @@ impl ListViewArray {
     /// and no element is left over, a null row has the running offset and size 0, and the flag is
     /// set. Offsets become `u32` where they are `u8`, `u16` or `u32`, `i32` where they are `i8`,
     /// `i16` or `i32`, and stay `u64` or `i64`; sizes do the same, by their own type. The elements
-    /// are taken at once. Refuses `Overflow`, before an element is copied, where the total of the
+    /// are taken at once. Refuses `Overflow`, before anything is listed, where the total of the
     /// valid sizes passes the greatest number of the new offset type or of the new size type, or
     /// where taking that many elements is refused. Over the elements 1, 2, 3 the `i32` offsets 0, 1
     /// and `i16` sizes 3, 2 become the `i32` offsets 0, 3 and `i32` sizes 3, 2 over 1, 2, 3, 2, 3.

@@ -61,7 +61,8 @@ impl ListViewArray {
     }
 }
 
-// The elements that lists lie in which all have the offset and the size of the first.
+// The elements that lists lie in which all have the offset and the size of the first: one run, or
+// none where the first is empty.
 fn mark_first(
     alloc: Global,
     offsets: &ArrayRef,
@@ -78,9 +79,11 @@ fn mark_first(
 {
     let start = count_at(offsets, 0);
     let end = start + count_at(sizes, 0);
-    let mut marked = BitBufferMut::new_unset(alloc, count)?;
-    marked.fill_range(start, end, true);
-    Ok(Mask::from_buffer(alloc, marked.freeze()?)?)
+    let mut runs = Vec::new(alloc);
+    if start < end {
+        runs.push((start, end))?;
+    }
+    Ok(Mask::from_runs(count, runs))
 }
 
 // The elements that lists of these offsets and sizes lie in. Of a long list just the elements

@@ -1,4 +1,4 @@
-use Rattle.std.proofs.Common.{◌≡◌, sym, subst, ◌∙◌, ap}
+use Rattle.std.proofs.Common.{◌≡◌, replicate, refl, sym, subst, ◌∙◌, ap}
 use Rattle.std.specs.Prelude.{pos, ◌≤ℤ◌}
 use Rattle.std.specs.List.{All}
 use Rattle.vx_base.specs.Integers.{numbers}
@@ -8,6 +8,7 @@ use Rattle.vx_tree.specs.Tree.{primitive}
 use Rattle.vx_lists.specs.ListViews.{counts_in}
 use Rattle.vx_lists.proofs.ListViews.CountArrays.{number_bytes_read, counts_read}
 use Rattle.vx_lists.proofs.ListViews.CountBytes.{held_are_counts}
+use Rattle.vx_lists.proofs.ListViews.RepeatedCounts.{counts_in-repeated}
 use Rattle.vx_lists.proofs.list_view.counts.counts_of.Goals as goal
 
 pub read_counts-requires : goal.read_counts-requires
@@ -28,3 +29,8 @@ returns-in-Primitive c =
     let validity = valid_of c.in-Primitive.validity in
     let parts : a ≡ primitive ptype bytes validity = sym c.layout.ensures.parts ∙ ap tree_of c.in-Primitive.is in
     counts_read a ptype bytes validity c.in_ok-read_counts.field-0.items parts c.requires (c.in_ok-read_counts.ensures ∙ ap (numbers ptype) c.as_slice.ensures.value)
+
+pub returns-then-is_repeated : goal.returns-then-is_repeated
+returns-then-is_repeated c =
+    c.in_ok-vec.ensures.items_if_clones_equal (λ y h. h) ∙ ap (λ n. replicate n c.count_at.result) c.len.ensures
+    ∙ counts_in-repeated c.args.array.now c.count_at.result (c.if-is_repeated.ensures.alike refl) c.count_at.ensures.value

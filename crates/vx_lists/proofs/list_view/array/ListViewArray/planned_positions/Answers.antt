@@ -1,8 +1,6 @@
-use Rattle.std.proofs.Common.{length, sym, ◌∙◌, ap}
-use Rattle.vx_tree.specs.Faults.{take_overflow}
+use Rattle.std.proofs.Common.{◌∙◌}
 use Rattle.vx_tree.specs.Parts.{valid_of}
-use Rattle.vx_lists.specs.ListViews.{elements_of, valid_positions_of}
-use Rattle.vx_lists.proofs.ListViews.Plans.{planned_list_bytes, planned_sum, planned_positions, positions_below, overflow_of_take}
+use Rattle.vx_lists.proofs.ListViews.Plans.{planned_list_bytes, planned_sum, planned_positions, to_take}
 use Rattle.vx_lists.proofs.list_view.array.ListViewArray.planned_positions.Goals as goal
 
 pub list_positions-requires-clause-lists : goal.list_positions-requires-clause-lists
@@ -21,10 +19,7 @@ pub returns : goal.returns
 returns c =
     let parts = c.parts.result in
     let plan = c.args.plan.now in
-    let own = sym (ap elements_of c.parts.ensures.same) in
     record {
-      elements = own;
+      elements = to_take c.args.self.now parts.elements.now parts.offsets.now parts.sizes.now (valid_of parts.validity.now) parts.flag c.parts.ensures.same c.parts.ensures.formed;
       positions = c.in_ok-positions.ensures ∙ rw (c.as_slice.ensures.value, c.as_slice-2.ensures.value) (planned_positions c.args.self.now parts.elements.now parts.offsets.now parts.sizes.now (valid_of parts.validity.now) parts.flag c.parts.ensures.same c.parts.ensures.formed plan.offset_type plan.size_type plan.offsets plan.sizes plan.count c.requires);
-      within = positions_below c.args.self.now parts.elements.now parts.offsets.now parts.sizes.now (valid_of parts.validity.now) parts.flag c.parts.ensures.same c.parts.ensures.formed;
-      overflow = λ none. ap (λ e. take_overflow e (length (valid_positions_of c.args.self.now))) own ∙ overflow_of_take c.args.self.now parts.elements.now parts.offsets.now parts.sizes.now (valid_of parts.validity.now) parts.flag c.parts.ensures.same c.parts.ensures.formed none;
     }

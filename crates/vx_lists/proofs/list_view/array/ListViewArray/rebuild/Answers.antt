@@ -1,7 +1,7 @@
 use Rattle.std.proofs.Common.{sym}
 use Rattle.std.proofs.lemmas.Bool.{eqb-true}
 use Rattle.vx_tree.specs.Meaning.{tree_len}
-use Rattle.vx_lists.proofs.ListLaws.AlikeViews.{no_rows_follow}
+use Rattle.vx_lists.proofs.ListViews.AlikeViews.{no_rows_follow}
 use Rattle.vx_lists.proofs.list_view.array.ListViewArray.rebuild.Goals as goal
 
 pub with_flag-requires : goal.with_flag-requires

@@ -15,7 +15,7 @@ pub list_starts-requires-clause-holds : goal.list_starts-requires-clause-holds
 list_starts-requires-clause-holds c =
     let parts = c.parts.result in
     let plan = c.args.plan in
-    rw (c.rebuilt_ptype-offset_type.ensures, c.as_slice.ensures.value) (planned_starts_held c.args.self.now parts.elements.now parts.offsets.now parts.sizes.now (valid_of parts.validity.now) parts.flag c.parts.ensures.same c.parts.ensures.formed plan.offset_type plan.size_type plan.offsets plan.sizes plan.count c.requires.plan c.requires.fits)
+    rw (c.rebuilt_ptype-offset_type.ensures, c.as_slice.ensures.value) (planned_starts_held c.args.self.now parts.elements.now parts.offsets.now parts.sizes.now (valid_of parts.validity.now) parts.flag c.parts.ensures.same c.parts.ensures.formed plan.offset_type plan.size_type plan.offsets plan.sizes plan.count c.requires.plan c.requires.countable)
 
 pub list_view-requires : goal.list_view-requires
 list_view-requires c =

@@ -1,4 +1,0 @@
-pub mod RebuiltAlike
-pub mod ExactViews
-pub mod AlikeViews
-pub mod RebuiltTwice

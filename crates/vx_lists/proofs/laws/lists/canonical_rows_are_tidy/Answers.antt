@@ -1,5 +1,0 @@
-use Rattle.vx_lists.proofs.ListViews.TidyLayouts.{canonical_tidy}
-use Rattle.vx_lists.proofs.laws.lists.canonical_rows_are_tidy.Goals as goal
-
-pub returns : goal.returns
-returns c = λ rows. canonical_tidy rows

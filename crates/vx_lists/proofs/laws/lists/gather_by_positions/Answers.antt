@@ -1,5 +1,0 @@
-use Rattle.vx_lists.proofs.ListViews.MappedLayouts.{canonical-position_rows}
-use Rattle.vx_lists.proofs.laws.lists.gather_by_positions.Goals as goal
-
-pub returns : goal.returns
-returns g c = λ l d well. canonical-position_rows l d well
