@@ -1,14 +1,14 @@
 -- The plain layout at every depth.
-use Rattle.std.proofs.Common.{ℕ, ◌<◌, ◌*◌, ◌≡◌, Bool, true, false, List, [], ◌∷◌, length, take, Option, None, refl, sym, ◌∙◌, ap, subst, arith}
+use Rattle.std.proofs.Common.{ℕ, ◌*◌, ◌≡◌, Bool, true, false, List, [], ◌∷◌, refl, sym, ◌∙◌, ap, subst, arith}
 use Rattle.std.specs.Prelude.{Result, Ok, Err, IfOk, if◌then◌else◌}
 use Rattle.std.specs.List.{AllZip}
 use Rattle.std.specs.Global.{Vec}
 use Rattle.vx_base.specs.declared.errors.VortexError.{VortexError}
-use Rattle.vx_base.specs.Kinds.{fixed_lists, records, is_nullable_kind}
-use Rattle.vx_base.specs.Rows.{Row, Rows, Fields, null, items, record_of, is_present}
+use Rattle.vx_base.specs.Kinds.{Kind, fixed_lists, records, is_nullable_kind}
+use Rattle.vx_base.specs.Rows.{Rows, Fields, null, items, record_of}
 use Rattle.vx_tree.specs.Tree.{Tree, bools, primitive, constant, dictionary, fixed_list, list_view, structure, view_array, Trees, no_trees, tree, Valid}
-use Rattle.vx_tree.specs.Meaning.{tree_len, kind_of, kinds_of, row_at, fields_at, rows_range, is_valid_at, nullable, trees_from}
-use Rattle.vx_tree.specs.Shapes.{State, never_null, none_null, every_null, told, Shape, bool_shape, primitive_shape, constant_shape, dictionary_shape, fixed_list_shape, list_view_shape, struct_shape, view_shape, state_of, shape_of, selected_shape, nulled_constant, nulled_shape}
+use Rattle.vx_tree.specs.Meaning.{kind_of, kinds_of, row_at, fields_at, rows_range, is_valid_at, trees_from}
+use Rattle.vx_tree.specs.Shapes.{State, never_null, none_null, every_null, told, Shape, bool_shape, primitive_shape, constant_shape, dictionary_shape, fixed_list_shape, list_view_shape, struct_shape, view_shape, state_of, shape_of, selected_shape, nulled_shape}
 use Rattle.vx_tree.specs.Layouts.{is_leaf, is_constant}
 use Rattle.vx_tree.specs.Formed.{WellFormed, ValidFits}
 use Rattle.vx_tree.specs.Fitting.{AllFormed}
@@ -100,8 +100,8 @@ plain_like t r ps h = record { kind = h.kind; plain = h.plain; state = h.state; 
 pub fixed_lists_picked : (t r e d : Tree) (k n m : ℕ) (v w : Valid) (qs : List ℕ) → t ≡ fixed_list e k v n → r ≡ fixed_list d k w m → IsCanonicalAt e qs d → IsPickedWithin e d → IsPickedWithin t r
 fixed_lists_picked t r e d k n m v w qs a b x y = rw (a, b) (plain_like e d qs x, y)
 
-pub lists_picked : (t r e o s d p q : Tree) (v w : Valid) (f g : Bool) → t ≡ list_view e o s v f → r ≡ list_view d p q w g → IsCanonical e d → IsCanonicalWithin e d → IsPickedWithin t r
-lists_picked t r e o s d p q v w f g a b x y = rw (a, b) (x, y)
+pub lists_picked : (t r e o s d p q : Tree) (v w : Valid) (f g : Bool) → t ≡ list_view e o s v f → r ≡ list_view d p q w g → IsCanonical e d → IsCanonicalWithin e d → kind_of p ≡ kind_of o → kind_of q ≡ kind_of s → IsPickedWithin t r
+lists_picked t r e o s d p q v w f g a b x y z h = rw (a, b) (x, y, z, h)
 
 pub records_picked : (t r : Tree) (ns ms : List (List ℕ)) (ts us : Trees) (v w : Valid) (n m : ℕ) → t ≡ structure ns ts v n → r ≡ structure ms us w m → ArePickedWithin ts us → IsPickedWithin t r
 records_picked t r ns ms ts us v w n m a b x = rw (a, b) x
@@ -125,7 +125,8 @@ same_parts_picked (dictionary c v f) s r h p = λ some. same_parts_picked v s r 
 same_parts_picked (fixed_list e k v n) (fixed_list d j w m) (fixed_list g l x o) h p = subst (λ y. IsPlainLike e y × IsPickedWithin e y) (sym p) h
 same_parts_picked (fixed_list e k v n) (fixed_list d j w m) _ h p = absurd p
 same_parts_picked (fixed_list e k v n) _ r h p = absurd h
-same_parts_picked (list_view e o s v f) (list_view d y z w g) (list_view i j k x l) h p = subst (λ y. IsCanonical e y × IsCanonicalWithin e y) (sym p) h
+same_parts_picked (list_view e o s v f) (list_view d y z w g) (list_view i j k x l) h p =
+    (subst (IsCanonical e) (sym p.0) h.0, subst (IsCanonicalWithin e) (sym p.0) h.1, p.1 ∙ h.2, p.2 ∙ h.3)
 same_parts_picked (list_view e o s v f) (list_view d y z w g) _ h p = absurd p
 same_parts_picked (list_view e o s v f) _ r h p = absurd h
 same_parts_picked (structure ns ts v n) (structure ms us w m) (structure ls ws x o) h p = subst (ArePickedWithin ts) (sym p) h
@@ -249,6 +250,15 @@ abbrev shape_elements : Tree → Shape → Tree
 shape_elements d (list_view_shape e o z s f) = e
 shape_elements d _ = d
 
+-- the types of offsets and sizes that a shape tells
+abbrev shape_offsets : Kind → Shape → Kind
+shape_offsets k (list_view_shape e o z s f) = o
+shape_offsets k _ = k
+
+abbrev shape_sizes : Kind → Shape → Kind
+shape_sizes k (list_view_shape e o z s f) = z
+shape_sizes k _ = k
+
 -- other layouts
 pub parts_nulled : (s q : Tree) (u : Valid) → IsNulled s u q → (layout_of q ≡ 1 → ⊥) → (layout_of q ≡ 2 → ⊥) → HasPartsOf s q
 parts_nulled (bools b bits v) q u h one two = tt
@@ -257,7 +267,8 @@ parts_nulled (constant k x n) q u h one two = tt
 parts_nulled (dictionary c v f) q u h one two = tt
 parts_nulled (fixed_list e k v n) q u h one two = absurd (one (nulled_layout (fixed_list e k v n) q u h))
 parts_nulled (structure ns ts v n) q u h one two = absurd (two (nulled_layout (structure ns ts v n) q u h))
-parts_nulled (list_view e o s v f) (list_view d p z w g) u h one two = ap (shape_elements e) h.shape
+parts_nulled (list_view e o s v f) (list_view d p z w g) u h one two =
+    (ap (shape_elements e) h.shape, ap (shape_offsets (kind_of o)) h.shape, ap (shape_sizes (kind_of s)) h.shape)
 parts_nulled (list_view e o s v f) q u h one two = let x = nulled_layout (list_view e o s v f) q u h in absurd (omega (arith, x))
 parts_nulled (view_array vs bs k v) (view_array ws cs j w) u h one two = ap shape_buffers h.shape
 parts_nulled (view_array vs bs k v) q u h one two = let x = nulled_layout (view_array vs bs k v) q u h in absurd (omega (arith, x))

@@ -1,5 +1,5 @@
 -- Arrays that are concatenated: in plain layout they have their kinds and their rows.
-use Rattle.std.proofs.Common.{ℕ, zero, suc, ◌+◌, ◌-◌, ◌<◌, ◌≡◌, Bool, true, false, List, [], ◌∷◌, length, map, get_or, drop, refl, sym, ◌∙◌, ap, subst, inl, inr, Option, Some, None, arith}
+use Rattle.std.proofs.Common.{ℕ, zero, suc, ◌+◌, ◌-◌, ◌^◌, ◌<◌, ◌≡◌, Bool, true, false, List, [], ◌∷◌, length, map, get_or, drop, refl, sym, ◌∙◌, ap, subst, inl, inr, Option, Some, None, arith}
 use Rattle.std.specs.Prelude.{◌&&◌, not, if◌then◌else◌, Result, Ok, Err, IfOk}
 use Rattle.std.specs.List.{All, AllZip, flat_map}
 use Rattle.std.proofs.lemmas.Bool.{cases_lt}
@@ -8,7 +8,7 @@ use Rattle.vx_base.specs.Kinds.{Kind, integers, is_integers}
 use Rattle.vx_base.specs.SameKind.{kind_eq, kind_eq-Decides}
 use Rattle.vx_base.specs.Rows.{Row, null}
 use Rattle.vx_base.specs.Booleans.{count_fault}
-use Rattle.vx_base.specs.Refusals.{Refusal, or_else, IsMemoryOr, differing_dtypes, overflow}
+use Rattle.vx_base.specs.Refusals.{Refusal, Gives, Refuses, refusal_of, or_else, IsMemoryOr, differing_dtypes, overflow}
 use Rattle.vx_base.specs.declared.errors.VortexError.{VortexError}
 use Rattle.vx_base.specs.declared.ptypes.PType.{PType}
 use Rattle.vx_tree.specs.Tree.{Tree, primitive}
@@ -18,16 +18,16 @@ use Rattle.vx_tree.specs.Shapes.{tree_state}
 use Rattle.vx_tree.specs.Plain.{IsPlain}
 use Rattle.vx_tree.specs.Fitting.{AllFormed}
 use Rattle.vx_canonical.specs.Canonical.{IsCanonical, IsCanonicalWithin}
-use Rattle.vx_tree.specs.CanonicalFaults.{plain_overflow, columns_fault}
+use Rattle.vx_tree.specs.CanonicalFaults.{columns_fault}
 use Rattle.vx_tree.specs.Flags.{is_flagged}
-use Rattle.vx_canonical.specs.Joined.{joined_len, joined_state, joined_states, joined_row, parts_join_fault, join_fault, IsJoined, AreJoinable, HasJoinedNumbers}
+use Rattle.vx_canonical.specs.Joinable.{AreJoinable}
+use Rattle.vx_canonical.specs.Joined.{joined_len, joined_state, joined_states, joined_row, IsJoined, HasJoinedNumbers}
 use Rattle.vx_tree.specs.Extents.{extent_of, joined_extent}
 use Rattle.vx_canonical.specs.Concatenated.{are_alike, given_fault, extents_fault, plain_fault, concat_fault, HasPlainNumbers, HasNumbersOf}
 use Rattle.vx_tree.proofs.RowLists.{length-rows, get_or-rows}
 use Rattle.vx_canonical.proofs.JoinedRows.{length-joined, joined_item, joined_same, joined-here, joined-later}
-use Rattle.vx_canonical.proofs.JoinedExtents.{extents_fault-of}
 use Rattle.vx_canonical.proofs.JoinedNumbers.{columns_faultless}
-use Rattle.vx_canonical.proofs.Overflows.{columns_only, or_later, too_many_rows}
+use Rattle.vx_canonical.proofs.Overflows.{IsOverflow, columns_only, extents_only}
 use Rattle.vx_tree.proofs.Dictionaries.{memory_only}
 
 -- ---- kinds
@@ -48,7 +48,7 @@ alike_kinds k (t ∷ ts) e =
     first_and_rest (λ u. kind_of u ≡ k) t ts ((kind_eq-Decides (kind_of t) k).0 both.0) (alike_kinds k ts both.1)
 
 -- one array more
-pub alike-step : (k : Kind) (ts : List Tree) (i : ℕ) (t : Tree) → i < length ts → t ≡ get_or ts i t → are_alike k (drop i ts) ≡ (kind_eq (kind_of t) k && are_alike k (drop (i + 1) ts))
+alike-step : (k : Kind) (ts : List Tree) (i : ℕ) (t : Tree) → i < length ts → t ≡ get_or ts i t → are_alike k (drop i ts) ≡ (kind_eq (kind_of t) k && are_alike k (drop (i + 1) ts))
 alike-step k ts i t inside same = at_drop_more (are_alike k) ts i t inside ∙ ap (λ u. are_alike k (u ∷ drop (i + 1) ts)) (sym same)
 
 -- no other kind is found
@@ -80,15 +80,7 @@ plain_each k ts ps h same = λ i d l. each ts ps h same i d l
     each (u ∷ us) (q ∷ qs) h all zero d l = (h.0.plain, h.0.same.kind ∙ all 0 d (omega arith))
     each (u ∷ us) (q ∷ qs) h all (suc i) d l = each us qs h.1 (λ j c m. all (suc j) c (omega arith)) i d (omega arith)
 
-pub plain_joinable : (k : Kind) (ts ps : List Tree) → AllZip IsCanonical ts ps → All (λ t. kind_of t ≡ k) ts → All AllFormed ps → AreJoinable k ps
-plain_joinable k ts ps h same formed =
-    record {
-      plain = λ i d l. (plain_each k ts ps h same i d l).0;
-      formed = formed;
-      alike = λ i d l. (plain_each k ts ps h same i d l).1;
-    }
-
-pub plain_len : (ts ps : List Tree) → AllZip IsCanonical ts ps → joined_len ps ≡ joined_len ts
+plain_len : (ts ps : List Tree) → AllZip IsCanonical ts ps → joined_len ps ≡ joined_len ts
 plain_len [] [] h = refl
 plain_len [] (p ∷ ps) h = absurd h
 plain_len (t ∷ ts) [] h = absurd h
@@ -133,11 +125,24 @@ rows_joined k ts r joined =
     get_or-rows r i d m ∙ joined.rows i n ∙ rows_listed ts i d n)
 
 -- the extents are those in plain layout
-pub extents_same : (ts ps : List Tree) → AllZip IsCanonical ts ps → map extent_of ps ≡ map extent_of ts
+extents_same : (ts ps : List Tree) → AllZip IsCanonical ts ps → map extent_of ps ≡ map extent_of ts
 extents_same [] [] h = refl
 extents_same [] (p ∷ ps) h = absurd h
 extents_same (t ∷ ts) [] h = absurd h
 extents_same (t ∷ ts) (p ∷ ps) h = let rest = extents_same ts ps h.1 in λ i. h.0.extent i ∷ rest i
+
+-- and they can be joined where these can be counted
+pub plain_joinable : (k : Kind) (ts ps : List Tree) → AllZip IsCanonical ts ps → All (λ t. kind_of t ≡ k) ts → All AllFormed ps → joined_len ts < 2 ^ 64 → extents_fault k (joined_len ts) (map extent_of ts) ≡ None → AreJoinable k ps
+plain_joinable k ts ps h same formed short fits =
+    let long = plain_len ts ps h in
+    let extents = extents_same ts ps h in
+    record {
+      plain = λ i d l. (plain_each k ts ps h same i d l).0;
+      formed = formed;
+      alike = λ i d l. (plain_each k ts ps h same i d l).1;
+      short = subst (λ n. n < 2 ^ 64) (sym long) short;
+      fits = (λ i. extents_fault k (long i) (extents i)) ∙ fits;
+    }
 
 -- plain layouts that are joined are the arrays joined
 plain_joined : (k : Kind) (ts ps : List Tree) (r : Tree) → AllZip IsCanonical ts ps → IsJoined k ps r → IsJoined k ts r
@@ -163,42 +168,41 @@ given_alike (u ∷ ts) t l e h =
     let yes : are_alike (kind_of u) (u ∷ ts) ≡ true = subst (λ x. are_alike (kind_of x) (u ∷ ts) ≡ true) e h in
     ap (λ b. or_else (if b then None else Some differing_dtypes) (or_else (count_fault (joined_len (u ∷ ts))) (columns_fault (trees_from (u ∷ ts))))) yes
 
-pub given_none : (ts : List Tree) (t : Tree) → 0 < length ts → t ≡ get_or ts 0 t → are_alike (kind_of t) ts ≡ true → count_fault (joined_len ts) ≡ None → columns_fault (trees_from ts) ≡ None → given_fault ts ≡ None
-given_none ts t l first h none plain = given_alike ts t l first h ∙ ap (λ f. or_else f (columns_fault (trees_from ts))) none ∙ plain
-
--- a fault of what is given comes first
-first_fault : (a b : Option Refusal) (e : VortexError) → IsMemoryOr a e → IsMemoryOr (or_else a b) e
-first_fault a b e (inl memory) = inl memory
-first_fault None b e (inr same) = inl (memory_only None e refl (inr same))
-first_fault (Some r) b e (inr same) = inr same
+given_rows : (ts : List Tree) (t : Tree) → 0 < length ts → t ≡ get_or ts 0 t → are_alike (kind_of t) ts ≡ true → count_fault (joined_len ts) ≡ None → given_fault ts ≡ columns_fault (trees_from ts)
+given_rows ts t l first h none = given_alike ts t l first h ∙ ap (λ f. or_else f (columns_fault (trees_from ts))) none
 
 plain_fault-first : (ts : List Tree) (t : Tree) → 0 < length ts → t ≡ get_or ts 0 t → extents_fault (kind_of t) (joined_len ts) (map extent_of ts) ≡ plain_fault ts
 plain_fault-first [] t l e = absurd (omega arith)
 plain_fault-first (u ∷ ts) t l e = ap (λ x. extents_fault (kind_of x) (joined_len (u ∷ ts)) (map extent_of (u ∷ ts))) e
 
--- and so is the fault of joining them
-pub join_fault-concat : (ts ps : List Tree) (t : Tree) (k : Kind) → AllZip IsCanonical ts ps → AreJoinable k ps → k ≡ kind_of t → 0 < length ts → t ≡ get_or ts 0 t → count_fault (joined_len ts) ≡ None → given_fault ts ≡ None → join_fault k ps ≡ concat_fault ts
-join_fault-concat ts ps t k h joinable same l first short none =
-    let long = plain_len ts ps h in
-    let extents = extents_same ts ps h in
-    let few : count_fault (joined_len ps) ≡ None = ap count_fault long ∙ short in
-    ap (λ f. or_else f (parts_join_fault k ps)) few ∙ extents_fault-of k ps joinable few ∙ (λ i. extents_fault (same i) (long i) (extents i)) ∙ plain_fault-first ts t l first
-    ∙ sym (ap (λ f. or_else f (plain_fault ts)) none)
+-- what is found of the rows, or of the elements and the buffers, before any array is made plain
+pub rows_refuse : (ts : List Tree) (t : Tree) → 0 < length ts → t ≡ get_or ts 0 t → are_alike (kind_of t) ts ≡ true → count_fault (joined_len ts) ≡ None → columns_fault (trees_from ts) ≡ Some overflow → concat_fault ts ≡ Some overflow
+rows_refuse ts t l first alike none many = ap (λ f. or_else f (plain_fault ts)) (given_rows ts t l first alike none ∙ many)
 
--- of lists of one size the rows alone tell that they have too many elements
-pub rows_refused : (ts : List Tree) (t : Tree) (countable : Bool) → 0 < length ts → t ≡ get_or ts 0 t → are_alike (kind_of t) ts ≡ true → count_fault (joined_len ts) ≡ None
-    → plain_overflow (kind_of t) (joined_len ts) ≡ (if countable then None else Some overflow) → countable ≡ false → concat_fault ts ≡ Some overflow
-rows_refused ts t countable l first alike none told not_so =
-    let many : plain_overflow (kind_of t) (joined_len ts) ≡ Some overflow = told ∙ ap (λ (b : Bool). if b then None else Some overflow) not_so in
-    let extents : plain_fault ts ≡ Some overflow = sym (plain_fault-first ts t l first) ∙ too_many_rows (kind_of t) (joined_len ts) (map extent_of ts) many in
-    let given : given_fault ts ≡ columns_fault (trees_from ts) = given_alike ts t l first alike ∙ ap (λ f. or_else f (columns_fault (trees_from ts))) none in
-    ap (λ f. or_else f (plain_fault ts)) given ∙ or_later (columns_fault (trees_from ts)) (plain_fault ts) (columns_only (trees_from ts)) extents
+either_refuses : (a b : Option Refusal) (e : VortexError) → IsOverflow a → IsOverflow b → b ≡ refusal_of e → IsMemoryOr (or_else a b) e
+either_refuses a b e (inl none) h same = inr (ap (λ f. or_else f b) none ∙ same)
+either_refuses a b e (inr some) (inl none) same = inl (memory_only None e refl (inr (sym none ∙ same)))
+either_refuses a b e (inr some) (inr overflows) same = inr (ap (λ f. or_else f b) some ∙ sym overflows ∙ same)
+
+pub extents_refuse : (ts : List Tree) (t : Tree) (e : VortexError) → 0 < length ts → t ≡ get_or ts 0 t → are_alike (kind_of t) ts ≡ true → count_fault (joined_len ts) ≡ None
+    → IsMemoryOr (extents_fault (kind_of t) (joined_len ts) (map extent_of ts)) e → IsMemoryOr (concat_fault ts) e
+extents_refuse ts t e l first alike none (inl memory) = inl memory
+extents_refuse ts t e l first alike none (inr same) =
+    let given = given_rows ts t l first alike none in
+    let extents = plain_fault-first ts t l first in
+    either_refuses (given_fault ts) (plain_fault ts) e (subst IsOverflow (sym given) (columns_only (trees_from ts)))
+    (subst IsOverflow extents (extents_only (kind_of t) (joined_len ts) (map extent_of ts))) (sym extents ∙ same)
+
+-- and where none is
+pub concat_faultless : (ts : List Tree) (t : Tree) → 0 < length ts → t ≡ get_or ts 0 t → are_alike (kind_of t) ts ≡ true → count_fault (joined_len ts) ≡ None → columns_fault (trees_from ts) ≡ None
+    → extents_fault (kind_of t) (joined_len ts) (map extent_of ts) ≡ None → concat_fault ts ≡ None
+concat_faultless ts t l first alike none plain extents =
+    ap (λ f. or_else f (plain_fault ts)) (given_rows ts t l first alike none ∙ plain) ∙ sym (plain_fault-first ts t l first) ∙ extents
 
 -- numbers have none, where they can be counted
 pub numbers_concatenated : (ts : List Tree) (t : Tree) (p : PType) (n : Bool) → kind_of t ≡ integers p n → 0 < length ts → t ≡ get_or ts 0 t → are_alike (kind_of t) ts ≡ true → count_fault (joined_len ts) ≡ None → concat_fault ts ≡ None
 numbers_concatenated ts t p n kind l first alike none =
-    let plain = columns_faultless ts (kind_of t) (ap is_integers kind) (alike_kinds (kind_of t) ts alike) in
-    ap (λ f. or_else f (plain_fault ts)) (given_none ts t l first alike none plain) ∙ sym (plain_fault-first ts t l first) ∙ ap (λ k. extents_fault k (joined_len ts) (map extent_of ts)) kind
+    concat_faultless ts t l first alike none (columns_faultless ts (kind_of t) (ap is_integers kind) (alike_kinds (kind_of t) ts alike)) (ap (λ k. extents_fault k (joined_len ts) (map extent_of ts)) kind)
 
 -- ---- what is answered
 
@@ -212,27 +216,31 @@ first_plain ts ps t p h alike l e = subst IsPlain (sym e) (plain_each (kind_of t
 pub kinds_of_first : (ts ps : List Tree) (t p : Tree) → AllZip IsCanonical ts ps → are_alike (kind_of t) ts ≡ true → 0 < length ps → p ≡ get_or ps 0 p → All (λ u. kind_of u ≡ kind_of p) ts
 kinds_of_first ts ps t p h alike l e = subst (λ k. All (λ u. kind_of u ≡ k) ts) (sym (first_kind ts ps t p h alike l e)) (alike_kinds (kind_of t) ts alike)
 
-pub ok_rows : (r : Result Tree VortexError) (k : Kind) (ts ps : List Tree) → AllZip IsCanonical ts ps → IfOk r (IsJoined k ps) → IfOk r (λ a. rows a ≡ flat_map rows ts)
+pub ok_refuses : (r : Result Tree VortexError) (k : Kind) (ts ps : List Tree) → concat_fault ts ≡ None → Gives r (IsJoined k ps) → Refuses r (concat_fault ts)
+ok_refuses (Ok a) k ts ps none joined = none
+ok_refuses (Err e) k ts ps none memory = inl memory
+
+pub ok_rows : (r : Result Tree VortexError) (k : Kind) (ts ps : List Tree) → AllZip IsCanonical ts ps → Gives r (IsJoined k ps) → IfOk r (λ a. rows a ≡ flat_map rows ts)
 ok_rows (Ok a) k ts ps h joined = rows_concatenated k ts ps a h joined
 ok_rows (Err e) k ts ps h joined = tt
 
-pub ok_kind : (r : Result Tree VortexError) (k : Kind) (ts ps : List Tree) → All (λ t. kind_of t ≡ k) ts → IfOk r (IsJoined k ps) → IfOk r (λ a. All (λ t. kind_of t ≡ kind_of a) ts)
+pub ok_kind : (r : Result Tree VortexError) (k : Kind) (ts ps : List Tree) → All (λ t. kind_of t ≡ k) ts → Gives r (IsJoined k ps) → IfOk r (λ a. All (λ t. kind_of t ≡ kind_of a) ts)
 ok_kind (Ok a) k ts ps same joined = λ i d l. same i d l ∙ sym joined.kind
 ok_kind (Err e) k ts ps same joined = tt
 
-pub ok_plain : (r : Result Tree VortexError) (k : Kind) (ps : List Tree) → IfOk r (IsJoined k ps) → IfOk r IsPlain
+pub ok_plain : (r : Result Tree VortexError) (k : Kind) (ps : List Tree) → Gives r (IsJoined k ps) → IfOk r IsPlain
 ok_plain (Ok a) k ps joined = joined.plain
 ok_plain (Err e) k ps joined = tt
 
-pub ok_state : (r : Result Tree VortexError) (k : Kind) (ts ps : List Tree) → AllZip IsCanonical ts ps → 0 < length ps → IfOk r (IsJoined k ps) → IfOk r (λ a. tree_state a ≡ joined_state ts)
+pub ok_state : (r : Result Tree VortexError) (k : Kind) (ts ps : List Tree) → AllZip IsCanonical ts ps → 0 < length ps → Gives r (IsJoined k ps) → IfOk r (λ a. tree_state a ≡ joined_state ts)
 ok_state (Ok a) k ts ps h some joined = joined.state some ∙ plain_states ts ps h
 ok_state (Err e) k ts ps h some joined = tt
 
-pub ok_extent : (r : Result Tree VortexError) (k : Kind) (ts ps : List Tree) → AllZip IsCanonical ts ps → IfOk r (IsJoined k ps) → IfOk r (λ a. extent_of a ≡ joined_extent (kind_of a) (map extent_of ts))
+pub ok_extent : (r : Result Tree VortexError) (k : Kind) (ts ps : List Tree) → AllZip IsCanonical ts ps → Gives r (IsJoined k ps) → IfOk r (λ a. extent_of a ≡ joined_extent (kind_of a) (map extent_of ts))
 ok_extent (Ok a) k ts ps h joined = (plain_joined k ts ps a h joined).extent ∙ ap (λ j. joined_extent j (map extent_of ts)) (sym joined.kind)
 ok_extent (Err e) k ts ps h joined = tt
 
-pub ok_flag : (r : Result Tree VortexError) (k : Kind) (ps : List Tree) → IfOk r (IsJoined k ps) → IfOk r (λ a. is_flagged a ≡ false)
+pub ok_flag : (r : Result Tree VortexError) (k : Kind) (ps : List Tree) → Gives r (IsJoined k ps) → IfOk r (λ a. is_flagged a ≡ false)
 ok_flag (Ok a) k ps joined = joined.flag
 ok_flag (Err e) k ps joined = tt
 

@@ -1,28 +1,27 @@
--- The parts of plain arrays of one kind, and the faults of joining them.
-use Rattle.std.proofs.Common.{ℕ, zero, suc, ◌+◌, ◌<◌, ◌≤◌, ◌≡◌, ◌++◌, Bool, true, false, List, [], ◌∷◌, length, map, take, get_or, Option, Some, None, refl, sym, ◌∙◌, ap, subst, inl, inr, arith}
-use Rattle.std.specs.List.{All}
+-- The parts of plain arrays of one kind.
+use Rattle.std.proofs.Common.{ℕ, zero, suc, ◌+◌, ◌*◌, ◌^◌, ◌<◌, ◌≤◌, ◌≡◌, ◌++◌, Bool, true, false, List, [], ◌∷◌, length, map, take, get_or, None, refl, sym, ◌∙◌, ap, subst, arith}
+use Rattle.std.specs.List.{All, sum_by}
 use Rattle.std.proofs.lemmas.List.{take_more, take_all, length-map, length-take-le, get_or-map}
-use Rattle.vx_base.specs.declared.errors.VortexError.{VortexError}
-use Rattle.vx_base.specs.Refusals.{Refusal, refusal_of, IsMemoryOr, Names, or_else}
+use Rattle.vx_base.proofs.FirstFaults.{or_else-none}
+use Rattle.vx_base.specs.Booleans.{count_fault}
+use Rattle.vx_base.specs.Refusals.{or_else}
 use Rattle.vx_base.specs.Kinds.{Kind, lists, fixed_lists, records, Kinds, no_kinds, kind}
 use Rattle.vx_tree.specs.Tree.{Tree, bools, primitive, constant, dictionary, fixed_list, list_view, structure, view_array, Trees, no_trees, tree}
 use Rattle.vx_tree.specs.Layouts.{is_fixed_list, is_list_view, is_struct}
 use Rattle.vx_tree.specs.Meaning.{kind_of, kinds_of, trees_from, is_texts}
-use Rattle.vx_tree.specs.Formed.{value_kind}
+use Rattle.vx_tree.specs.Formed.{value_kind, column_count}
 use Rattle.vx_tree.specs.Fitting.{AllFormed, ColumnsFormed}
 use Rattle.vx_tree.specs.Plain.{IsPlain, ArePlain}
-use Rattle.vx_tree.specs.CanonicalFaults.{buffers_overflow}
-use Rattle.vx_canonical.specs.Joined.{IsJoined, AreFixedLists, AreLists, AreRecords, AreValues, joined_buffers, AreJoinable, AreColumnsJoinable, AreColumnsJoined, elements_in, columns_in, column_of, column_at, parts_join_fault, columns_join_fault, join_fault, HasJoinedNumbers, HaveJoinedNumbers}
+use Rattle.vx_tree.specs.Extents.{Extent, extent_of, buffer_count, element_count, elements_extent, column_extent}
+use Rattle.vx_canonical.specs.Concatenated.{extents_fault, fields_extents_fault}
+use Rattle.vx_canonical.specs.Joinable.{AreJoinable, AreColumnsJoinable}
+use Rattle.vx_canonical.specs.Joined.{joined_len, IsJoined, AreFixedLists, AreLists, AreRecords, AreValues, joined_buffers, AreColumnsJoined, elements_in, columns_in, column_of, column_at, HasJoinedNumbers, HaveJoinedNumbers}
+use Rattle.vx_canonical.proofs.Counted.{within_count}
+use Rattle.vx_canonical.proofs.ExtentParts.{list_elements, fixed_list_elements, column_extent-of, parts_of_each, elements_of_each, buffers_of_each}
 use Rattle.vx_canonical.proofs.JoinedKinds.{fixed_lists_of_kind, lists_of_kind, records_of_kind}
-use Rattle.vx_canonical.proofs.JoinedRecords.{count_of_list}
-use Rattle.vx_canonical.proofs.JoinedViews.{values_of_kind}
-use Rattle.vx_tree.proofs.Dictionaries.{memory_only}
-
--- ---- faults
-
-pub first_named : (a b : Option Refusal) (e : VortexError) → Names a e → IsMemoryOr (or_else a b) e
-first_named None b e h = inl (memory_only None e refl (inr h.1))
-first_named (Some r) b e h = inr h.1
+use Rattle.vx_canonical.proofs.JoinedLists.{fixed_elements}
+use Rattle.vx_canonical.proofs.JoinedRecords.{column_len, count_of_list}
+use Rattle.vx_canonical.proofs.JoinedViews.{few_of_none, values_of_kind}
 
 -- ---- one kind
 
@@ -83,21 +82,50 @@ unfolding kind-in
 lists-kind (list_view x o s v g) k n h e = ap (λ q. kind-in q k) e
 lists-kind _ k n h e = cc
 
+-- their elements, counted
+counted-parts : (k : Kind) (es : List Tree) (xs : List Extent) (n : ℕ) → joined_len es ≡ n → map extent_of es ≡ xs → or_else (count_fault n) (extents_fault k n xs) ≡ None → (joined_len es < 2 ^ 64) × (extents_fault k (joined_len es) (map extent_of es) ≡ None)
+counted-parts k es xs n long same h =
+    let both = or_else-none (count_fault n) (extents_fault k n xs) h in
+    (subst (λ m. m < 2 ^ 64) (sym long) (within_count n both.0), (λ i. extents_fault k (long i) (same i)) ∙ both.1)
+
 pub fixed_elements_joinable : (k : Kind) (s : ℕ) (n : Bool) (ts : List Tree) → AreJoinable (fixed_lists k s n) ts → AreJoinable k (map elements_in ts)
 fixed_elements_joinable k s n ts h =
+    let all = all_fixed k s n ts h in
+    let parts = parts_of_each elements_extent elements_in ts (λ i d l. fixed_list_elements (get_or ts i d) (all i d l).layout) in
+    let counted = counted-parts k (map elements_in ts) (map elements_extent (map extent_of ts)) (joined_len ts * s) (fixed_elements s ts all) (sym parts) h.fits in
     record {
       plain = all-map IsPlain elements_in ts (λ i d l. element-plain (get_or ts i d) (h.plain i d l));
       formed = all-map AllFormed elements_in ts (λ i d l. element-formed (get_or ts i d) (h.formed i d l));
-      alike = all-map (λ x. kind_of x ≡ k) elements_in ts (λ i d l. fixed-kind (get_or ts i d) k s n (all_fixed k s n ts h i d l).layout (h.alike i d l));
+      alike = all-map (λ x. kind_of x ≡ k) elements_in ts (λ i d l. fixed-kind (get_or ts i d) k s n (all i d l).layout (h.alike i d l));
+      short = counted.0;
+      fits = counted.1;
     }
 
 pub list_elements_joinable : (k : Kind) (n : Bool) (ts : List Tree) → AreJoinable (lists k n) ts → AreJoinable k (map elements_in ts)
 list_elements_joinable k n ts h =
+    let all = all_lists k n ts h in
+    let xs = map extent_of ts in
+    let parts = parts_of_each elements_extent elements_in ts (λ i d l. list_elements (get_or ts i d) (all i d l).layout) in
+    let many = elements_of_each ts (λ i d l. (all i d l).layout) in
+    let counted = counted-parts k (map elements_in ts) (map elements_extent xs) (sum_by element_count xs) (sym many) (sym parts) h.fits in
     record {
       plain = all-map IsPlain elements_in ts (λ i d l. element-plain (get_or ts i d) (h.plain i d l));
       formed = all-map AllFormed elements_in ts (λ i d l. element-formed (get_or ts i d) (h.formed i d l));
-      alike = all-map (λ x. kind_of x ≡ k) elements_in ts (λ i d l. lists-kind (get_or ts i d) k n (all_lists k n ts h i d l).layout (h.alike i d l));
+      alike = all-map (λ x. kind_of x ≡ k) elements_in ts (λ i d l. lists-kind (get_or ts i d) k n (all i d l).layout (h.alike i d l));
+      short = counted.0;
+      fits = counted.1;
     }
+
+-- ---- texts and byte lists
+
+pub few_buffers : (k : Kind) (u n : Bool) (ts : List Tree) → k ≡ value_kind u n → AreJoinable k ts → length (joined_buffers ts) ≤ 2 ^ 32
+few_buffers k u n ts e h =
+    subst (λ m. m ≤ 2 ^ 32) (buffers_of_each ts (λ i d l. (all_values k u n ts e h i d l).resolved.layout))
+    (of_kind u (subst (λ j. extents_fault j (joined_len ts) (map extent_of ts) ≡ None) e h.fits))
+  where
+    of_kind : (b : Bool) → extents_fault (value_kind b n) (joined_len ts) (map extent_of ts) ≡ None → sum_by buffer_count (map extent_of ts) ≤ 2 ^ 32
+    of_kind true none = few_of_none (sum_by buffer_count (map extent_of ts)) none
+    of_kind false none = few_of_none (sum_by buffer_count (map extent_of ts)) none
 
 -- ---- the columns of records
 
@@ -143,14 +171,47 @@ column-kind no_trees (p ∷ ps) c d e l = cc
 column-kind (tree u us) (p ∷ ps) zero d e l = ap (λ q. first-kind q (kind_of p)) e
 column-kind (tree u us) (p ∷ ps) (suc c) d e l = column-kind us ps c d (ap rest-kinds e) (omega arith)
 
+-- each of them has as many rows as the records
+kind_count : Kinds → ℕ
+kind_count no_kinds = 0
+kind_count (kind k ks) = suc (kind_count ks)
+
+kind_count-of : (ts : Trees) → kind_count (kinds_of ts) ≡ column_count ts
+unfolding kind_count
+kind_count-of no_trees = refl
+kind_count-of (tree t ts) = omega (arith, kind_count-of ts)
+
+column-lens : (ns : List (List ℕ)) (ps : List Tree) (n : Bool) (ts : List Tree) → AreJoinable (records ns (kinds_of (trees_from ps)) n) ts → (c : ℕ) → c < length ps → joined_len (map (column_of c) ts) ≡ joined_len ts
+column-lens ns ps n [] h c l = refl
+column-lens ns ps n (t ∷ ts) h c l =
+    let ks = kinds_of (trees_from ps) in
+    let all = all_records ns ks n (t ∷ ts) h in
+    let mine : AreRecords ns t = all 0 t (omega arith) in
+    let same : kinds_of (columns_in t) ≡ ks = columns-kinds t ns ks n mine.layout (h.alike 0 t (omega arith)) in
+    let many : column_count (columns_in t) ≡ length ps = sym (kind_count-of (columns_in t)) ∙ ap kind_count same ∙ kind_count-of (trees_from ps) ∙ count_of_list ps in
+    column_len ns c (t ∷ ts) all (omega (arith, l, many, mine.count))
+
+-- and its elements and buffers can be counted where those of the records can
+field-fits : (ps : List Tree) (c i m : ℕ) (d : Tree) (n : ℕ) (xs : List Extent) → m ≡ i + c → i < length ps → fields_extents_fault (kinds_of (trees_from ps)) c n xs ≡ None → extents_fault (kind_of (get_or ps i d)) n (map (column_extent m) xs) ≡ None
+field-fits [] c i m d n xs e l h = absurd (omega arith)
+field-fits (p ∷ ps) c zero m d n xs e l h =
+    subst (λ j. extents_fault (kind_of p) n (map (column_extent j) xs) ≡ None) {x = c} {y = m} (omega (arith, e))
+    (or_else-none (extents_fault (kind_of p) n (map (column_extent c) xs)) (fields_extents_fault (kinds_of (trees_from ps)) (suc c) n xs) h).0
+field-fits (p ∷ ps) c (suc i) m d n xs e l h =
+    field-fits ps (suc c) i m d n xs (omega (arith, e)) (omega arith) (or_else-none (extents_fault (kind_of p) n (map (column_extent c) xs)) (fields_extents_fault (kinds_of (trees_from ps)) (suc c) n xs) h).1
+
 pub columns_joinable : (ns : List (List ℕ)) (ps : List Tree) (n : Bool) (ts : List Tree) → AreJoinable (records ns (kinds_of (trees_from ps)) n) ts → AreColumnsJoinable ps ts
 columns_joinable ns ps n ts h = λ c d l.
     let ks = kinds_of (trees_from ps) in
     let all = all_records ns ks n ts h in
+    let long = column-lens ns ps n ts h c l in
+    let parts = parts_of_each (column_extent c) (column_of c) ts (λ i x m. column_extent-of c (get_or ts i x) (all i x m).layout) in
     record {
       plain = all-map IsPlain (column_of c) ts (λ i x m. column-plain (columns_in (get_or ts i x)) c (columns-plain (get_or ts i x) (all i x m).layout (h.plain i x m)));
       formed = all-map AllFormed (column_of c) ts (λ i x m. column-formed (columns_in (get_or ts i x)) c (columns-formed (get_or ts i x) (all i x m).layout (h.formed i x m)));
       alike = all-map (λ x. kind_of x ≡ kind_of (get_or ps c d)) (column_of c) ts (λ i x m. column-kind (columns_in (get_or ts i x)) ps c d (columns-kinds (get_or ts i x) ns ks n (all i x m).layout (h.alike i x m)) l);
+      short = subst (λ m. m < 2 ^ 64) (sym long) h.short;
+      fits = (λ i. extents_fault (kind_of (get_or ps c d)) (long i) (sym parts i)) ∙ field-fits ps 0 c c d (joined_len ts) (map extent_of ts) (omega arith) l h.fits;
     }
 
 pub plain_at : (ps : List Tree) (i : ℕ) (d : Tree) → ArePlain (trees_from ps) → i < length ps → IsPlain (get_or ps i d)
@@ -224,55 +285,3 @@ kinds-joined ts c (u ∷ ps) (w ∷ rs) h =
 
 pub kinds_joined : (ts ps rs : List Tree) (i : ℕ) → AreJoinedEach ts 0 (take i ps) rs → length ps ≤ i → kinds_of (trees_from rs) ≡ kinds_of (trees_from ps)
 kinds_joined ts ps rs i h l = kinds-joined ts 0 ps rs (rw (take_all i ps l) at h)
-
--- ---- the faults of columns
-
-or-none : (a b : Option Refusal) → or_else a b ≡ None → (a ≡ None) × (b ≡ None)
-or-none None b h = (refl, h)
-or-none (Some r) b h = cc
-
--- of columns like these, from place c on
-abbrev pub fault_like : List Tree → ℕ → List Tree → Option Refusal
-fault_like ps c ts = columns_join_fault (kinds_of (trees_from ps)) c ts
-
-fault-more : (ts : List Tree) (c m : ℕ) (ps : List Tree) (p : Tree) → m ≡ length ps + c → fault_like ps c ts ≡ None → join_fault (kind_of p) (map (column_of m) ts) ≡ None → fault_like (ps ++ p ∷ []) c ts ≡ None
-fault-more ts c m [] p e h j =
-    let here : join_fault (kind_of p) (map (column_of c) ts) ≡ None = subst (λ q. join_fault (kind_of p) (map (column_of q) ts) ≡ None) {x = m} {y = c} (omega (arith, e)) j in
-    rw here refl
-fault-more ts c m (u ∷ ps) p e h j =
-    let both = or-none (join_fault (kind_of u) (map (column_of c) ts)) (fault_like ps (suc c) ts) h in
-    rw both.0 (fault-more ts (suc c) m ps p (omega (arith, e)) both.1 j)
-
-pub columns_fault_next : (ts ps rs : List Tree) (i m : ℕ) (p : Tree) → AreJoinedEach ts 0 (take i ps) rs → fault_like (take i ps) 0 ts ≡ None → i < length ps → p ≡ get_or ps i p → m ≡ length rs
-    → join_fault (kind_of p) (map (column_of m) ts) ≡ None → fault_like (take (i + 1) ps) 0 ts ≡ None
-columns_fault_next ts ps rs i m p each h l e same j =
-    rw (take_more ps i p l, ← e) (fault-more ts 0 m (take i ps) p (omega (arith, same, joined_count ts 0 (take i ps) rs each)) h j)
-
-pub columns_fault_all : (ts ps : List Tree) (i : ℕ) → fault_like (take i ps) 0 ts ≡ None → length ps ≤ i → fault_like ps 0 ts ≡ None
-columns_fault_all ts ps i h l = rw (take_all i ps l) at h
-
-fault-first : (ts ps : List Tree) (c i m : ℕ) (p : Tree) (fault : Refusal) → m ≡ i + c → fault_like (take i ps) c ts ≡ None → i < length ps → p ≡ get_or ps i p → join_fault (kind_of p) (map (column_of m) ts) ≡ Some fault
-    → fault_like ps c ts ≡ Some fault
-fault-first ts [] c i m p fault s h l e here = absurd (omega arith)
-fault-first ts (u ∷ ps) c zero m p fault s h l e here =
-    let mine : join_fault (kind_of u) (map (column_of c) ts) ≡ Some fault = subst (λ q. join_fault (kind_of u) (map (column_of q) ts) ≡ Some fault) {x = m} {y = c} (omega (arith, s)) (rw e at here) in
-    rw mine refl
-fault-first ts (u ∷ ps) c (suc i) m p fault s h l e here =
-    let both = or-none (join_fault (kind_of u) (map (column_of c) ts)) (fault_like (take i ps) (suc c) ts) h in
-    rw both.0 (fault-first ts ps (suc c) i m p fault (omega (arith, s)) both.1 (omega arith) e here)
-
-refused-by : (ts ps : List Tree) (i m : ℕ) (p : Tree) (fault : Option Refusal) (e : VortexError) → m ≡ i → fault_like (take i ps) 0 ts ≡ None → i < length ps → p ≡ get_or ps i p → join_fault (kind_of p) (map (column_of m) ts) ≡ fault
-    → fault ≡ refusal_of e → IsMemoryOr (fault_like ps 0 ts) e
-refused-by ts ps i m p None e s h l here none same = inl (memory_only None e refl (inr same))
-refused-by ts ps i m p (Some r) e s h l here some same = inr (fault-first ts ps 0 i m p r (omega (arith, s)) h l here some ∙ same)
-
-pub columns_join_refused : (ts ps : List Tree) (i m : ℕ) (p : Tree) (e : VortexError) → m ≡ i → fault_like (take i ps) 0 ts ≡ None → i < length ps → p ≡ get_or ps i p → IsMemoryOr (join_fault (kind_of p) (map (column_of m) ts)) e
-    → IsMemoryOr (fault_like ps 0 ts) e
-columns_join_refused ts ps i m p e s h l here (inl memory) = inl memory
-columns_join_refused ts ps i m p e s h l here (inr same) = refused-by ts ps i m p (join_fault (kind_of p) (map (column_of m) ts)) e s h l here refl same
-
--- ---- texts and byte lists
-
-pub values_fault : (b n : Bool) (ts : List Tree) → parts_join_fault (value_kind b n) ts ≡ buffers_overflow (length (joined_buffers ts))
-values_fault true n ts = refl
-values_fault false n ts = refl

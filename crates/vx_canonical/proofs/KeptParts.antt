@@ -19,15 +19,15 @@ use Rattle.vx_tree.specs.Meaning.{kind_of, kinds_of, nullable, trees_from}
 use Rattle.vx_tree.specs.Formed.{AllLen, IsStruct, ValidFits, WellFormed, column_count}
 use Rattle.vx_tree.specs.Plain.{ArePlain}
 use Rattle.vx_tree.specs.Shapes.{state_of, row_state}
-use Rattle.vx_tree.specs.RowParts.{field_in, items_in, items_or_nulls}
+use Rattle.vx_tree.specs.RowParts.{field_in, items_in}
 use Rattle.vx_tree.specs.Extents.{extent_of, extents_of, rows_extent, fields_extents, extent, fixed_list_extent, struct_extent}
 use Rattle.vx_canonical.specs.PlainValues.{ArePlainValues, FitsIfThere, FitsNamed}
 use Rattle.vx_tree.specs.CanonicalFaults.{kept_fault, kept_fields_fault, rows_fault}
 use Rattle.vx_canonical.specs.Canonical.{AreKeptFields, IsBlank, IsBlankPart, IsCanonical}
 use Rattle.vx_canonical.proofs.Blanks.{missing_plain, nullable-missing, or_nullable-own}
-use Rattle.vx_canonical.proofs.Kept.{no_rows_countable, rows_extent-there, sized_there}
+use Rattle.vx_canonical.proofs.Counted.{row_extent, sized_extent}
+use Rattle.vx_canonical.proofs.Kept.{no_rows_countable}
 use Rattle.vx_canonical.proofs.PlainParts.{all_named_rows, all_there, fit_each, items_fit}
-use Rattle.vx_canonical.proofs.RowNames.{rows_extent-named}
 
 -- ---- kinds whose rows need what they keep alone
 
@@ -79,7 +79,7 @@ lists_kept t e k size m v rs qs valid same x a =
       kind = λ i. fixed_lists (x.kind i) size ((ap nullable valid ∙ nullable-missing m) i);
       plain = (x.plain, missing_plain m v valid);
       extent =
-          ap fixed_list_extent (x.extent ∙ ap (rows_extent k) same ∙ rows_extent-there k (flat_map items_in rs) ∙ ap (rows_extent k) (sym (sized_there size rs)) ∙ sym (rows_extent-there k (flat_map (items_or_nulls size) rs)));
+          ap fixed_list_extent (x.extent ∙ ap (rows_extent k) same ∙ sized_extent k size rs);
     })
 
 -- ---- records
@@ -166,7 +166,7 @@ none_canonical k r v t a w e even state may x h =
       };
       plain = h.plain;
       state = h.state ∙ state;
-      extent = h.extent ∙ x.extent ∙ sym (rows_extent-named k (option_row v ∷ []) even) ∙ ap (λ q. rows_extent k (q ∷ [])) e;
+      extent = h.extent ∙ x.extent ∙ row_extent k v r e even;
       flag = h.flag;
       kept = tt;
     }

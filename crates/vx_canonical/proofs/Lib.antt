@@ -17,6 +17,7 @@ pub mod CanonicalFaults
 pub mod JoinedRows
 pub mod JoinedStates
 pub mod ExtentParts
+pub mod Counted
 pub mod JoinedLeaves
 pub mod JoinedLists
 pub mod JoinedRecords
@@ -25,7 +26,6 @@ pub mod JoinedKinds
 pub mod JoinedParts
 pub mod ViewNumbers
 pub mod JoinedViews
-pub mod JoinedExtents
 pub mod JoinedNumbers
 pub mod Concatenated
 pub mod PlainTests

@@ -1,5 +1,5 @@
 -- Faults that are no other than overflows, so that their order tells nothing.
-use Rattle.std.proofs.Common.{ℕ, suc, ◌*◌, ◌^◌, ◌≡◌, ◌⊎◌, Bool, true, false, List, [], ◌∷◌, length, map, Option, Some, None, refl, sym, ◌∙◌, ap, subst, inl, inr}
+use Rattle.std.proofs.Common.{ℕ, suc, ◌*◌, ◌^◌, ◌≡◌, ◌⊎◌, Bool, true, false, List, [], ◌∷◌, length, map, Option, Some, None, refl, sym, ap, subst, inl, inr}
 use Rattle.std.specs.Prelude.{count_by, nat_lt, if◌then◌else◌}
 use Rattle.std.specs.List.{flat_map, sum_by}
 use Rattle.vx_base.specs.Booleans.{count_fault}
@@ -14,6 +14,7 @@ use Rattle.vx_tree.specs.CanonicalFaults.{buffers_overflow, rows_fault, fields_f
 use Rattle.vx_tree.specs.CanonicalFaults.{plain_overflow, fields_overflow, canonical_fault, columns_fault}
 use Rattle.vx_tree.specs.Extents.{Extent, buffer_count, element_count, elements_extent, column_extent}
 use Rattle.vx_canonical.specs.Concatenated.{extents_fault, fields_extents_fault}
+use Rattle.vx_canonical.specs.Counted.{rows_overflow, columns_rows_overflow}
 
 -- no fault, or an overflow
 abbrev pub IsOverflow : Option Refusal → Type 0
@@ -101,7 +102,7 @@ mutual
 -- ---- joining them
 
 mutual
-  extents_only : (k : Kind) (n : ℕ) (xs : List Extent) → IsOverflow (extents_fault k n xs)
+  pub extents_only : (k : Kind) (n : ℕ) (xs : List Extent) → IsOverflow (extents_fault k n xs)
   extents_only (booleans m) n xs = inl refl
   extents_only (integers t m) n xs = inl refl
   extents_only (texts m) n xs = numbered (sum_by buffer_count xs)
@@ -125,30 +126,26 @@ pub or_later : (a b : Option Refusal) → IsOverflow a → b ≡ Some overflow �
 or_later a b (inl none) h = or_else-second a b (Some overflow) none h
 or_later a b (inr some) h = ap (λ f. or_else f b) some
 
--- where a and b are, c and d are
-first_or_later : (a b c d : Option Refusal) → IsOverflow a → IsOverflow c → or_else a b ≡ Some overflow → (a ≡ Some overflow → c ≡ Some overflow) → (b ≡ Some overflow → d ≡ Some overflow) → or_else c d ≡ Some overflow
-first_or_later a b c d (inl none) only h first later = or_later c d only (later (ap (λ f. or_else f b) (sym none) ∙ h))
-first_or_later a b c d (inr some) only h first later = ap (λ f. or_else f d) (first some)
+-- where a or b is, c or d is
+first_or_later : (a b c d : Option Refusal) → IsOverflow c → or_else a b ≡ Some overflow → (a ≡ Some overflow → c ≡ Some overflow) → (b ≡ Some overflow → d ≡ Some overflow) → or_else c d ≡ Some overflow
+first_or_later None b c d only h first later = or_later c d only (later h)
+first_or_later (Some r) b c d only h first later = ap (λ f. or_else f d) (first h)
 
--- rows that need too many elements by themselves
+-- constants and dictionaries of more rows than can be counted
 mutual
-  pub too_many_rows : (k : Kind) (n : ℕ) (xs : List Extent) → plain_overflow k n ≡ Some overflow → extents_fault k n xs ≡ Some overflow
-  too_many_rows (booleans m) n xs h = cc
-  too_many_rows (integers t m) n xs h = cc
-  too_many_rows (texts m) n xs h = cc
-  too_many_rows (binaries m) n xs h = cc
-  too_many_rows (lists k m) n xs h = cc
-  too_many_rows (fixed_lists k size m) n xs h = by_count (nat_lt (n * size) (2 ^ 64)) h (too_many_rows k (n * size) (map elements_extent xs))
-    where
-      by_count : (b : Bool) → (if b then plain_overflow k (n * size) else Some overflow) ≡ Some overflow
-          → (plain_overflow k (n * size) ≡ Some overflow → extents_fault k (n * size) (map elements_extent xs) ≡ Some overflow)
-          → or_else (if b then None else Some overflow) (extents_fault k (n * size) (map elements_extent xs)) ≡ Some overflow
-      by_count true e inner = inner e
-      by_count false e inner = refl
-  too_many_rows (records names ks m) n xs h = too_many_records ks 0 n xs h
+  pub rows_refused : (t : Tree) → rows_overflow t ≡ Some overflow → canonical_fault t ≡ Some overflow
+  rows_refused (bools b bits v) h = cc
+  rows_refused (primitive q bs v) h = cc
+  rows_refused (constant k r n) h = ap (λ f. or_else f (kept_fault k (r ∷ []))) h
+  rows_refused (dictionary c v f) h =
+      let many = plain_overflow (kind_of v) (tree_len c) in
+      first_or_later (rows_overflow v) many (canonical_fault v) many (plain_only v) h (rows_refused v) (λ e. e)
+  rows_refused (fixed_list e k v n) h = rows_refused e h
+  rows_refused (list_view e o s v f) h = ap (λ x. or_else x (or_else (canonical_fault o) (canonical_fault s))) (rows_refused e h)
+  rows_refused (structure ns ts v n) h = columns_rows_refused ts h
+  rows_refused (view_array vs bs k v) h = cc
 
-  too_many_records : (ks : Kinds) (c n : ℕ) (xs : List Extent) → fields_overflow ks n ≡ Some overflow → fields_extents_fault ks c n xs ≡ Some overflow
-  too_many_records no_kinds c n xs h = cc
-  too_many_records (kind k ks) c n xs h =
-      first_or_later (plain_overflow k n) (fields_overflow ks n) (extents_fault k n (map (column_extent c) xs)) (fields_extents_fault ks (suc c) n xs) (rows_only k n)
-      (extents_only k n (map (column_extent c) xs)) h (too_many_rows k n (map (column_extent c) xs)) (too_many_records ks (suc c) n xs)
+  pub columns_rows_refused : (ts : Trees) → columns_rows_overflow ts ≡ Some overflow → columns_fault ts ≡ Some overflow
+  columns_rows_refused no_trees h = cc
+  columns_rows_refused (tree t ts) h =
+      first_or_later (rows_overflow t) (columns_rows_overflow ts) (canonical_fault t) (columns_fault ts) (plain_only t) h (rows_refused t) (columns_rows_refused ts)

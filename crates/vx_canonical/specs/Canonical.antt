@@ -1,13 +1,11 @@
 -- The same rows in plain layout.
-use Rattle.std.specs.Prelude.{◌≡◌, ◌<◌, ◌*◌, ◌^◌, ℕ, suc, false, List, [], ◌∷◌, length, map, Option, Some, None, nat_lt, slice_index}
-use Rattle.std.specs.Prelude.{if◌then◌else◌}
+use Rattle.std.specs.Prelude.{◌≡◌, ◌<◌, ℕ, suc, false, List, [], ◌∷◌, length, map, slice_index}
 use Rattle.std.specs.List.{AllZip}
 use Rattle.vx_base.specs.declared.dtypes.DType.{DType}
 use Rattle.vx_base.specs.DTypes.{dtype_meaning}
 use Rattle.vx_base.specs.Rows.{Row, null}
-use Rattle.vx_base.specs.Refusals.{Refusal, overflow, or_else}
-use Rattle.vx_base.specs.Kinds.{Kind, fixed_lists, records, Kinds, no_kinds, kind}
-use Rattle.vx_tree.specs.Tree.{Tree, bools, primitive, constant, dictionary, fixed_list, list_view, structure}
+use Rattle.vx_base.specs.Kinds.{Kind}
+use Rattle.vx_tree.specs.Tree.{Tree, dictionary, fixed_list, list_view, structure}
 use Rattle.vx_tree.specs.Tree.{view_array, Trees, no_trees, tree, Valid}
 use Rattle.vx_tree.specs.Meaning.{tree_len, kind_of, row_at, is_valid_at}
 use Rattle.vx_tree.specs.Shapes.{State, state_of, tree_state}
@@ -91,13 +89,14 @@ abbrev mutual
   AreCanonicalWithin (tree t ts) (tree u us) = IsCanonical t u × IsCanonicalWithin t u × AreCanonicalWithin ts us
   AreCanonicalWithin _ _ = ⊥
 
-  -- the rows are some of an array's, in plain layout: lists keep their elements, each in plain layout at every depth, texts and byte
-  -- lists their buffers, and so do the elements of lists of one size and the columns
+  -- the rows are some of an array's, in plain layout: lists keep their elements, each in plain layout at every depth, and the types of
+  -- offsets and sizes, texts and byte lists their buffers, and so do the elements of lists of one size and the columns
   pub IsPickedWithin : Tree → Tree → Type 0
   IsPickedWithin (dictionary c v f) r = 0 < tree_len v → IsPickedWithin v r
   IsPickedWithin (fixed_list e k v n) (fixed_list d j w m) = IsPlainLike e d × IsPickedWithin e d
   IsPickedWithin (fixed_list e k v n) _ = ⊥
-  IsPickedWithin (list_view e o s v f) (list_view d p q w g) = IsCanonical e d × IsCanonicalWithin e d
+  IsPickedWithin (list_view e o s v f) (list_view d p q w g) =
+      IsCanonical e d × IsCanonicalWithin e d × (kind_of p ≡ kind_of o) × (kind_of q ≡ kind_of s)
   IsPickedWithin (list_view e o s v f) _ = ⊥
   IsPickedWithin (structure ns ts v n) (structure ms us w m) = ArePickedWithin ts us
   IsPickedWithin (structure ns ts v n) _ = ⊥
@@ -111,11 +110,11 @@ abbrev mutual
   ArePickedWithin (tree t ts) (tree u us) = IsPlainLike t u × IsPickedWithin t u × ArePickedWithin ts us
   ArePickedWithin _ _ = ⊥
 
--- the elements, the columns and the buffers of an array in plain layout
+-- the elements, the types of offsets and sizes, the columns and the buffers of an array in plain layout
 abbrev pub HasPartsOf : Tree → Tree → Type 0
 HasPartsOf (fixed_list e k v n) (fixed_list d j w m) = d ≡ e
 HasPartsOf (fixed_list e k v n) _ = ⊥
-HasPartsOf (list_view e o s v f) (list_view d p q w g) = d ≡ e
+HasPartsOf (list_view e o s v f) (list_view d p q w g) = (d ≡ e) × (kind_of p ≡ kind_of o) × (kind_of q ≡ kind_of s)
 HasPartsOf (list_view e o s v f) _ = ⊥
 HasPartsOf (structure ns ts v n) (structure ms us w m) = us ≡ ts
 HasPartsOf (structure ns ts v n) _ = ⊥

@@ -1,5 +1,5 @@
 -- Concatenations of concatenations.
-use Rattle.std.specs.Prelude.{◌≡◌, ◌+◌, List, ◌∷◌, ◌++◌, None}
+use Rattle.std.specs.Prelude.{◌≡◌, List, ◌∷◌, ◌++◌, None}
 use Rattle.vx_base.specs.Kinds.{Kind}
 use Rattle.vx_tree.specs.Tree.{Tree}
 use Rattle.vx_tree.specs.Extents.{Extent, joined_extent}

@@ -53,14 +53,14 @@ plain_fault (t ∷ ts) = extents_fault (kind_of t) (joined_len (t ∷ ts)) (map 
 abbrev pub concat_fault : List Tree → Option Refusal
 concat_fault ts = or_else (given_fault ts) (plain_fault ts)
 
--- the plain layouts of arrays, and their numbers, one after another
+-- the plain layouts of arrays, and their numbers and columns, one after another
 pub record HasPlainNumbers (ts : List Tree) (r : Tree) : Type 0 where
   pub plain : List Tree
   pub canonical : AllZip IsCanonical ts plain
   pub within : AllZip IsCanonicalWithin ts plain
   pub numbers : HasJoinedNumbers plain r
 
--- the numbers of arrays in plain layout, one after another, at every depth; an array of integers has none beside its rows
+-- the numbers and columns of arrays in plain layout, one after another, at every depth; an array of integers has none beside its rows
 abbrev pub HasNumbersOf : List Tree → Tree → Type 0
 HasNumbersOf ts (primitive p bs v) = Unit {0}
 HasNumbersOf ts r = HasPlainNumbers ts r

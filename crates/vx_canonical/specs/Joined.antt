@@ -1,10 +1,8 @@
 -- Arrays that are joined, one after another.
 use Rattle.std.specs.Prelude.{◌≡◌, ◌<◌, ◌≤◌, ◌++◌, ◌+◌, ◌-◌, ◌*◌, ℕ, pos, zero, suc, Bool, true, false, slice_index}
-use Rattle.std.specs.Prelude.{List, [], ◌∷◌, length, map, replicate, nat_lt, if◌then◌else◌, Option, None, slice_index_or}
+use Rattle.std.specs.Prelude.{List, [], ◌∷◌, length, map, replicate, nat_lt, if◌then◌else◌, slice_index_or}
 use Rattle.vx_base.specs.Integers.{byte_width, numbers, number_nth}
-use Rattle.vx_base.specs.Kinds.{Kind, integers, texts, binaries, lists, fixed_lists, records, Kinds, no_kinds, kind}
-use Rattle.vx_base.specs.Booleans.{count_fault}
-use Rattle.vx_base.specs.Refusals.{Refusal, or_else}
+use Rattle.vx_base.specs.Kinds.{Kind, integers}
 use Rattle.vx_base.specs.declared.ptypes.PType.{PType}
 use Rattle.vx_base.specs.declared.ptypes.PType.TheVariants.{U64}
 use Rattle.vx_base.specs.Rows.{Row, null, whole, items, record_of, is_present, count_in}
@@ -15,12 +13,11 @@ use Rattle.vx_tree.specs.Tree.{Trees, no_trees, tree, Valid, non_nullable}
 use Rattle.vx_tree.specs.Meaning.{tree_len, kind_of, row_at, fields_at, rows_range, is_valid_at, nullable, value_row}
 use Rattle.vx_tree.specs.Formed.{ValidFits, IsCounts, AllLen, column_count}
 use Rattle.vx_tree.specs.Shapes.{State, never_null, none_null, every_null, told, state_of, tree_state}
-use Rattle.std.specs.List.{All, flat_map, range_with_len}
+use Rattle.std.specs.List.{flat_map, range_with_len}
 use Rattle.vx_tree.specs.Layouts.{is_primitive, is_fixed_list, is_list_view, is_struct, is_view_array}
 use Rattle.vx_tree.specs.Flags.{is_flagged}
 use Rattle.vx_tree.specs.Extents.{extent_of, joined_extent}
-use Rattle.vx_tree.specs.Fitting.{AllFormed, AreViews}
-use Rattle.vx_tree.specs.CanonicalFaults.{buffers_overflow}
+use Rattle.vx_tree.specs.Fitting.{AreViews}
 use Rattle.vx_tree.specs.Plain.{IsPlain, IsPlainValid}
 use Rattle.vx_tree.specs.declared.array.Validity.{Validity}
 use Rattle.vx_tree.specs.Parts.{valid_of}
@@ -199,14 +196,15 @@ abbrev pub views_from : ℕ → List Tree → List (List ℕ)
 views_from n [] = []
 views_from n (t ∷ ts) = map (shifted_view n) (views_in t) ++ views_from (n + length (buffers_in t)) ts
 
--- the numbers of arrays, one array after another, at every depth: offsets and sizes of lists are numbers of type U64, each offset
--- further by the elements of the arrays before; views are numbered further by their buffers, and all buffers stand in order
+-- the numbers and columns of arrays, one array after another, at every depth: offsets and sizes of lists are numbers of type U64,
+-- each offset further by the elements of the arrays before; each column of records is that column of the arrays, also where a record
+-- is null; views are numbered further by their buffers, and all buffers stand in order
 abbrev mutual
   pub HasJoinedNumbers : List Tree → Tree → Type 0
   HasJoinedNumbers ts (fixed_list e k v n) = HasJoinedNumbers (map elements_in ts) e
   HasJoinedNumbers ts (list_view e o s v f) =
       IsCountsOf (offsets_from 0 ts) o × IsCountsOf (joined_sizes ts) s × HasJoinedNumbers (map elements_in ts) e
-  HasJoinedNumbers ts (structure ns us v n) = HaveJoinedNumbers ts 0 us
+  HasJoinedNumbers ts (structure ns us v n) = AreColumnsJoined ts (column_count us) us × HaveJoinedNumbers ts 0 us
   HasJoinedNumbers ts (view_array vs bs k v) = (vs ≡ views_from 0 ts) × (bs ≡ joined_buffers ts)
   HasJoinedNumbers ts _ = Unit {0}
 
@@ -232,36 +230,3 @@ pub record AreValues (is_text : Bool) (t : Tree) : Type 0 where
       → row_at t j ≡ (if is_present (row_at t j)
       then value_row is_text (view_value (buffers_in t) (slice_index_or (views_in t) j []))
       else null)
-
--- plain arrays of one kind
-pub record AreJoinable (k : Kind) (ts : List Tree) : Type 0 where
-  pub plain : All IsPlain ts
-  pub formed : All AllFormed ts
-  pub alike : All (λ t. kind_of t ≡ k) ts
-
--- each column of the arrays is plain and of the kind of one of these
-abbrev pub AreColumnsJoinable : List Tree → List Tree → Type 0
-AreColumnsJoinable ps ts = (c : ℕ) (d : Tree) → c < length ps → AreJoinable (kind_of (slice_index_or ps c d)) (map (column_of c) ts)
-
--- the elements of lists, or of the lists in the columns of records, cannot be counted, or the buffers of texts or of
--- byte lists not numbered
-abbrev mutual
-  pub parts_join_fault : Kind → List Tree → Option Refusal
-  parts_join_fault (lists k n) ts = or_else (count_fault (joined_len (map elements_in ts))) (parts_join_fault k (map elements_in ts))
-  parts_join_fault (fixed_lists k size n) ts =
-      or_else (count_fault (joined_len (map elements_in ts))) (parts_join_fault k (map elements_in ts))
-  parts_join_fault (records names ks n) ts = columns_join_fault ks 0 ts
-  parts_join_fault (texts n) ts = buffers_overflow (length (joined_buffers ts))
-  parts_join_fault (binaries n) ts = buffers_overflow (length (joined_buffers ts))
-  parts_join_fault _ ts = None
-
-  -- of the columns from place c on
-  pub columns_join_fault : Kinds → ℕ → List Tree → Option Refusal
-  columns_join_fault no_kinds c ts = None
-  columns_join_fault (kind k ks) c ts =
-      or_else (or_else (count_fault (joined_len (map (column_of c) ts))) (parts_join_fault k (map (column_of c) ts)))
-      (columns_join_fault ks (suc c) ts)
-
--- plain arrays of a kind have more rows than can be counted, or their parts have
-abbrev pub join_fault : Kind → List Tree → Option Refusal
-join_fault k ts = or_else (count_fault (joined_len ts)) (parts_join_fault k ts)

@@ -3,5 +3,7 @@ pub mod PlainValues
 pub mod Joined
 pub mod JoinedNumbers
 pub mod Concatenated
+pub mod Joinable
+pub mod Counted
 pub mod PlainTests
 pub mod Composed

@@ -1,15 +1,14 @@
 -- Values, one a row, in plain layout.
-use Rattle.std.specs.Prelude.{◌≡◌, ◌<◌, ◌≤◌, ◌+◌, ◌*◌, ◌^◌, ℕ, suc, ℤ, pos, Bool, true, false, List, [], ◌∷◌, length}
-use Rattle.std.specs.Prelude.{map, take, count_by, Option, Some, None, is_some, slice_index_or, nat_lt, if◌then◌else◌}
+use Rattle.std.specs.Prelude.{◌≡◌, ◌<◌, ◌≤◌, ◌+◌, ◌^◌, ℕ, suc, ℤ, pos, Bool, true, false, List, [], ◌∷◌, length}
+use Rattle.std.specs.Prelude.{map, take, Option, Some, None, is_some, slice_index_or, if◌then◌else◌}
 use Rattle.std.specs.List.{All, filter, flat_map, range_with_len}
 use Rattle.vx_base.specs.declared.dtypes.DType.{DType}
 use Rattle.vx_base.specs.DTypes.{dtype_meaning}
 use Rattle.vx_base.specs.declared.scalar_value.ScalarValue.{ScalarValue}
 use Rattle.vx_base.specs.declared.scalar_value.ScalarValue.TheVariants as value
-use Rattle.vx_base.specs.Kinds.{Kind, texts, binaries, lists, fixed_lists, records, Kinds, no_kinds, kind, Fits, is_nullable_kind}
+use Rattle.vx_base.specs.Kinds.{Kind, Fits, is_nullable_kind}
 use Rattle.vx_base.specs.Rows.{Row, null, truth_of}
 use Rattle.vx_base.specs.ValueRows.{value_row, option_row, named, row_under}
-use Rattle.vx_base.specs.Refusals.{Refusal, overflow, or_else}
 use Rattle.vx_views.specs.Views.{view_of}
 use Rattle.vx_tree.specs.Tree.{Tree, Valid, non_nullable, all_valid}
 use Rattle.vx_tree.specs.Meaning.{tree_len, kind_of, row_at}
@@ -17,7 +16,7 @@ use Rattle.vx_tree.specs.Shapes.{state_of, tree_state}
 use Rattle.vx_tree.specs.Flags.{is_flagged}
 use Rattle.vx_tree.specs.Validities.{valid_from}
 use Rattle.vx_tree.specs.Plain.{IsPlain}
-use Rattle.vx_tree.specs.RowParts.{field_in, is_long, is_long_row, items_in, items_or_nulls}
+use Rattle.vx_tree.specs.RowParts.{field_in, is_long, items_in}
 use Rattle.vx_tree.specs.Extents.{extent_of, rows_extent}
 
 -- the truth value that a value is, false where it is none

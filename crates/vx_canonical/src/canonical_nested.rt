@@ -353,7 +353,10 @@ fn field_at(
 }
 
 // The same value, or none, its parts shared.
-fn share(alloc: Global, value: &Option<ScalarValue>) -> Result<Option<ScalarValue>, VortexError>
+pub(crate) fn share(
+    alloc: Global,
+    value: &Option<ScalarValue>,
+) -> Result<Option<ScalarValue>, VortexError>
     ensures { Gives result (λ v. v ≡ value.now) }
 {
     match value {

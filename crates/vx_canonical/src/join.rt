@@ -2,10 +2,9 @@
 
 ghost use Rattle.std.specs.Prelude.{◌≡◌, ◌<◌, ◌≤◌, ◌^◌, true, length, IfOk};
 ghost use Rattle.std.specs.List.{All};
-ghost use Rattle.vx_base.specs.Booleans.{count_fault};
 ghost use Rattle.vx_base.specs.DTypes.{is_nullable};
 ghost use Rattle.vx_base.specs.Kinds.{is_nullable_kind};
-ghost use Rattle.vx_base.specs.Refusals.{Gives, Refuses, Tests};
+ghost use Rattle.vx_base.specs.Refusals.{Gives};
 ghost use Rattle.vx_tree.specs.Meaning.{kind_of};
 ghost use Rattle.vx_tree.specs.Parts.{valid_of};
 ghost use Rattle.vx_tree.specs.Fitting.{AllFormed};
@@ -13,9 +12,9 @@ ghost use Rattle.vx_tree.specs.Meaning.{kinds_of, trees_from};
 ghost use Rattle.vx_tree.specs.Formed.{column_count};
 ghost use Rattle.vx_tree.specs.Layouts.{is_fixed_list, is_list_view, is_struct};
 ghost use Rattle.vx_tree.specs.Plain.{IsPlain, ArePlain};
-ghost use Rattle.vx_canonical.specs.Joined.{joined_len, IsValidJoined, ArePartsOf, IsJoined, AreJoinable};
-ghost use Rattle.vx_canonical.specs.Joined.{AreColumnsJoinable, AreColumnsJoined, columns_in, parts_join_fault, HasJoinedNumbers, HaveJoinedNumbers};
-ghost use Rattle.vx_canonical.specs.Joined.{columns_join_fault, join_fault};
+ghost use Rattle.vx_canonical.specs.Joinable.{AreColumnsJoinable, AreJoinable};
+ghost use Rattle.vx_canonical.specs.Joined.{joined_len, IsValidJoined, ArePartsOf, IsJoined};
+ghost use Rattle.vx_canonical.specs.Joined.{AreColumnsJoined, columns_in, HasJoinedNumbers, HaveJoinedNumbers};
 
 use crate::layouts::bool::join_bools;
 use crate::layouts::fixed_size_list::{elements_of, join_fixed_lists};
@@ -27,19 +26,16 @@ use std::alloc::Global;
 use vx_base::{Nullability, VortexError};
 use vx_tree::{ArrayRef, Layout, Validity};
 
-// How many rows the arrays have.
-pub(crate) fn joined_len(arrays: &[ArrayRef]) -> Result<usize, VortexError>
-    ensures len { IfOk result (λ n. n ≡ joined_len arrays.now) }
-    ensures tests { Tests result (count_fault (joined_len arrays.now)) }
+// How many rows the arrays have. Asks that they can be counted.
+fn joined_len(arrays: &[ArrayRef]) -> usize
+    requires { joined_len arrays.now < 2 ^ 64 }
+    ensures { result ≡ joined_len arrays.now }
 {
-    let mut total = 0usize;
+    let mut total = 0;
     for array in arrays {
-        let Some(longer) = total.checked_add(array.len()) else {
-            return Err(VortexError::Overflow);
-        };
-        total = longer;
+        total += array.len();
     }
-    Ok(total)
+    total
 }
 
 // What is always true of the arrays, at every depth. It does nothing.
@@ -81,7 +77,7 @@ pub(crate) fn joined_validity(
 }
 
 // The rows of plain arrays, one array after another, in plain layout. Asks that all of them are
-// of the kind of this one, which is plain too.
+// of the kind of this one, which is plain too, and that rows, elements and buffers can be counted.
 #[cycle(join)]
 pub(crate) fn join_like(
     alloc: Global,
@@ -90,11 +86,10 @@ pub(crate) fn join_like(
 ) -> Result<ArrayRef, VortexError>
     requires plain { IsPlain like.now }
     requires arrays { AreJoinable (kind_of like.now) arrays.now }
-    ensures ok { IfOk result (IsJoined (kind_of like.now) arrays.now) }
+    ensures joined { Gives result (IsJoined (kind_of like.now) arrays.now) }
     ensures numbers { IfOk result (HasJoinedNumbers arrays.now) }
-    ensures refuses { Refuses result (join_fault (kind_of like.now) arrays.now) }
 {
-    let len = joined_len(arrays)?;
+    let len = joined_len(arrays);
     let validity = joined_validity(alloc, arrays, like.dtype().nullability())?;
     match like.layout() {
         Layout::Bool { .. } => Ok(join_bools(alloc, arrays, len, validity)?),
@@ -104,7 +99,7 @@ pub(crate) fn join_like(
         Layout::FixedSizeList { .. } => join_fixed_like(alloc, like, arrays, len, validity),
         Layout::ListView { .. } => join_lists_like(alloc, like, arrays, len, validity),
         Layout::Struct { .. } => join_structs_like(alloc, like, arrays, len, validity),
-        Layout::VarBinView { dtype, .. } => { join_views(alloc, dtype, arrays, len, validity) }
+        Layout::VarBinView { dtype, .. } => Ok(join_views(alloc, dtype, arrays, len, validity)?),
         Layout::Constant { .. } | Layout::Dict { .. } => unreachable!(),
     }
 }
@@ -123,9 +118,8 @@ fn join_fixed_like(
     requires arrays { AreJoinable (kind_of like.now) arrays.now }
     requires len { len ≡ joined_len arrays.now }
     requires valid { IsValidJoined (is_nullable_kind (kind_of like.now)) arrays.now (valid_of validity) }
-    ensures ok { IfOk result (IsJoined (kind_of like.now) arrays.now) }
+    ensures joined { Gives result (IsJoined (kind_of like.now) arrays.now) }
     ensures numbers { IfOk result (HasJoinedNumbers arrays.now) }
-    ensures refuses { Refuses result (parts_join_fault (kind_of like.now) arrays.now) }
 {
     let Layout::FixedSizeList { elements, size, .. } = like.layout() else {
         unreachable!();
@@ -148,9 +142,8 @@ fn join_lists_like(
     requires plain { IsPlain like.now }
     requires arrays { AreJoinable (kind_of like.now) arrays.now }
     requires valid { IsValidJoined (is_nullable_kind (kind_of like.now)) arrays.now (valid_of validity) }
-    ensures ok { IfOk result (IsJoined (kind_of like.now) arrays.now) }
+    ensures joined { Gives result (IsJoined (kind_of like.now) arrays.now) }
     ensures numbers { IfOk result (HasJoinedNumbers arrays.now) }
-    ensures refuses { Refuses result (parts_join_fault (kind_of like.now) arrays.now) }
 {
     let Layout::ListView { elements, .. } = like.layout() else {
         unreachable!();
@@ -174,9 +167,8 @@ fn join_structs_like(
     requires arrays { AreJoinable (kind_of like.now) arrays.now }
     requires len { len ≡ joined_len arrays.now }
     requires valid { IsValidJoined (is_nullable_kind (kind_of like.now)) arrays.now (valid_of validity) }
-    ensures ok { IfOk result (IsJoined (kind_of like.now) arrays.now) }
+    ensures joined { Gives result (IsJoined (kind_of like.now) arrays.now) }
     ensures numbers { IfOk result (HasJoinedNumbers arrays.now) }
-    ensures refuses { Refuses result (parts_join_fault (kind_of like.now) arrays.now) }
 {
     let Layout::Struct { names, columns, .. } = like.layout() else {
         unreachable!();
@@ -197,10 +189,9 @@ fn join_columns(
     requires records { All (λ t. is_struct t ≡ true) arrays.now }
     requires places { All (λ t. length columns.now ≤ column_count (columns_in t)) arrays.now }
     requires each { AreColumnsJoinable columns.now arrays.now }
-    ensures ok { IfOk result (λ cs. AreColumnsJoined arrays.now (length columns.now) (trees_from cs.items)) }
+    ensures joined { Gives result (λ cs. AreColumnsJoined arrays.now (length columns.now) (trees_from cs.items)) }
     ensures kinds { IfOk result (λ cs. kinds_of (trees_from cs.items) ≡ kinds_of (trees_from columns.now)) }
     ensures numbers { IfOk result (λ cs. HaveJoinedNumbers arrays.now 0 (trees_from cs.items)) }
-    ensures refuses { Refuses result (columns_join_fault (kinds_of (trees_from columns.now)) 0 arrays.now) }
 {
     let mut made = Vec::with_capacity(alloc, columns.len())?;
     for column in columns {

@@ -1,15 +1,15 @@
 //! Arrays in plain layout: one at a time, and one after another.
 //!
 //! Read `to_canonical` and `concat` first: the contracts, with specs/Canonical and
-//! specs/Concatenated. Then `canonical`, which makes an array plain, or picked rows of it, and
-//! `join`, which joins plain arrays. Of constants, `canonical_nested` makes the values plain, level
-//! by level, and `canonical_values` the leaves; `canonical_zeroes` makes rows of which only the
-//! validity is given, and `kept_parts` what values keep without a row. `layouts/` has what does not
-//! recurse.
+//! specs/Concatenated. Both count first: `extents` over `pieces`, and `countable_rows`. Then
+//! `canonical`, which makes an array plain, or picked rows of it, and `join`, which joins plain
+//! arrays. Of constants, `canonical_nested` makes the values plain, level by level, and
+//! `canonical_values` the leaves; `canonical_zeroes` makes rows of which only the validity is given,
+//! and `kept_parts` what values keep without a row. `layouts/` has what does not recurse.
 //!
-//! Each walk is a circle of free functions in one file: `#[cycle(canonical)]`, `plain_values`
+//! Each walk is a circle of free functions in one file: `canonical`, `plain_values`
 //! (`canonical_nested`), `blank` and `is_countable` (`canonical_zeroes`), `kept_parts`, `is_plain`,
-//! `join`.
+//! `join`, `piece_of`, `pieces_fit` (`extents`) and `has_countable_rows`.
 #![tactic(auto)]
 
 mod canonical;
@@ -17,11 +17,14 @@ mod canonical_nested;
 mod canonical_values;
 mod canonical_zeroes;
 mod concat;
+mod countable_rows;
+mod extents;
 mod is_plain;
 mod join;
 mod kept_parts;
 pub mod laws;
 mod layouts;
+mod pieces;
 mod to_canonical;
 
 pub use crate::concat::Concatenate;

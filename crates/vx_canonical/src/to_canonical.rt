@@ -8,6 +8,7 @@ ghost use Rattle.vx_tree.specs.Plain.{IsPlain};
 ghost use Rattle.vx_canonical.specs.Canonical.{IsCanonical, IsCanonicalWithin};
 
 use crate::canonical::canonical;
+use crate::countable_rows::has_countable_rows;
 use crate::is_plain::is_plain;
 use std::alloc::Global;
 use vx_base::VortexError;
@@ -20,13 +21,13 @@ pub trait ToCanonical {
     /// elements, texts and byte lists their views and buffers, and so does each part, at every
     /// depth; a constant list has its elements once, a constant text one buffer at most, whatever
     /// the length; a dictionary has the elements and the buffers of its values, also if it has no
-    /// values. Lists that a constant or a dictionary becomes have the flag false. An array that is
-    /// plain already is shared. Refuses by the first fault of the parts in their order, the values
-    /// of a dictionary first: a constant with `Overflow` where all of its rows, or the elements of
-    /// a list in its row, need more elements of lists of one size than can be counted, or its row
-    /// more than 4294967296 buffers in one layout; a dictionary with `Overflow` where the rows of
-    /// its codes need too many elements. Of the values 7, 9 and the codes 1, null, 0, 1 it makes
-    /// the numbers 9, null, 7, 9.
+    /// values, and where it has some, offsets and sizes of their types. Lists that a constant or a
+    /// dictionary becomes have the flag false. An array that is plain already is shared. Refuses by
+    /// the first fault of the parts in their order, the values of a dictionary first: a constant
+    /// with `Overflow` where all of its rows, or the elements of a list in its row, need more
+    /// elements of lists of one size than can be counted, or its row more than 4294967296 buffers
+    /// in one layout; a dictionary with `Overflow` where the rows of its codes need too many
+    /// elements. Of the values 7, 9 and the codes 1, null, 0, 1 it makes the numbers 9, null, 7, 9.
     fn to_canonical(&self, alloc: Global) -> Result<ArrayRef, VortexError>;
 }
 
@@ -41,6 +42,9 @@ impl ToCanonical for ArrayRef {
     {
         if is_plain(self) {
             return Ok(self.try_clone(alloc)?);
+        }
+        if !has_countable_rows(self) {
+            return Err(VortexError::Overflow);
         }
         canonical(alloc, self)
     }

@@ -12,8 +12,8 @@ use Rattle.vx_base.specs.Rows.{Row, truth_of}
 use Rattle.vx_base.specs.Trues.{trues}
 use Rattle.vx_tree.specs.Tree.{Tree, bools, primitive, constant, dictionary, fixed_list, list_view, structure, view_array, by_array}
 use Rattle.vx_tree.specs.Meaning.{tree_len, kind_of, row_at, rows, nullable, valid_mask}
-use Rattle.vx_canonical.specs.Canonical.{IsCanonical}
-use Rattle.vx_canonical.specs.Concatenated.{concat_fault, IsConcatenated}
+use Rattle.vx_canonical.specs.Canonical.{IsCanonical, IsCanonicalWithin}
+use Rattle.vx_canonical.specs.Concatenated.{concat_fault, HasNumbersOf, IsConcatenated}
 use Rattle.vx_tree.specs.Flags.{is_flagged}
 use Rattle.vx_canonical.specs.Joined.{joined_state}
 use Rattle.vx_tree.specs.Layouts.{is_constant, is_list_view, is_primitive}
@@ -89,13 +89,13 @@ step-mask arrays array mask t u r is at kind same nulled one =
     }
 
 pub step-canonical : (arrays : List Tree) (array : ℕ) (t r : Tree) → t ≡ array_at arrays array → rows r ≡ rows t → IsCanonical t r
-    → (IsPlain t → r ≡ t) → IsStep (Canonical array) arrays r
-step-canonical arrays array t r is same canonical shared =
+    → IsCanonicalWithin t r → (IsPlain t → r ≡ t) → IsStep (Canonical array) arrays r
+step-canonical arrays array t r is same canonical within shared =
     let of = canonical.same.kind ∙ ap kind_of is in
     record {
       same_rows = named_rows-same _ _ _ _ (ap names_in of) (same ∙ ap rows is);
       kind = of;
-      layout = (subst (λ u. IsCanonical u r) is canonical, subst (λ u. IsPlain u → r ≡ u) is shared);
+      layout = (subst (λ u. IsCanonical u r) is canonical, subst (λ u. IsCanonicalWithin u r) is within, subst (λ u. IsPlain u → r ≡ u) is shared);
     }
 
 -- the mask of an array is its truth values
@@ -116,14 +116,14 @@ joined-names arrays [] = refl
 joined-names arrays (i ∷ is) = refl
 
 pub step-concat : (arrays : List Tree) (v : Vec ℕ) (found : List Tree) (r : Tree) → found ≡ arrays_at arrays v.items → concat_fault found ≡ None
-    → IsConcatenated found r → tree_state r ≡ joined_state found → is_flagged r ≡ false → IsStep (Concat v) arrays r
-step-concat arrays v found r is none made state flag =
+    → IsConcatenated found r → tree_state r ≡ joined_state found → is_flagged r ≡ false → HasNumbersOf found r → IsStep (Concat v) arrays r
+step-concat arrays v found r is none made state flag numbers =
     let of = joined-kind found r none made.kind ∙ ap joined_kind is in
     record {
       same_rows = named_rows-same _ _ _ _ (ap names_in of ∙ joined-names arrays v.items)
           (made.same_rows ∙ ap (flat_map rows) is ∙ flat_map-map rows (array_at arrays) v.items);
       kind = of;
-      layout = (subst (λ ts. IsConcatenated ts r) is made, state ∙ ap joined_state is, flag);
+      layout = (subst (λ ts. IsConcatenated ts r) is made, state ∙ ap joined_state is, flag, subst (λ ts. HasNumbersOf ts r) is numbers);
     }
 
 -- ---- rebuilt and narrowed arrays

@@ -11,8 +11,8 @@ use Rattle.vx_base.specs.Rows.{Row}
 use Rattle.vx_base.specs.Trues.{trues}
 use Rattle.vx_tree.specs.Tree.{Tree, bools, non_nullable, by_array}
 use Rattle.vx_tree.specs.Meaning.{tree_len, kind_of, rows}
-use Rattle.vx_canonical.specs.Canonical.{IsCanonical}
-use Rattle.vx_canonical.specs.Concatenated.{concat_fault, IsConcatenated}
+use Rattle.vx_canonical.specs.Canonical.{IsCanonical, IsCanonicalWithin}
+use Rattle.vx_canonical.specs.Concatenated.{concat_fault, HasNumbersOf, IsConcatenated}
 use Rattle.vx_tree.specs.CanonicalFaults.{canonical_fault}
 use Rattle.vx_tree.specs.Faults.{position_fault, length_fault, valid_type_fault, validity_fault, slice_fault, take_fault}
 use Rattle.vx_tree.specs.Extents.{extent_of}
@@ -140,8 +140,10 @@ HasLayout (Mask array mask) arrays r =
     × (is_constant (array_at arrays array) ≡ true → HasOneValue r)
 HasLayout (Concat is) arrays r =
     IsConcatenated (arrays_at arrays is.items) r × (tree_state r ≡ joined_state (arrays_at arrays is.items)) × (is_flagged r ≡ false)
+    × HasNumbersOf (arrays_at arrays is.items) r
 HasLayout (Canonical array) arrays r =
-    IsCanonical (array_at arrays array) r × (IsPlain (array_at arrays array) → r ≡ array_at arrays array)
+    IsCanonical (array_at arrays array) r × IsCanonicalWithin (array_at arrays array) r
+    × (IsPlain (array_at arrays array) → r ≡ array_at arrays array)
 HasLayout (Rebuild array mode) arrays r = (is_list_view r ≡ true) × IsRebuiltBy mode (array_at arrays array) r
 HasLayout (Narrow array) arrays r = (is_primitive r ≡ true) × IsNarrowed (array_at arrays array) r
 HasLayout (Project array names) arrays r = IsProjected (array_at arrays array) names.items r

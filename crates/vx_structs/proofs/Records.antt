@@ -5,6 +5,4 @@ pub mod FieldsOfRecords
 pub mod NamedColumns
 pub mod Columns
 pub mod ColumnRows
-pub mod PlainColumns
-pub mod ConcatenatedRecords
-pub mod LentArrays
+pub mod JoinedColumns

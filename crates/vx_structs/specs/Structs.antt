@@ -1,7 +1,6 @@
 -- Records by columns: what they are made of, and what the calls on their columns give.
 pub mod Records
 pub mod Faults
-pub mod Concats
 use Rattle.std.specs.Prelude.{◌≡◌, ◌<◌, ℕ, Bool, true, List, [], ◌∷◌, ◌++◌, length, map, slice_get, if◌then◌else◌}
 use Rattle.std.specs.Prelude.{Option, Some, None, MatchBool, IsSomeAnd}
 use Rattle.std.specs.Borrow.{Bor}
@@ -86,6 +85,10 @@ abbrev pub removed : Tree → List ℕ → Option (Tree × Tree)
 removed t name = removed_at t (place_of_name (names_of t) name)
 
 -- ---- arrays of records, one after another
+
+-- the arrays that are lent
+abbrev pub arrays_of : List (Bor Tree) → List Tree
+arrays_of arrays = map (λ a. a.now) arrays
 
 -- the records of arrays, one array after another; so each column is that column of all of them
 pub record AreConcatenated (ts : List Tree) (r : Tree) : Type 0 where

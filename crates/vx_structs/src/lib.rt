@@ -3,7 +3,7 @@
 //! Read `array` first, with specs/Structs/Records; then `checks`, what the constructors test, with
 //! specs/Structs/Faults. `fields` makes records of columns that have names. `columns` chooses, adds
 //! and removes columns; `ext`, `unmasked_fields` and `field` read them; `push` moves the nulls of
-//! records into them; `concat` joins records column by column. `laws` are for callers.
+//! records into them; `concat` joins arrays of records. `laws` are for callers.
 //!
 //! Nothing recurses: the columns are walked by vx_tree and vx_canonical.
 #![tactic(auto)]

@@ -9,8 +9,7 @@ use Rattle.vx_base.specs.declared.errors.VortexError.{VortexError}
 use Rattle.vx_base.specs.Refusals.{Refusal, IsMemoryOr, Names, Refuses}
 use Rattle.vx_tree.specs.Meaning.{rows}
 use Rattle.vx_tree.specs.Tree.{Tree}
-use Rattle.vx_structs.specs.Structs.{column_at_place, column_named, IsProjected, with_columns}
-use Rattle.vx_structs.specs.Structs.Concats.{arrays_of}
+use Rattle.vx_structs.specs.Structs.{arrays_of, column_at_place, column_named, IsProjected, with_columns}
 use Rattle.vx_structs.specs.Structs.Faults.{unknown_fault, IsMadeOf, AreFaulty}
 use Rattle.vx_uses.specs.Tables.{chosen, join_fault, rows_in}
 

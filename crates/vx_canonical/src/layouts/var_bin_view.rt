@@ -2,7 +2,7 @@
 
 ghost use Rattle.std.specs.Prelude.{◌≡◌, ◌<◌, ◌≤◌, ◌+◌, ◌^◌, ◌++◌, true, length, map, slice_index, IfOk};
 ghost use Rattle.std.specs.List.{All};
-ghost use Rattle.vx_base.specs.Refusals.{Gives, Refuses, Tests};
+ghost use Rattle.vx_base.specs.Refusals.{Gives};
 ghost use Rattle.vx_base.specs.DTypes.{dtype_meaning};
 ghost use Rattle.vx_base.specs.Kinds.{is_nullable_kind, or_nullable};
 ghost use Rattle.vx_views.specs.Views.{view_size, view_block};
@@ -14,7 +14,6 @@ ghost use Rattle.vx_tree.specs.Parts.{valid_of};
 ghost use Rattle.vx_tree.specs.Plain.{IsPlainValid};
 ghost use Rattle.vx_tree.specs.Extents.{extent_of};
 ghost use Rattle.vx_canonical.specs.Canonical.{IsBlank};
-ghost use Rattle.vx_tree.specs.CanonicalFaults.{buffers_overflow};
 ghost use Rattle.vx_canonical.specs.Joined.{IsJoined, IsValidJoined, HasJoinedNumbers, AreValues, AreResolved, joined_buffers, shifted_view, views_from};
 
 use std::alloc::Global;
@@ -22,11 +21,8 @@ use vx_base::{Buffer, ByteBuffer, DType, VortexError};
 use vx_tree::{ArrayRef, Layout, Validity, empty_views};
 use vx_views::BinaryView;
 
-// How many buffers can be numbered by a `u32`.
-const MAX_BUFFERS: usize = 1 << 32;
-
 // The texts or the byte lists of arrays, one array after another, under the validity of them;
-// the buffers are shared, one array's after another's.
+// the buffers are shared, one array's after another's. Asks that they can be numbered.
 pub(crate) fn join_views(
     alloc: Global,
     dtype: &DType,
@@ -37,11 +33,11 @@ pub(crate) fn join_views(
     requires values { All (AreValues (is_texts (dtype_meaning dtype.now))) arrays.now }
     requires kind { dtype_meaning dtype.now ≡ value_kind (is_texts (dtype_meaning dtype.now)) (nullable (valid_of validity)) }
     requires valid { IsValidJoined (nullable (valid_of validity)) arrays.now (valid_of validity) }
-    ensures ok { IfOk result (IsJoined (dtype_meaning dtype.now) arrays.now) }
+    requires few { length (joined_buffers arrays.now) ≤ 2 ^ 32 }
+    ensures joined { Gives result (IsJoined (dtype_meaning dtype.now) arrays.now) }
     ensures numbers { IfOk result (HasJoinedNumbers arrays.now) }
-    ensures refuses { Refuses result (buffers_overflow (length (joined_buffers arrays.now))) }
 {
-    let count = buffer_count(arrays)?;
+    let count = buffer_count(arrays);
     let buffers = joined_buffers(alloc, arrays, count)?;
     let views = joined_views(alloc, arrays, len)?;
     let dtype = dtype.try_clone(alloc)?;
@@ -71,23 +67,20 @@ pub(crate) fn blank_views(
     empty_views(alloc, len, buffers, &dtype, validity)
 }
 
-// How many buffers the arrays have, as many as can be numbered.
-fn buffer_count(arrays: &[ArrayRef]) -> Result<usize, VortexError>
-    requires { All AreResolved arrays.now }
-    ensures count { IfOk result (λ n. n ≡ length (joined_buffers arrays.now)) }
-    ensures tests { Tests result (buffers_overflow (length (joined_buffers arrays.now))) }
+// How many buffers the arrays have. Asks that they can be numbered.
+fn buffer_count(arrays: &[ArrayRef]) -> usize
+    requires resolved { All AreResolved arrays.now }
+    requires few { length (joined_buffers arrays.now) ≤ 2 ^ 32 }
+    ensures { result ≡ length (joined_buffers arrays.now) }
 {
-    let mut count = 0usize;
+    let mut count = 0;
     for array in arrays {
         let Layout::VarBinView { buffers, .. } = array.layout() else {
             unreachable!();
         };
-        if buffers.len() > MAX_BUFFERS - count {
-            return Err(VortexError::Overflow);
-        }
         count += buffers.len();
     }
-    Ok(count)
+    count
 }
 
 // The buffers of arrays, of which there are `count`, one array after another.

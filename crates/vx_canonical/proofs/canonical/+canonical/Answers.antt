@@ -282,7 +282,7 @@ canonical_list_view_at-returns-clause-within t c =
     let parts = c.in-ListView in
     let same = sym c.layout.ensures.parts ∙ ap tree_of parts.is in
     lists_picked c.args.array.now c.in_ok-lists.lists parts.elements parts.offsets parts.sizes c.in_ok-elements.elements c.in_ok-offsets.offsets c.in_ok-sizes.sizes (valid_of parts.validity) (valid_of c.in_ok-plain.plain) parts.flag false
-    same c.in_ok-lists.ensures c.in_ok-elements.ensures.ok c.in_ok-elements.ensures.within
+    same c.in_ok-lists.ensures c.in_ok-elements.ensures.ok c.in_ok-elements.ensures.within c.in_ok-offsets.ensures.ok.kind c.in_ok-sizes.ensures.ok.kind
 
 pub canonical_struct-returns-clause-within : goal.canonical_struct-returns-clause-within
 canonical_struct-returns-clause-within t c =

@@ -1,6 +1,5 @@
 use Rattle.std.proofs.Common.{◌≡◌, length, map, ap, sym, subst, ◌∙◌, arith}
 use denote.Param.Weighed.{at_most}
-use Rattle.std.proofs.lemmas.Result.{err_from_is_err_and}
 use Rattle.vx_tree.specs.declared.array.ArrayRef.TheDeep.{size-ArrayRef}
 use Rattle.vx_base.specs.DTypes.{dtype_meaning}
 use Rattle.vx_tree.specs.Tree.{depth, fixed_list, list_view, structure, view_array}
@@ -8,10 +7,11 @@ use Rattle.vx_tree.specs.Meaning.{kind_of, kinds_of, trees_from, nullable, is_te
 use Rattle.vx_tree.specs.Parts.{tree_of, valid_of}
 use Rattle.vx_tree.specs.Plain.{IsPlain}
 use Rattle.vx_tree.specs.Formed.{WellFormed}
-use Rattle.vx_canonical.specs.Joined.{elements_in, column_of, AreJoinable}
+use Rattle.vx_canonical.specs.Joinable.{AreJoinable}
+use Rattle.vx_canonical.specs.Joined.{elements_in, column_of}
 use Rattle.vx_tree.proofs.Columns.{columns_below}
 use Rattle.vx_canonical.proofs.JoinedRecords.{count_of_list}
-use Rattle.vx_canonical.proofs.JoinedParts.{plain_at, joinable_at, joined_done, joined_next, columns_joined, kinds_joined, columns_fault_next, columns_fault_all, columns_join_refused, fixed_elements_joinable, list_elements_joinable, all_values, all_lists, all_records, columns_joinable, numbers_next}
+use Rattle.vx_canonical.proofs.JoinedParts.{plain_at, joinable_at, joined_done, joined_next, columns_joined, kinds_joined, few_buffers, fixed_elements_joinable, list_elements_joinable, all_values, all_lists, all_records, columns_joinable, numbers_next}
 use Rattle.vx_canonical.proofs.join.+join.Goals as goal
 
 pub join_columns-columns_of-requires-clause-place : goal.join_columns-columns_of-requires-clause-place
@@ -35,18 +35,6 @@ join_columns-join_like-requires t c =
       ),
     )
 
-pub join_columns-returns-in_err-join_like-clause-refuses :
-    goal.join_columns-returns-in_err-join_like-clause-refuses
-join_columns-returns-in_err-join_like-clause-refuses t c =
-    let ps = c.args.columns.now in
-    let i = c.loop-column.column-index in
-    let e = err_from_is_err_and c.from_residual-in_err-join_like.result c.from_residual-in_err-join_like.ensures.1 in
-    let done = joined_done c.args.arrays.now ps c.loop-column.made.items i c.loop-column-test.true c.loop-column.invariant.0 in
-    let place : c.len.result ≡ i = omega (arith, done, c.len.ensures, c.loop-column.made.ok.0) in
-    let list : c.deref.result.now ≡ map (column_of c.len.result) c.args.arrays.now = c.deref.ensures.value ∙ c.in_ok-list.ensures in
-    rw (e.1, e.2) (columns_join_refused c.args.arrays.now ps i c.len.result c.column-item.result c.in_err-join_like.field-0.0 place c.loop-column.invariant.1 c.loop-column-test.true c.column-item.is
-    (rw list at c.in_err-join_like.ensures.refuses))
-
 pub join_columns-loop-column-preserved : goal.join_columns-loop-column-preserved
 join_columns-loop-column-preserved t c =
     let ts = c.args.arrays.now in
@@ -55,23 +43,18 @@ join_columns-loop-column-preserved t c =
     let p = c.column-item.result in
     let long : c.len.result ≡ length c.loop-column.made.items = omega (arith, c.len.ensures, c.loop-column.made.ok.0) in
     let list : c.deref.result.now ≡ map (column_of c.len.result) ts = c.deref.ensures.value ∙ c.in_ok-list.ensures in (
-      joined_next ts ps c.loop-column.made.items c.push.new.self.items i c.len.result p c.in_ok-join_like.field-0 c.loop-column.invariant.0 c.loop-column-test.true c.column-item.is long (rw list at c.in_ok-join_like.ensures.ok)
+      joined_next ts ps c.loop-column.made.items c.push.new.self.items i c.len.result p c.in_ok-join_like.field-0 c.loop-column.invariant.0 c.loop-column-test.true c.column-item.is long (rw list at c.in_ok-join_like.ensures.joined)
           c.in_ok-push.ensures.items,
-      columns_fault_next ts ps c.loop-column.made.items i c.len.result p c.loop-column.invariant.0 c.loop-column.invariant.1 c.loop-column-test.true c.column-item.is long (rw list at c.in_ok-join_like.ensures.refuses),
-      numbers_next ts c.loop-column.made.items c.push.new.self.items c.len.result c.in_ok-join_like.field-0 c.loop-column.invariant.2 long (rw list at c.in_ok-join_like.ensures.numbers) c.in_ok-push.ensures.items,
+      numbers_next ts c.loop-column.made.items c.push.new.self.items c.len.result c.in_ok-join_like.field-0 c.loop-column.invariant.1 long (rw list at c.in_ok-join_like.ensures.numbers) c.in_ok-push.ensures.items,
     )
 
-pub join_columns-returns-clause-ok : goal.join_columns-returns-clause-ok
-join_columns-returns-clause-ok t c =
+pub join_columns-returns-clause-joined : goal.join_columns-returns-clause-joined
+join_columns-returns-clause-joined t c =
     columns_joined c.args.arrays.now c.args.columns.now c.loop-column.made.items c.loop-column.column-index c.loop-column.invariant.0 c.loop-column-test.false
 
 pub join_columns-returns-clause-kinds : goal.join_columns-returns-clause-kinds
 join_columns-returns-clause-kinds t c =
     kinds_joined c.args.arrays.now c.args.columns.now c.loop-column.made.items c.loop-column.column-index c.loop-column.invariant.0 c.loop-column-test.false
-
-pub join_columns-returns-clause-refuses : goal.join_columns-returns-clause-refuses
-join_columns-returns-clause-refuses t c =
-    columns_fault_all c.args.arrays.now c.args.columns.now c.loop-column.column-index c.loop-column.invariant.1 c.loop-column-test.false
 
 pub join_like-join_views-requires-clause-values : goal.join_like-join_views-requires-clause-values
 join_like-join_views-requires-clause-values t c =
@@ -82,6 +65,16 @@ join_like-join_views-requires-clause-values t c =
     let formed : WellFormed (view_array parts.views parts.buffers.items k v) = rw parts.is at c.layout.ensures.formed in
     let arrays : AreJoinable (kind_of (view_array parts.views parts.buffers.items k v)) c.args.arrays.now = rw same at c.requires.arrays in
     all_values k (is_texts k) (nullable v) c.args.arrays.now formed.1.kind arrays
+
+pub join_like-join_views-requires-clause-few : goal.join_like-join_views-requires-clause-few
+join_like-join_views-requires-clause-few t c =
+    let parts = c.in-VarBinView in
+    let v = valid_of parts.validity in
+    let k = dtype_meaning parts.dtype in
+    let same = sym c.layout.ensures.parts ∙ ap tree_of parts.is in
+    let formed : WellFormed (view_array parts.views parts.buffers.items k v) = rw parts.is at c.layout.ensures.formed in
+    let arrays : AreJoinable (kind_of (view_array parts.views parts.buffers.items k v)) c.args.arrays.now = rw same at c.requires.arrays in
+    few_buffers k (is_texts k) (nullable v) c.args.arrays.now formed.1.kind arrays
 
 pub join_fixed_like-join_like-requires : goal.join_fixed_like-join_like-requires
 join_fixed_like-join_like-requires t c =
@@ -145,12 +138,12 @@ join_structs_like-join_structs-requires-clause-columns t c =
     let named : length c.in_ok-names.names ≡ length parts.names = ap length c.in_ok-names.ensures in
     let long : length c.deref.result.now ≡ length parts.columns.items = ap length c.deref.ensures.value in
     let count : length c.deref.result.now ≡ length c.in_ok-names.names = omega (arith, named, long, formed.1.named, count_of_list parts.columns.items) in
-    rw count at c.in_ok-joined.ensures.ok
+    rw count at c.in_ok-joined.ensures.joined
 
 -- ---- numbers
 
 pub join_columns-returns-clause-numbers : goal.join_columns-returns-clause-numbers
-join_columns-returns-clause-numbers t c = c.loop-column.invariant.2
+join_columns-returns-clause-numbers t c = c.loop-column.invariant.1
 
 pub join_fixed_like-returns-clause-numbers : goal.join_fixed_like-returns-clause-numbers
 join_fixed_like-returns-clause-numbers t c =

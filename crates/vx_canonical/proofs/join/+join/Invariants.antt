@@ -1,8 +1,8 @@
-use Rattle.std.proofs.Common.{◌≡◌, take, None}
+use Rattle.std.proofs.Common.{take}
 use Rattle.vx_tree.specs.Meaning.{trees_from}
 use Rattle.vx_canonical.specs.Joined.{HaveJoinedNumbers}
-use Rattle.vx_canonical.proofs.JoinedParts.{AreJoinedEach, fault_like}
+use Rattle.vx_canonical.proofs.JoinedParts.{AreJoinedEach}
 use Rattle.vx_canonical.proofs.join.+join.Given as goal
 
 abbrev pub invariant-join_columns-loop-column : goal.invariant-join_columns-loop-column
-invariant-join_columns-loop-column l = AreJoinedEach l.arrays 0 (take l.column-index l.columns) l.made.items × (fault_like (take l.column-index l.columns) 0 l.arrays ≡ None) × HaveJoinedNumbers l.arrays 0 (trees_from l.made.items)
+invariant-join_columns-loop-column l = AreJoinedEach l.arrays 0 (take l.column-index l.columns) l.made.items × HaveJoinedNumbers l.arrays 0 (trees_from l.made.items)

@@ -1,15 +1,18 @@
 use Rattle.std.proofs.Common.{◌≡◌, ◌<◌, length, map, true, None, Some, ap, sym, subst, ◌∙◌, inr, arith}
-use Rattle.std.specs.Prelude.{if◌then◌else◌}
+use Rattle.std.proofs.lemmas.Result.{err_from_is_err_and}
 use Rattle.std.specs.List.{All}
 use Rattle.vx_base.specs.DTypes.{dtype_meaning, is_nullable}
 use Rattle.vx_base.specs.Kinds.{integers}
 use Rattle.vx_tree.specs.Meaning.{kind_of}
-use Rattle.vx_base.specs.Refusals.{Refuses, overflow}
-use Rattle.vx_tree.specs.CanonicalFaults.{plain_overflow}
+use Rattle.vx_base.specs.Refusals.{IsMemoryOr, overflow}
 use Rattle.vx_tree.specs.Extents.{extent_of, joined_extent}
-use Rattle.vx_canonical.specs.Joined.{joined_len, AreJoinable}
-use Rattle.vx_canonical.specs.Concatenated.{are_alike}
-use Rattle.vx_canonical.proofs.Concatenated.{alike_kinds, rows_joined, numbers_concatenated, rows_refused, given_none, join_fault-concat, first_kind, first_plain, kinds_of_first, ok_rows, ok_kind, ok_plain, ok_state, ok_extent, ok_flag, ok_numbers, primitive_numbers, plain_count, plain_joinable}
+use Rattle.vx_tree.specs.Meaning.{trees_from}
+use Rattle.vx_canonical.specs.Joined.{joined_len}
+use Rattle.vx_canonical.specs.Concatenated.{are_alike, extents_fault}
+use Rattle.vx_canonical.specs.Counted.{columns_rows_overflow}
+use Rattle.vx_canonical.proofs.Counted.{within_count}
+use Rattle.vx_canonical.proofs.Overflows.{columns_rows_refused}
+use Rattle.vx_canonical.proofs.Concatenated.{alike_kinds, rows_joined, numbers_concatenated, rows_refuse, extents_refuse, concat_faultless, first_kind, first_plain, kinds_of_first, ok_refuses, ok_rows, ok_kind, ok_plain, ok_state, ok_extent, ok_flag, ok_numbers, primitive_numbers, plain_count, plain_joinable}
 use Rattle.vx_canonical.proofs.concat.ArrayRefConcatenate.concat.Goals as goal
 
 pub join_like-requires-clause-plain : goal.join_like-requires-clause-plain
@@ -29,11 +32,15 @@ join_like-requires-clause-arrays c =
     let p = c.index.result.now in
     let alike : are_alike (kind_of t) ts ≡ true = sym (ap (λ k. are_alike k ts) c.dtype.ensures) ∙ sym c.are_alike.ensures ∙ c.if-not-are_alike.false in
     let some : 0 < length ps = omega (arith, plain_count ts ps c.in_ok-plain.ensures.ok, c.in-Some.ensures.item.3.0) in
-    rw c.deref-2.ensures.value (plain_joinable (kind_of p) ts ps c.in_ok-plain.ensures.ok (kinds_of_first ts ps t p c.in_ok-plain.ensures.ok alike some c.index.ensures) (rw c.deref.ensures.value at c.all_formed.ensures))
+    let same = first_kind ts ps t p c.in_ok-plain.ensures.ok alike some c.index.ensures in
+    let fits : extents_fault (kind_of p) (joined_len ts) (map extent_of ts) ≡ None =
+    (λ i. extents_fault ((same ∙ sym c.dtype-3.ensures) i) (sym c.in_ok-len.ensures.len i) (map extent_of ts)) ∙ c.in_ok-arrays_fit.ensures in
+    rw c.deref-2.ensures.value (plain_joinable (kind_of p) ts ps c.in_ok-plain.ensures.ok (kinds_of_first ts ps t p c.in_ok-plain.ensures.ok alike some c.index.ensures) (rw c.deref.ensures.value at c.all_formed.ensures)
+    (within_count (joined_len ts) c.in_ok-len.ensures.tests) fits)
 
 pub returns-clause-rows : goal.returns-clause-rows
 returns-clause-rows c =
-    ok_rows c.join_like.result (kind_of c.index.result.now) c.args.arrays.now c.in_ok-plain.plain.items c.in_ok-plain.ensures.ok (rw c.deref-2.ensures.value at c.join_like.ensures.ok)
+    ok_rows c.join_like.result (kind_of c.index.result.now) c.args.arrays.now c.in_ok-plain.plain.items c.in_ok-plain.ensures.ok (rw c.deref-2.ensures.value at c.join_like.ensures.joined)
 
 pub returns-clause-kind : goal.returns-clause-kind
 returns-clause-kind c =
@@ -43,24 +50,24 @@ returns-clause-kind c =
     let p = c.index.result.now in
     let alike : are_alike (kind_of t) ts ≡ true = sym (ap (λ k. are_alike k ts) c.dtype.ensures) ∙ sym c.are_alike.ensures ∙ c.if-not-are_alike.false in
     let some : 0 < length ps = omega (arith, plain_count ts ps c.in_ok-plain.ensures.ok, c.in-Some.ensures.item.3.0) in
-    ok_kind c.join_like.result (kind_of p) ts ps (kinds_of_first ts ps t p c.in_ok-plain.ensures.ok alike some c.index.ensures) (rw c.deref-2.ensures.value at c.join_like.ensures.ok)
+    ok_kind c.join_like.result (kind_of p) ts ps (kinds_of_first ts ps t p c.in_ok-plain.ensures.ok alike some c.index.ensures) (rw c.deref-2.ensures.value at c.join_like.ensures.joined)
 
 pub returns-clause-plain : goal.returns-clause-plain
-returns-clause-plain c = ok_plain c.join_like.result (kind_of c.index.result.now) c.deref-2.result.now c.join_like.ensures.ok
+returns-clause-plain c = ok_plain c.join_like.result (kind_of c.index.result.now) c.deref-2.result.now c.join_like.ensures.joined
 
 pub returns-clause-state : goal.returns-clause-state
 returns-clause-state c =
     let ts = c.args.arrays.now in
     let ps = c.in_ok-plain.plain.items in
     let some : 0 < length ps = omega (arith, plain_count ts ps c.in_ok-plain.ensures.ok, c.in-Some.ensures.item.3.0) in
-    ok_state c.join_like.result (kind_of c.index.result.now) ts ps c.in_ok-plain.ensures.ok some (rw c.deref-2.ensures.value at c.join_like.ensures.ok)
+    ok_state c.join_like.result (kind_of c.index.result.now) ts ps c.in_ok-plain.ensures.ok some (rw c.deref-2.ensures.value at c.join_like.ensures.joined)
 
 pub returns-clause-extent : goal.returns-clause-extent
 returns-clause-extent c =
-    ok_extent c.join_like.result (kind_of c.index.result.now) c.args.arrays.now c.in_ok-plain.plain.items c.in_ok-plain.ensures.ok (rw c.deref-2.ensures.value at c.join_like.ensures.ok)
+    ok_extent c.join_like.result (kind_of c.index.result.now) c.args.arrays.now c.in_ok-plain.plain.items c.in_ok-plain.ensures.ok (rw c.deref-2.ensures.value at c.join_like.ensures.joined)
 
 pub returns-clause-flag : goal.returns-clause-flag
-returns-clause-flag c = ok_flag c.join_like.result (kind_of c.index.result.now) c.deref-2.result.now c.join_like.ensures.ok
+returns-clause-flag c = ok_flag c.join_like.result (kind_of c.index.result.now) c.deref-2.result.now c.join_like.ensures.joined
 
 pub returns-clause-refuses : goal.returns-clause-refuses
 returns-clause-refuses c =
@@ -69,13 +76,10 @@ returns-clause-refuses c =
     let t = c.in-Some.first.now in
     let item = c.in-Some.ensures.item in
     let alike : are_alike (kind_of t) ts ≡ true = sym (ap (λ k. are_alike k ts) c.dtype.ensures) ∙ sym c.are_alike.ensures ∙ c.if-not-are_alike.false in
-    let some : 0 < length ps = omega (arith, plain_count ts ps c.in_ok-plain.ensures.ok, item.3.0) in
-    let k = kind_of c.index.result.now in
-    let short = c.in_ok-len.ensures.tests in
-    let none = given_none ts t item.3.0 item.1 alike short c.in_ok-plain.ensures.refuses in
-    let same = first_kind ts ps t c.index.result.now c.in_ok-plain.ensures.ok alike some c.index.ensures in
-    let joinable : AreJoinable k ps = plain_joinable k ts ps c.in_ok-plain.ensures.ok (kinds_of_first ts ps t c.index.result.now c.in_ok-plain.ensures.ok alike some c.index.ensures) (rw c.deref.ensures.value at c.all_formed.ensures) in
-    subst (Refuses c.join_like.result) (join_fault-concat ts ps t k c.in_ok-plain.ensures.ok joinable same item.3.0 item.1 short none) (rw c.deref-2.ensures.value at c.join_like.ensures.refuses)
+    let fits : extents_fault (kind_of t) (joined_len ts) (map extent_of ts) ≡ None =
+    (λ i. extents_fault (sym c.dtype-3.ensures i) (sym c.in_ok-len.ensures.len i) (map extent_of ts)) ∙ c.in_ok-arrays_fit.ensures in
+    let none = concat_faultless ts t item.3.0 item.1 alike c.in_ok-len.ensures.tests c.in_ok-plain.ensures.refuses fits in
+    ok_refuses c.join_like.result (kind_of c.index.result.now) ts ps none (rw c.deref-2.ensures.value at c.join_like.ensures.joined)
 
 pub concat_numbers-requires-clause-kind : goal.concat_numbers-requires-clause-kind
 concat_numbers-requires-clause-kind c =
@@ -119,15 +123,35 @@ returns-in-Primitive-clause-refuses c =
     let kind : kind_of t ≡ integers c.in-Primitive.ptype (is_nullable c.in-Primitive.nullability) = sym c.dtype-2.ensures ∙ ap dtype_meaning c.in-Primitive.is in
     numbers_concatenated ts t c.in-Primitive.ptype (is_nullable c.in-Primitive.nullability) kind item.3.0 item.1 alike c.in_ok-len.ensures.tests
 
-pub returns-then-not-is_countable : goal.returns-then-not-is_countable
-returns-then-not-is_countable c =
+pub returns-then-not-have_countable_rows : goal.returns-then-not-have_countable_rows
+returns-then-not-have_countable_rows c =
     let ts = c.args.arrays.now in
     let t = c.in-Some.first.now in
     let item = c.in-Some.ensures.item in
     let alike : are_alike (kind_of t) ts ≡ true = sym (ap (λ k. are_alike k ts) c.dtype.ensures) ∙ sym c.are_alike.ensures ∙ c.if-not-are_alike.false in
-    let told : plain_overflow (kind_of t) (joined_len ts) ≡ (if c.is_countable.result then None else Some overflow) =
-    (λ i. plain_overflow (sym c.dtype-3.ensures i) (sym c.in_ok-len.ensures.len i)) ∙ c.is_countable.ensures in
-    record { rows = tt; kind = tt; plain = tt; state = tt; extent = tt; flag = tt; numbers = tt; refuses = inr (rows_refused ts t c.is_countable.result item.3.0 item.1 alike c.in_ok-len.ensures.tests told c.if-not-is_countable.true) }
+    let many : columns_rows_overflow (trees_from ts) ≡ Some overflow = rw c.if-not-have_countable_rows.true at c.have_countable_rows.ensures in
+    record {
+      rows = tt;
+      kind = tt;
+      plain = tt;
+      state = tt;
+      extent = tt;
+      flag = tt;
+      numbers = tt;
+      refuses = inr (rows_refuse ts t item.3.0 item.1 alike c.in_ok-len.ensures.tests (columns_rows_refused (trees_from ts) many));
+    }
+
+pub returns-in_err-arrays_fit-clause-refuses : goal.returns-in_err-arrays_fit-clause-refuses
+returns-in_err-arrays_fit-clause-refuses c =
+    let ts = c.args.arrays.now in
+    let t = c.in-Some.first.now in
+    let item = c.in-Some.ensures.item in
+    let e = c.in_err-arrays_fit.field-0.0 in
+    let alike : are_alike (kind_of t) ts ≡ true = sym (ap (λ k. are_alike k ts) c.dtype.ensures) ∙ sym c.are_alike.ensures ∙ c.if-not-are_alike.false in
+    let same : extents_fault (dtype_meaning c.dtype-3.result.now) c.in_ok-len.len (map extent_of ts) ≡ extents_fault (kind_of t) (joined_len ts) (map extent_of ts) =
+    λ i. extents_fault (c.dtype-3.ensures i) (c.in_ok-len.ensures.len i) (map extent_of ts) in
+    let p = err_from_is_err_and c.from_residual-in_err-arrays_fit.result c.from_residual-in_err-arrays_fit.ensures.1 in
+    rw (p.1, p.2) (extents_refuse ts t e item.3.0 item.1 alike c.in_ok-len.ensures.tests (subst (λ f. IsMemoryOr f e) same c.in_err-arrays_fit.ensures))
 
 pub returns-clause-numbers : goal.returns-clause-numbers
 returns-clause-numbers c =

@@ -1,6 +1,9 @@
+use Rattle.std.proofs.Common.{sym, subst}
 use Rattle.vx_base.proofs.Refused.{Gives-weaker, Gives-IfOk}
 use Rattle.vx_tree.specs.Meaning.{trees_from}
+use Rattle.vx_tree.specs.Formed.{column_count}
 use Rattle.vx_tree.specs.Parts.{valid_of}
+use Rattle.vx_canonical.specs.Joined.{AreColumnsJoined}
 use Rattle.vx_canonical.proofs.JoinedRecords.{records_joined}
 use Rattle.vx_canonical.proofs.layouts.structure.join_structs.Goals as goal
 
@@ -15,4 +18,8 @@ returns-clause-joined c =
     Gives-weaker c.structure.result _ _ (λ a e. rw e joined) c.structure.ensures
 
 pub returns-clause-numbers : goal.returns-clause-numbers
-returns-clause-numbers c = λ h. Gives-IfOk c.structure.result _ _ (λ a e. rw e h) c.structure.ensures
+returns-clause-numbers c = λ h.
+    let ts = c.args.arrays.now in
+    let cs = trees_from c.args.columns.items in
+    let columns : AreColumnsJoined ts (column_count cs) cs = subst (λ m. AreColumnsJoined ts m cs) (sym c.requires.columns.count) c.requires.columns in
+    Gives-IfOk c.structure.result _ _ (λ a e. rw e (columns, h)) c.structure.ensures

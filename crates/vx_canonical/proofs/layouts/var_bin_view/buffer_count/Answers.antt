@@ -8,6 +8,6 @@ pub loop-array-preserved : goal.loop-array-preserved
 loop-array-preserved c =
     let t = c.array-item.result in
     let same = sym c.layout.ensures.parts ∙ ap tree_of c.in-VarBinView.is in
-    let long : c.len.result ≡ length (buffers_in t) = rw (ap buffers_in same) (omega (arith, c.len.ensures, c.in-VarBinView.buffers.ok.0)) in
+    let long : c.len-count.result ≡ length (buffers_in t) = rw (ap buffers_in same) (omega (arith, c.len-count.ensures, c.in-VarBinView.buffers.ok.0)) in
     let step = counts-step c.args.arrays.now c.loop-array.array-index t c.loop-array-test.true c.array-item.is in
-    (omega (arith, step, long, c.loop-array.invariant.0, c.len.ensures, c.len-count.ensures), omega (arith, c.loop-array.invariant.1, c.len.ensures, c.len-count.ensures))
+    omega (arith, step, long, c.loop-array.invariant, c.len-count.ensures)
