@@ -10,7 +10,7 @@ use Rattle.vx_pack.specs.declared.pieces.Piece.TheVariants as piece
 use Rattle.vx_pack.proofs.JoinedLists.{All-flat_map}
 use Rattle.vx_pack.proofs.PieceRows.{All-range_with_len}
 
-piece_fits : (k : Kind) (p : Piece) → Fits k (default_row k) → IsPiece k p → All (Fits k) (piece_rows k p)
+pub piece_fits : (k : Kind) (p : Piece) → Fits k (default_row k) → IsPiece k p → All (Fits k) (piece_rows k p)
 piece_fits k (piece.Rows p) default is = All-range_with_len (Fits k) (part_row k p) (part_len p) is.fits
 piece_fits k (piece.Blank n) default is = All-range_with_len (Fits k) (λ i. default_row k) n (λ i l. default)
 

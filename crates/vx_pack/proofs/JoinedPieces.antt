@@ -90,7 +90,7 @@ flat_map_same {X} f g from at n each =
     ∙ ap (flat_map (λ xs. xs)) (map_range_same f g from at n each)
     ∙ flat_map-map (λ (xs : List X). xs) g (range_with_len at n)
 
-map_of_flat_map : {X Y : Type 0} (g : X → Y) (f : ℕ → List X) (ks : List ℕ) → map g (flat_map f ks) ≡ flat_map (λ k. map g (f k)) ks
+pub map_of_flat_map : {X Y : Type 0} (g : X → Y) (f : ℕ → List X) (ks : List ℕ) → map g (flat_map f ks) ≡ flat_map (λ k. map g (f k)) ks
 map_of_flat_map g f [] = refl
 map_of_flat_map g f (k ∷ ks) = map-append g (f k) (flat_map f ks) ∙ ap (λ ys. map g (f k) ++ ys) (map_of_flat_map g f ks)
 

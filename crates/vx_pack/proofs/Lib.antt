@@ -15,7 +15,7 @@ pub mod PresentRows
 pub mod StoredBits
 pub mod ListPieces
 pub mod FieldPieces
-pub mod PieceCounts
+pub mod CountBytes
 pub mod BytesOfNumbers
 pub mod WrittenBack
 pub mod StoredNumbers
@@ -38,3 +38,9 @@ pub mod WholeRows
 pub mod StoredTexts
 pub mod FilledTexts
 pub mod StoredCounts
+pub mod ReadCounts
+pub mod NarrowCounts
+pub mod StoredLists
+pub mod ListItems
+pub mod ListCounts
+pub mod GatheredRows

@@ -1,6 +1,6 @@
 -- Pieces that are the lists of rows, default rows where a row is null.
 use Rattle.std.proofs.Common.{◌≡◌, ◌∙◌, ◌+◌, ◌*◌, ◌<◌, ◌^◌, ℕ, zero, suc, Bool, true, false, List, [], ◌∷◌, ◌++◌, length, map, replicate}
-use Rattle.std.proofs.Common.{take, sum, refl, sym, ap, subst, add-one, mul-zero, None, get_or, inl, inr}
+use Rattle.std.proofs.Common.{take, refl, sym, ap, subst, add-one, mul-zero, None, get_or, inl, inr}
 use Rattle.std.specs.List.{All, flat_map, range_with_len}
 use Rattle.std.proofs.lemmas.List.{append_assoc, map-append, nil_from_length}
 use Rattle.std.proofs.lemmas.List.Elements.{All-append, All-cons, All-nil}
@@ -13,14 +13,13 @@ use Rattle.vx_pack.specs.declared.parts.Part.{Part}
 use Rattle.vx_pack.specs.declared.pieces.Piece.{Piece}
 use Rattle.vx_pack.specs.declared.pieces.Piece.TheVariants as piece
 use Rattle.vx_pack.specs.Lists.{IsItemOf, IsListOf, is_lists}
-use Rattle.vx_pack.specs.Packed.{items_or_blank, list_sizes}
+use Rattle.vx_pack.specs.Packed.{items_or_blank}
 use Rattle.vx_pack.specs.Parts.{part_len, part_row}
-use Rattle.vx_pack.specs.Pieces.{AreElements, AreListPieces, ArePieces, IsListPiece, IsPiece, blank_of, piece_len, piece_row, piece_rows}
+use Rattle.vx_pack.specs.Pieces.{AreElements, AreListPieces, ArePieces, IsListPiece, IsPiece, blank_of, piece_row, piece_rows}
 use Rattle.vx_pack.specs.Pieces.{pieces_rows}
 use Rattle.vx_pack.proofs.BlankRows.{FitsOrBlank, fixed_lists_items_blank, list_from-rows_from}
 use Rattle.vx_pack.proofs.JoinedLists.{All-flat_map, length-flat_map-same}
-use Rattle.std.proofs.lemmas.Simd.{map-map}
-use Rattle.vx_pack.proofs.PieceRows.{All-range_with_len, length-piece_rows, length-pieces_rows}
+use Rattle.vx_pack.proofs.PieceRows.{All-range_with_len, length-pieces_rows}
 use Rattle.vx_pack.proofs.PieceRows.{map-range_with_len-replicate, piece_rows_more, pieces_rows_more}
 use Rattle.vx_pack.proofs.RowForms.{no_list}
 
@@ -133,22 +132,14 @@ pub rows_of_lists : (item : Kind) (blank : ℕ) (rs : List Row) (ps : List Piece
 rows_of_lists item blank rs ps h =
     lists_are item ps ∙ ap (flat_map (λ ss. ss)) h.lists ∙ flat_map-map (λ (ss : List Row). ss) (items_or_blank item blank) rs
 
-lens_of : (item : Kind) (ps : List Piece) → map piece_len ps ≡ map length (map (piece_rows item) ps)
-lens_of item [] = refl
-lens_of item (p ∷ ps) = λ i. sym (length-piece_rows item p) i ∷ lens_of item ps i
-
--- as many as each list has
-pub lens_of_lists : (item : Kind) (blank : ℕ) (rs : List Row) (ps : List Piece) → AreListPieces item blank rs ps
-    → map piece_len ps ≡ map (λ r. length (items_or_blank item blank r)) rs
-lens_of_lists item blank rs ps h = lens_of item ps ∙ ap (map length) h.lists ∙ map-map length (items_or_blank item blank) rs
-
-pub sizes_of_lists : (item : Kind) (rs : List Row) (ps : List Piece) → AreListPieces item 0 rs ps → map piece_len ps ≡ list_sizes item rs
-sizes_of_lists item rs ps h = lens_of_lists item 0 rs ps h
-
 -- they are the pieces of the elements
-pub ArePieces-lists : (item : Kind) (blank : ℕ) (rs : List Row) (ps : List Piece) (total : ℕ) → AreListPieces item blank rs ps
-    → total ≡ sum (map piece_len ps) → total < 2 ^ 64 → ArePieces item ps total
-ArePieces-lists item blank rs ps total h counted small = record { each = h.each; count = sym counted; fits = small }
+pub ArePieces-lists : (item : Kind) (rs : List Row) (ps : List Piece) (total : ℕ) → AreListPieces item 0 rs ps
+    → total ≡ length (flat_map (items_or_blank item 0) rs) → total < 2 ^ 64 → ArePieces item ps total
+ArePieces-lists item rs ps total h counted small = record {
+  each = h.each;
+  count = sym (length-pieces_rows item ps) ∙ ap length (rows_of_lists item 0 rs ps h) ∙ sym counted;
+  fits = small;
+}
 
 pub ArePieces-elements : (item : Kind) (n : ℕ) (rs : List Row) (ps : List Piece) → AreElements item n rs ps → n < 2 ^ 64
     → ArePieces item ps n

@@ -13,10 +13,12 @@ use Rattle.vx_pack.specs.Packed.{ArePacked, IsPackRefused, IsPacked, IsTooLarge,
 use Rattle.vx_pack.specs.Packed.{field_or_default}
 use Rattle.vx_pack.specs.Packed.{items_or_blank, list_sizes, list_starts, number_or_zero, packed_lists, packed_valid}
 use Rattle.vx_pack.specs.Lists.{IsItemOf}
-use Rattle.vx_pack.specs.Pieces.{AreElements, AreFieldPieces, AreListPieces, ArePieces, piece_len, pieces_rows}
+use Rattle.vx_pack.specs.Pieces.{AreElements, AreFieldPieces, ArePieces, pieces_rows}
 use Rattle.vx_pack.specs.Records.{kind_at}
 use Rattle.vx_pack.specs.declared.pieces.Piece.{Piece}
-use Rattle.vx_pack.proofs.ListPieces.{rows_of_lists, sizes_of_lists}
+use Rattle.vx_pack.specs.ListItems.{item_counts, list_items}
+use Rattle.vx_pack.proofs.JoinedLists.{sum-list_sizes}
+use Rattle.vx_pack.proofs.ListItems.{item_counts-lists, list_items-lists}
 use Rattle.vx_pack.proofs.PackedColumns.{field_rows, one_too_large}
 use Rattle.vx_pack.proofs.PackedLen.{packed_len}
 use Rattle.vx_pack.proofs.PackedParts.{WellFormed-numbers, lists_formed}
@@ -89,68 +91,59 @@ pub lists_items : (k item : Kind) (n : Bool) → k ≡ lists item n → IsItemOf
 lists_items k item n kind = subst (IsItemOf item) (sym kind) refl
 
 -- the elements, offsets and sizes of lists
-pub record AreListParts (item : Kind) (rs : List Row) (ps : List Piece) (total : ℕ) (e o s : Tree) : Type 0 where
-  pub lists : AreListPieces item 0 rs ps
-  pub counted : total ≡ sum (map piece_len ps)
+pub record AreListParts (item : Kind) (rs : List Row) (total : ℕ) (e o s : Tree) : Type 0 where
+  pub counted : total ≡ sum (list_sizes item rs)
   pub fits : total < 2 ^ 63
-  pub elements : IsPacked item (pieces_rows item ps) e
-  pub offsets : o ≡ counts_array (count_type total) (list_starts (map piece_len ps))
-  pub sizes : s ≡ counts_array (count_type total) (map piece_len ps)
+  pub elements : IsPacked item (flat_map (items_or_blank item 0) rs) e
+  pub offsets : o ≡ counts_array (count_type total) (list_starts (list_sizes item rs))
+  pub sizes : s ≡ counts_array (count_type total) (list_sizes item rs)
 
--- of pieces that are read at each step
-pub list_parts : (item : Kind) (rs : List Row) (ps qs bs cs ds : List Piece) (total : ℕ) (e o s : Tree) → AreListPieces item 0 rs ps
-    → qs ≡ ps → bs ≡ ps → cs ≡ ps → ds ≡ ps → total ≡ sum (map piece_len qs) → total < 2 ^ 63 → IsPacked item (pieces_rows item bs) e
-    → o ≡ counts_array (count_type total) (list_starts (map piece_len cs)) → s ≡ counts_array (count_type total) (map piece_len ds)
-    → AreListParts item rs ps total e o s
-list_parts item rs ps qs bs cs ds total e o s are counts elements starts lens counted fits packed offsets sizes = record {
-  lists = are;
-  counted = counted ∙ ap (λ xs. sum (map piece_len xs)) counts;
-  fits = fits;
-  elements = subst (λ xs. IsPacked item (pieces_rows item xs) e) elements packed;
-  offsets = offsets ∙ ap (λ xs. counts_array (count_type total) (list_starts (map piece_len xs))) starts;
-  sizes = sizes ∙ ap (λ xs. counts_array (count_type total) (map piece_len xs)) lens;
-}
+pub list_parts : (k item : Kind) (n : Bool) (rs : List Row) (total : ℕ) (e o s : Tree) → k ≡ lists item n
+    → total ≡ length (list_items k rs) → total < 2 ^ 63 → IsPacked item (list_items k rs) e
+    → o ≡ counts_array (count_type total) (list_starts (item_counts k rs)) → s ≡ counts_array (count_type total) (item_counts k rs)
+    → AreListParts item rs total e o s
+list_parts k item n rs total e o s kind counted fits elements offsets sizes =
+    let items = list_items-lists k item n rs kind in
+    let counts = item_counts-lists k item n rs kind in
+    record {
+      counted = counted ∙ ap length items ∙ sym (sum-list_sizes item rs);
+      fits = fits;
+      elements = subst (λ xs. IsPacked item xs e) items elements;
+      offsets = offsets ∙ ap (λ ns. counts_array (count_type total) (list_starts ns)) counts;
+      sizes = sizes ∙ ap (counts_array (count_type total)) counts;
+    }
 
--- the sizes are those of the rows
-sizes_of : (item : Kind) (rs : List Row) (ps : List Piece) (total : ℕ) (e o s : Tree) → AreListParts item rs ps total e o s
-    → total ≡ sum (list_sizes item rs)
-sizes_of item rs ps total e o s h = h.counted ∙ ap sum (sizes_of_lists item rs ps h.lists)
-
-parts_of : (item : Kind) (rs : List Row) (ps : List Piece) (total : ℕ) (e o s : Tree) (v : Valid) → AreListParts item rs ps total e o s
+parts_of : (item : Kind) (rs : List Row) (total : ℕ) (e o s : Tree) (v : Valid) → AreListParts item rs total e o s
     → list_view e o s v true ≡ packed_lists e (list_sizes item rs) v
-parts_of item rs ps total e o s v h =
-    let lens = sizes_of_lists item rs ps h.lists in
-    let summed = sizes_of item rs ps total e o s h in
+parts_of item rs total e o s v h =
+    let sizes = list_sizes item rs in
     (λ i. list_view e (h.offsets i) (h.sizes i) v true)
-    ∙ (λ i. let p = count_type (summed i) in list_view e (counts_array p (list_starts (lens i))) (counts_array p (lens i)) v true)
+    ∙ (λ i. let p = count_type (h.counted i) in list_view e (counts_array p (list_starts sizes)) (counts_array p sizes) v true)
 
-pub parts_formed : (k item : Kind) (rs : List Row) (ps : List Piece) (total : ℕ) (e o s : Tree) (v : Valid)
-    → AreListParts item rs ps total e o s
+pub parts_formed : (k item : Kind) (rs : List Row) (total : ℕ) (e o s : Tree) (v : Valid) → AreListParts item rs total e o s
     → IsValidOf k rs v → WellFormed (list_view e o s v true)
-parts_formed k item rs ps total e o s v h valid =
-    let elements = subst (λ xs. IsPacked item xs e) (rows_of_lists item 0 rs ps h.lists) h.elements in
-    let fits : sum (list_sizes item rs) < 2 ^ 63 = omega (arith, h.fits, sizes_of item rs ps total e o s h) in
-    subst WellFormed (sym (parts_of item rs ps total e o s v h))
+parts_formed k item rs total e o s v h valid =
+    let fits : sum (list_sizes item rs) < 2 ^ 63 = omega (arith, h.fits, h.counted) in
+    subst WellFormed (sym (parts_of item rs total e o s v h))
     (subst (λ w. WellFormed (packed_lists e (list_sizes item rs) w)) (sym valid)
-    (lists_formed item (is_nullable_kind k) rs e fits elements))
+    (lists_formed item (is_nullable_kind k) rs e fits h.elements))
 
-pub lists_packed : (k item : Kind) (n : Bool) (rs : List Row) (ps : List Piece) (total : ℕ) (e o s : Tree) (v : Valid) (t : Tree)
-    → k ≡ lists item n
-    → AreListParts item rs ps total e o s → IsValidOf k rs v → t ≡ list_view e o s v true → IsPacked k rs t
-lists_packed k item n rs ps total e o s v t kind h valid is =
+pub lists_packed : (k item : Kind) (n : Bool) (rs : List Row) (total : ℕ) (e o s : Tree) (v : Valid) (t : Tree) → k ≡ lists item n
+    → AreListParts item rs total e o s → IsValidOf k rs v → t ≡ list_view e o s v true → IsPacked k rs t
+lists_packed k item n rs total e o s v t kind h valid is =
     packed_under k (lists item n) rs t kind (
-      omega (arith, h.fits, sizes_of item rs ps total e o s h),
+      omega (arith, h.fits, h.counted),
       (
         e,
-        subst (λ xs. IsPacked item xs e) (rows_of_lists item 0 rs ps h.lists) h.elements,
-        is ∙ parts_of item rs ps total e o s v h ∙ ap (packed_lists e (list_sizes item rs)) (valid_under k (lists item n) rs v kind valid),
+        h.elements,
+        is ∙ parts_of item rs total e o s v h ∙ ap (packed_lists e (list_sizes item rs)) (valid_under k (lists item n) rs v kind valid),
       ),
     )
 
-pub lists_too_many : (k item : Kind) (n : Bool) (rs : List Row) (ps : List Piece) → k ≡ lists item n → AreListPieces item 0 rs ps
-    → 2 ^ 63 ≤ sum (map piece_len ps) → IsTooLarge k rs
-lists_too_many k item n rs ps kind are many =
-    subst (λ x. IsTooLarge x rs) (sym kind) (inl (omega (arith, many, ap sum (sizes_of_lists item rs ps are))))
+pub lists_too_many : (k item : Kind) (n : Bool) (rs : List Row) → k ≡ lists item n
+    → 2 ^ 63 ≤ length (flat_map (items_or_blank item 0) rs) → IsTooLarge k rs
+lists_too_many k item n rs kind many =
+    subst (λ x. IsTooLarge x rs) (sym kind) (inl (omega (arith, many, sum-list_sizes item rs)))
 
 -- why parts are not packed is why the whole is not
 refused_too : (k l : Kind) (rs ss : List Row) (e : VortexError) → (IsTooLarge l ss → IsTooLarge k rs) → IsPackRefused l ss e
@@ -158,12 +151,10 @@ refused_too : (k l : Kind) (rs ss : List Row) (e : VortexError) → (IsTooLarge 
 refused_too k l rs ss e large (inl memory) = inl memory
 refused_too k l rs ss e large (inr over) = inr (over.0, large over.1)
 
-pub lists_refused : (k item : Kind) (n : Bool) (rs : List Row) (ps : List Piece) (e : VortexError) → k ≡ lists item n
-    → AreListPieces item 0 rs ps
-    → IsPackRefused item (pieces_rows item ps) e → IsPackRefused k rs e
-lists_refused k item n rs ps e kind are =
-    refused_too k item rs (pieces_rows item ps) e (λ large. subst (λ x. IsTooLarge x rs) (sym kind)
-    (inr (subst (IsTooLarge item) (rows_of_lists item 0 rs ps are) large)))
+pub lists_refused : (k item : Kind) (n : Bool) (rs : List Row) (e : VortexError) → k ≡ lists item n
+    → IsPackRefused item (flat_map (items_or_blank item 0) rs) e → IsPackRefused k rs e
+lists_refused k item n rs e kind =
+    refused_too k item rs (flat_map (items_or_blank item 0) rs) e (λ large. subst (λ x. IsTooLarge x rs) (sym kind) (inr large))
 
 -- ---- lists of one size
 

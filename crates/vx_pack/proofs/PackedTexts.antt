@@ -1,7 +1,7 @@
 -- Texts and byte lists that are packed, by their kind, and what refuses them.
-use Rattle.std.proofs.Common.{◌≡◌, ◌∙◌, ◌+◌, ◌<◌, ◌≤◌, ◌^◌, ℕ, Bool, true, false, List, length, map, get_or, Some, None, refl}
+use Rattle.std.proofs.Common.{◌≡◌, ◌+◌, ◌<◌, ◌≤◌, ◌^◌, ℕ, Bool, true, false, List, length, map, Some, None, refl}
 use Rattle.std.proofs.Common.{sym, ap, subst, inl, inr, le-leb, arith}
-use Rattle.std.specs.Prelude.{Option, IsSome, if◌then◌else◌, nat_le}
+use Rattle.std.specs.Prelude.{IsSome, if◌then◌else◌, nat_le}
 use Rattle.std.proofs.lemmas.Bool.Decides.{leb_tells}
 use Rattle.vx_base.specs.Kinds.{Kind, texts, binaries, is_nullable_kind, Fits}
 use Rattle.vx_base.specs.Refusals.{Names, Refusal, overflow, refusal_of, value_too_long}
@@ -10,14 +10,14 @@ use Rattle.vx_base.specs.Rows.{Row, null, bytes, text}
 use Rattle.vx_base.specs.declared.errors.VortexError.{VortexError}
 use Rattle.vx_base.specs.declared.errors.VortexError.TheVariants.{Overflow}
 use Rattle.vx_views.proofs.FaultyViews.{text_fault_none}
-use Rattle.vx_views.specs.BuildFaults.{IsPieceCount, numbering_fault}
+use Rattle.vx_views.specs.BuildFaults.{numbering_fault}
 use Rattle.vx_views.specs.Faulty.{text_fault}
 use Rattle.vx_views.specs.declared.view.TheConstants.{MAX_BUFFER_LEN}
 use Rattle.vx_tree.specs.Meaning.{is_texts}
 use Rattle.vx_tree.specs.Tree.{Tree}
 use Rattle.vx_tree.specs.Values.{bytes_in}
-use Rattle.vx_text.specs.Items.{IsArrayOf, heap_lens, item_at, item_fault}
-use Rattle.vx_pack.specs.Packed.{HasTooManyBuffers, IsPackRefused, IsPacked, IsTooLarge, has_bytes}
+use Rattle.vx_text.specs.Items.{IsArrayOf, item_fault}
+use Rattle.vx_pack.specs.Packed.{HasTooManyBuffers, IsPacked, IsTooLarge, has_bytes}
 
 -- ---- by their kind
 

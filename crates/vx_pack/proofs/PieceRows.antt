@@ -8,7 +8,8 @@ use Rattle.std.proofs.lemmas.List.FromFn.{get_or-map-range_with_len, length-map-
 use Rattle.std.proofs.lemmas.List.Sums.{sum-map, sum_by-cons, sum_by_more_le}
 use Rattle.vx_base.specs.Kinds.{Kind}
 use Rattle.vx_pack.specs.declared.pieces.Piece.{Piece}
-use Rattle.vx_pack.specs.Pieces.{piece_len, piece_row, piece_rows, pieces_rows}
+use Rattle.vx_pack.specs.declared.pieces.Piece.TheVariants as piece
+use Rattle.vx_pack.specs.Pieces.{IsPiece, IsWithinPiece, piece_len, piece_row, piece_rows, pieces_rows}
 
 -- ---- lists that a function tells by place
 
@@ -65,3 +66,8 @@ pub piece_len_within : (ps : List Piece) (i : ℕ) (p : Piece) → i < length ps
     → sum (map piece_len (take i ps)) + piece_len p ≤ sum (map piece_len ps)
 piece_len_within ps i p l at =
     omega (arith, sum_by_more_le piece_len ps i p l, sum-map piece_len (take i ps), sum-map piece_len ps, ap piece_len at)
+
+-- rows of a kind stand there
+pub piece_within : (k : Kind) (p : Piece) → IsPiece k p → IsWithinPiece p
+piece_within k (piece.Rows p) is = is.within
+piece_within k (piece.Blank n) is = is

@@ -1,8 +1,8 @@
 -- Counts that stand as numbers one after another.
-use Rattle.std.proofs.Common.{◌≡◌, ◌∙◌, ◌<◌, ℕ, Bool, true, false, List, length, sym, ap, subst}
-use Rattle.std.specs.Prelude.{◌≤ℤ◌, ℤ, pos, if◌then◌else◌}
+use Rattle.std.proofs.Common.{◌≡◌, ◌∙◌, ◌<◌, ℕ, Bool, true, false, List, length, sym, ap}
+use Rattle.std.specs.Prelude.{ℤ, pos, if◌then◌else◌}
 use Rattle.vx_base.specs.Integers.{number_nth, numbers}
-use Rattle.vx_base.specs.Rows.{Row, count_in, null, whole}
+use Rattle.vx_base.specs.Rows.{count_in, null, whole}
 use Rattle.vx_base.specs.declared.ptypes.PType.{PType}
 use Rattle.vx_tree.specs.Formed.{IsCounts}
 use Rattle.vx_tree.specs.Meaning.{is_valid_at, row_at, tree_len}

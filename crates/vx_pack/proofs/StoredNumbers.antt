@@ -41,7 +41,7 @@ zero_bytes I64 = refl
 bytes_part : (bs : List ℕ) (from to : ℕ) → AreBytes bs → AreBytes (slice_range bs from to)
 bytes_part bs from to good = bytes-take (to - from) (drop from bs) (bytes-drop from bs good)
 
-number_bytes_at : (t : PType) (bs : List ℕ) (i : ℕ) → AreBytes bs → i < length bs / byte_width t
+pub number_bytes_at : (t : PType) (bs : List ℕ) (i : ℕ) → AreBytes bs → i < length bs / byte_width t
     → slice_range bs (i * byte_width t) (i * byte_width t + byte_width t) ≡ bytes_of t (number_nth (numbers t bs) i)
 number_bytes_at t bs i good inside =
     let w = byte_width t in
@@ -60,7 +60,7 @@ kept t false z bs same = sym (zero_bytes t)
 
 -- ---- all of them
 
-flat_map_range : {X : Type 0} (f g : ℕ → List X) (n : ℕ) → ((i : ℕ) → i < n → f i ≡ g i)
+pub flat_map_range : {X : Type 0} (f g : ℕ → List X) (n : ℕ) → ((i : ℕ) → i < n → f i ≡ g i)
     → flat_map f (range_with_len 0 n) ≡ flat_map g (range_with_len 0 n)
 flat_map_range {X} f g n each =
     sym (flat_map-map (λ (xs : List X). xs) f (range_with_len 0 n))

@@ -18,8 +18,7 @@ use Rattle.vx_tree.specs.Values.{bytes_in}
 use Rattle.vx_text.specs.Items.{value_of}
 use Rattle.vx_pack.specs.Packed.{has_bytes}
 use Rattle.vx_pack.specs.Parts.{AreSameBy, IsPart, part_len, part_row}
-use Rattle.vx_pack.specs.Pieces.{piece_rows}
-use Rattle.vx_pack.specs.StoredTexts.{AreFullTexts, AreStoredTexts, AreValuesIn, bytes_or_empty, stored_value, stored_values, stored_view}
+use Rattle.vx_pack.specs.StoredTexts.{AreFullTexts, AreStoredTexts, AreValuesIn, bytes_or_empty, stored_value, stored_view}
 use Rattle.vx_pack.specs.declared.parts.Part.{Part}
 use Rattle.vx_pack.specs.declared.pieces.Piece.TheVariants.{Rows}
 use Rattle.vx_pack.specs.declared.stored_texts.StoredTexts.{StoredTexts}

@@ -10,3 +10,7 @@ pub mod Pieces
 pub mod PackedLaws
 pub mod StoredNumbers
 pub mod StoredTexts
+pub mod ListItems
+pub mod CountBytes
+pub mod StoredLists
+pub mod Gathered

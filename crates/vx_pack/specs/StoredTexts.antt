@@ -1,10 +1,13 @@
 -- Texts and byte lists that stand by their views, and what is put into buffers.
-use Rattle.std.specs.Prelude.{◌≡◌, ◌<◌, ◌≤◌, ℕ, Bool, true, List, [], ◌∷◌, length, map, slice_index_or, IsTrue, Some}
-use Rattle.vx_base.specs.Kinds.{Kind}
+use Rattle.std.specs.Prelude.{◌≡◌, ◌<◌, ◌≤◌, ℕ, true, List, [], ◌∷◌, length, map, slice_index_or, IsTrue, Some}
+use Rattle.std.specs.List.{All}
+use Rattle.vx_base.specs.Kinds.{Kind, is_nullable_kind, Fits}
 use Rattle.vx_base.specs.Rows.{Row}
 use Rattle.vx_views.specs.Views.{view_of, view_value, Resolves}
 use Rattle.vx_views.specs.declared.view.TheConstants.{MAX_BUFFER_LEN, MAX_INLINED_SIZE}
+use Rattle.vx_tree.specs.Tree.{Valid}
 use Rattle.vx_tree.specs.Values.{bytes_in}
+use Rattle.vx_pack.specs.Packed.{has_bytes, packed_valid}
 use Rattle.vx_text.specs.Filling.{Filling, IsPut, filling, viewed, with_room}
 use Rattle.vx_text.specs.Items.{value_of}
 use Rattle.vx_text.specs.declared.filling.Filling.{Filling as Buffers}
@@ -74,3 +77,10 @@ pub record IsPushed (f : Filling) (value : List ℕ) (g : Filling) : Type 0 wher
 abbrev pub ArePushed : Filling → List (List ℕ) → Filling → Type 0
 ArePushed f [] g = g ≡ f
 ArePushed f (value ∷ values) g = (h : Filling) × IsPushed f value h × ArePushed h values g
+
+-- buffers that are filled with the values of rows, no bytes where they are null, and the simplest validity of these rows
+pub record AreTextsOf (k : Kind) (rs : List Row) (f : Filling) (v : Valid) : Type 0 where
+  pub kind : has_bytes k ≡ true
+  pub fits : All (Fits k) rs
+  pub pushed : ArePushed (filling [] [] []) (map bytes_or_empty rs) f
+  pub valid : v ≡ packed_valid (is_nullable_kind k) rs

@@ -4,22 +4,28 @@
 //! Read `rows_equal` and `pack` first: the contracts, with specs/Packed. Then `parts` (rows that
 //! are read where they stand) and `same_rows`, which compares two parts; then `pieces` (parts, and
 //! default rows between them) and `pack_rows`, which packs pieces. The files `packed_*` pack one
-//! kind of column each; `stored_bits` and `stored_numbers` tell what can be copied whole. `laws`
-//! are for callers.
+//! kind of column each, `gathered` values that come list by list; `stored_bits`, `stored_numbers`
+//! and `stored_lists` tell what can be read as it lies, and `list_runs` gathers the numbers of
+//! lists. `laws` are for callers.
 //!
 //! Two walks go down a data type: `#[cycle(same)]` and `pack`. Three follow codes or layouts:
 //! `place_of` in `places`, `truth` in `truths`, and `one_row`.
 #![tactic(auto)]
 
 mod codes;
+mod count_bytes;
 mod fields;
+mod gathered;
 pub mod laws;
+mod list_counts;
+mod list_runs;
 mod lists;
 mod one_row;
 mod pack;
 mod pack_rows;
 mod packed_bits;
 mod packed_fields;
+mod packed_items;
 mod packed_lists;
 mod packed_numbers;
 mod packed_texts;
@@ -32,6 +38,7 @@ mod same_leaves;
 mod same_numbers;
 mod same_rows;
 mod stored_bits;
+mod stored_lists;
 mod stored_numbers;
 mod stored_texts;
 mod texts;

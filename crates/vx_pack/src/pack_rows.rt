@@ -3,16 +3,17 @@
 ghost use Rattle.std.specs.Prelude.{◌≡◌, ◌<◌, Bool, IfErr, IfOk, length, map};
 ghost use Rattle.vx_base.specs.DTypes.{dtype_meaning, field_kinds, field_names};
 ghost use Rattle.vx_base.specs.Kinds.{booleans, fixed_lists, integers, lists, records};
+ghost use Rattle.vx_pack.specs.ListItems.{list_items};
 ghost use Rattle.vx_pack.specs.Packed.{ArePacked, IsPackRefused, IsPacked, field_or_default};
 ghost use Rattle.vx_tree.specs.Meaning.{trees_from};
 ghost use Rattle.vx_pack.specs.Pieces.{ArePieces, pieces_rows};
 ghost use Rattle.vx_pack.specs.Records.{kind_at};
 
+use crate::list_counts::{ListCounts, check_same_lists, total_of_lists};
 use crate::packed_bits::{truth_bits, validity_of};
 use crate::packed_fields::field_pieces;
-use crate::packed_lists::{
-    fixed_list_pieces, list_pieces, sizes_array, starts_array, total_within,
-};
+use crate::packed_items::pack_items;
+use crate::packed_lists::{fixed_list_pieces, list_pieces};
 use crate::packed_numbers::number_bytes;
 use crate::packed_texts::pack_texts;
 use crate::pieces::Piece;
@@ -105,13 +106,44 @@ fn pack_lists(
     ensures err { let kind = dtype_meaning dtype.now in
         IfErr result (IsPackRefused kind (pieces_rows kind pieces.now)) }
 {
-    let lists = list_pieces(alloc, dtype, pieces, 0, len)?;
-    let total = total_within(&lists, MAX_ELEMENTS)?;
-    let elements = pack_rows(alloc, items, &lists, total)?;
-    let offsets = starts_array(alloc, &lists, total)?;
-    let sizes = sizes_array(alloc, &lists, total)?;
+    check_same_lists(dtype, pieces, MAX_ELEMENTS)?;
+    let counts = ListCounts::with_capacity(alloc, len)?;
+    let total = total_of_lists(dtype, pieces, MAX_ELEMENTS)?;
+    let elements = pack_elements(alloc, dtype, items, pieces, len, total)?;
+    let (offsets, sizes) = counts.of_lists(alloc, dtype, pieces, total)?;
     let validity = validity_of(alloc, dtype, pieces, len)?;
     ArrayRef::list_view(alloc, elements, offsets, sizes, validity, true)
+}
+
+// That of the elements of lists, of which there are so many: no list is listed where they are
+// values.
+#[cycle(pack)]
+fn pack_elements(
+    alloc: Global,
+    dtype: &DType,
+    items: &DType,
+    pieces: &[Piece],
+    len: usize,
+    total: usize,
+) -> Result<ArrayRef, VortexError>
+    requires kind { (n : Bool) × (dtype_meaning dtype.now ≡ lists (dtype_meaning items.now) n) }
+    requires pieces { ArePieces (dtype_meaning dtype.now) pieces.now len }
+    requires total { let kind = dtype_meaning dtype.now in
+        length (list_items kind (pieces_rows kind pieces.now)) ≡ total }
+    ensures ok { let kind = dtype_meaning dtype.now in
+        IfOk result (IsPacked (dtype_meaning items.now) (list_items kind (pieces_rows kind pieces.now))) }
+    ensures err { let kind = dtype_meaning dtype.now in
+        IfErr result (IsPackRefused (dtype_meaning items.now) (list_items kind (pieces_rows kind pieces.now))) }
+{
+    match items {
+        DType::Bool(_) | DType::Primitive(_, _) | DType::Utf8(_) | DType::Binary(_) => {
+            pack_items(alloc, dtype, items, pieces, total)
+        }
+        DType::List(_, _) | DType::FixedSizeList(_, _, _) | DType::Struct(_, _) => {
+            let lists = list_pieces(alloc, dtype, pieces, 0, len)?;
+            pack_rows(alloc, items, &lists, total)
+        }
+    }
 }
 
 // That of lists of one size: over their packed elements, default rows under null.

@@ -44,7 +44,7 @@ pub(crate) fn truth_bits(
 }
 
 // Those of a piece, at the end of the bits.
-fn push_truths(
+pub(crate) fn push_truths(
     alloc: Global,
     bits: &mut BitBufferMut,
     dtype: &DType,
@@ -180,7 +180,7 @@ fn present_bits(
 }
 
 // The same of a piece, at the end of the bits.
-fn push_present(
+pub(crate) fn push_present(
     alloc: Global,
     bits: &mut BitBufferMut,
     dtype: &DType,
@@ -233,7 +233,7 @@ fn push_bit(bits: &mut BitBufferMut, bit: bool) -> Result<(), VortexError>
 }
 
 // So many times the same bit.
-fn push_same(bits: &mut BitBufferMut, bit: bool, count: usize) -> Result<(), VortexError>
+pub(crate) fn push_same(bits: &mut BitBufferMut, bit: bool, count: usize) -> Result<(), VortexError>
     requires { length bits.old + count < 2 ^ 64 }
     ensures { Gives result (λ _. bits.new ≡ bits.old ++ replicate count bit) }
 {
@@ -258,7 +258,7 @@ fn push_range(
 
 // The bits, which begin with a byte, and of which none after the last row is set: where bits are
 // copied some may be.
-fn zero_padded(alloc: Global, bits: BitBufferMut) -> Result<BitBuffer, VortexError>
+pub(crate) fn zero_padded(alloc: Global, bits: BitBufferMut) -> Result<BitBuffer, VortexError>
     ensures bits { Gives result (λ b. b.bits ≡ bits) }
     ensures offset { IfOk result (λ b. b.offset ≡ 0) }
 {

@@ -1,21 +1,18 @@
 // Lists that are packed: where each begins and ends, and which rows are theirs.
 
-ghost use Rattle.std.specs.Prelude.{◌≡◌, ◌≤◌, ◌<◌, ◌*◌, ◌++◌, ◌^◌, Bool, List, MatchResult, map, sum};
+ghost use Rattle.std.specs.Prelude.{◌≡◌, ◌*◌, ◌++◌, Bool, List};
 ghost use Rattle.std.specs.List.{All, flat_map};
 ghost use Rattle.vx_base.specs.DTypes.{dtype_meaning};
 ghost use Rattle.vx_base.specs.Kinds.{Kind, fixed_lists};
 ghost use Rattle.vx_base.specs.Refusals.{Gives};
-ghost use Rattle.vx_base.specs.declared.errors.VortexError.TheVariants.{Overflow};
 ghost use Rattle.vx_pack.specs.Lists.{IsItemOf};
-ghost use Rattle.vx_pack.specs.Packed.{count_type, counts_array, items_or_blank, list_starts};
-ghost use Rattle.vx_pack.specs.Pieces.{AreElements, AreJoined, AreListPieces, ArePieces, IsPiece, blank_of, piece_len, piece_rows, pieces_rows};
+ghost use Rattle.vx_pack.specs.Packed.{items_or_blank};
+ghost use Rattle.vx_pack.specs.Pieces.{AreElements, AreJoined, AreListPieces, ArePieces, IsPiece, blank_of, piece_rows, pieces_rows};
 ghost use Rattle.vx_pack.specs.declared.pieces.Piece.{Piece as Pieces};
 
-use crate::packed_numbers::push_count;
 use crate::pieces::Piece;
 use std::alloc::Global;
-use vx_base::{ByteBuffer, DType, PType, VortexError};
-use vx_tree::{ArrayRef, Validity};
+use vx_base::{DType, VortexError};
 
 // The rows of each list, one piece a list; so many default rows where it is null.
 pub(crate) fn list_pieces<'a>(
@@ -117,74 +114,4 @@ fn push_lists<'a>(
         lists.push(piece.list_or_blank(i, blank))?;
     }
     Ok(())
-}
-
-// How many rows the pieces have together. Refuses `Overflow` where they are more than the limit.
-pub(crate) fn total_within(pieces: &[Piece], limit: usize) -> Result<usize, VortexError>
-    ensures { MatchResult result
-        (λ total. (total ≡ sum (map piece_len pieces.now)) × (total ≤ limit))
-        (λ e. (e ≡ Overflow) × (limit < sum (map piece_len pieces.now))) }
-{
-    let mut total: usize = 0;
-    for piece in pieces {
-        match total.checked_add(piece.len()) {
-            Some(more) if more <= limit => total = more,
-            _ => return Err(VortexError::Overflow),
-        }
-    }
-    Ok(total)
-}
-
-// The type of offsets and sizes of lists that have so many elements: the narrow one where it
-// holds them.
-pub(crate) fn count_type(total: usize) -> PType
-    ensures { result ≡ count_type total }
-{
-    if total <= i32::MAX as usize {
-        PType::I32
-    } else {
-        PType::I64
-    }
-}
-
-// Where each of these lists begins, where they stand end to end. Asks that they have so many
-// elements, as many as I64 counts.
-pub(crate) fn starts_array(
-    alloc: Global,
-    lists: &[Piece],
-    total: usize,
-) -> Result<ArrayRef, VortexError>
-    requires total { sum (map piece_len lists.now) ≡ total }
-    requires fits { total < 2 ^ 63 }
-    ensures { Gives result (λ a. a ≡ counts_array (count_type total) (list_starts (map piece_len lists.now))) }
-{
-    let ptype = count_type(total);
-    let mut bytes = Vec::with_capacity(alloc, lists.len().saturating_mul(ptype.byte_width()))?;
-    let mut start: usize = 0;
-    for list in lists {
-        push_count(&mut bytes, ptype, start)?;
-        start += list.len();
-    }
-    let bytes = ByteBuffer::from_vec(alloc, bytes)?;
-    ArrayRef::primitive(alloc, ptype, bytes, Validity::NonNullable)
-}
-
-// How many rows each of these lists has. Asks that they have so many elements, as many as I64
-// counts.
-pub(crate) fn sizes_array(
-    alloc: Global,
-    lists: &[Piece],
-    total: usize,
-) -> Result<ArrayRef, VortexError>
-    requires total { sum (map piece_len lists.now) ≡ total }
-    requires fits { total < 2 ^ 63 }
-    ensures { Gives result (λ a. a ≡ counts_array (count_type total) (map piece_len lists.now)) }
-{
-    let ptype = count_type(total);
-    let mut bytes = Vec::with_capacity(alloc, lists.len().saturating_mul(ptype.byte_width()))?;
-    for list in lists {
-        push_count(&mut bytes, ptype, list.len())?;
-    }
-    let bytes = ByteBuffer::from_vec(alloc, bytes)?;
-    ArrayRef::primitive(alloc, ptype, bytes, Validity::NonNullable)
 }

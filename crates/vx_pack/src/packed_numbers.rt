@@ -37,7 +37,11 @@ pub(crate) fn number_bytes(
 
 // Those of a piece, at the end of the bytes: as they stand, where they stand so, and 0 for those of
 // them that bits tell to be null.
-fn push_numbers(bytes: &mut Vec<u8>, ptype: PType, piece: Piece) -> Result<(), VortexError>
+pub(crate) fn push_numbers(
+    bytes: &mut Vec<u8>,
+    ptype: PType,
+    piece: Piece,
+) -> Result<(), VortexError>
     requires { (n : Bool) × IsPiece (integers ptype n) piece }
     ensures { Gives result (λ _. (n : Bool) → IsPiece (integers ptype n) piece.entry → bytes.new.items
         ≡ bytes.old.items ++ bytes_of_numbers ptype (map number_or_zero (piece_rows (integers ptype n) piece.entry))) }

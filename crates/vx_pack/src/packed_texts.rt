@@ -1,21 +1,23 @@
 // Texts and byte lists that are packed.
 
-ghost use Rattle.std.specs.Prelude.{◌≡◌, ◌<◌, ◌≤◌, ℕ, [], IfErr, IfOk, length, map, slice_index_or, true};
+ghost use Rattle.std.specs.Prelude.{◌≡◌, ◌<◌, ◌≤◌, ℕ, List, [], IfErr, IfOk, length, map, slice_index_or, true};
 ghost use Rattle.std.specs.List.{All};
 ghost use Rattle.vx_base.specs.DTypes.{dtype_meaning};
 ghost use Rattle.vx_base.specs.Refusals.{Gives};
+ghost use Rattle.vx_base.specs.Rows.{Row};
+ghost use Rattle.vx_tree.specs.Parts.{valid_of};
 ghost use Rattle.vx_views.specs.Views.{Resolves, view_value};
 ghost use Rattle.vx_text.specs.Filling.{filling};
 ghost use Rattle.vx_pack.specs.Packed.{IsPackRefused, IsPacked, has_bytes};
 ghost use Rattle.vx_pack.specs.Pieces.{ArePieces, IsPiece, piece_rows, pieces_rows};
-ghost use Rattle.vx_pack.specs.StoredTexts.{ArePushed, bytes_or_empty, filled};
+ghost use Rattle.vx_pack.specs.StoredTexts.{ArePushed, AreTextsOf, bytes_or_empty, filled};
 
 use crate::packed_bits::validity_of;
 use crate::pieces::Piece;
 use std::alloc::Global;
 use vx_base::{ByteBuffer, DType, VortexError};
 use vx_text::Filling;
-use vx_tree::ArrayRef;
+use vx_tree::{ArrayRef, Validity};
 use vx_views::{BinaryView, MAX_BUFFER_LEN};
 
 // The packed form of texts or byte lists.
@@ -33,8 +35,24 @@ pub(crate) fn pack_texts(
         IfErr result (IsPackRefused kind (pieces_rows kind pieces.now)) }
 {
     let texts = filled_with(alloc, dtype, pieces, len)?;
-    let (buffers, views) = texts.finish(alloc)?;
     let validity = validity_of(alloc, dtype, pieces, len)?;
+    finished_texts(alloc, dtype, texts, validity)
+}
+
+// The packed form of rows whose values are these, with their validity.
+pub(crate) fn finished_texts(
+    alloc: Global,
+    dtype: &DType,
+    texts: Filling,
+    validity: Validity,
+) -> Result<ArrayRef, VortexError>
+    requires { (rs : List Row) × AreTextsOf (dtype_meaning dtype.now) rs (filled texts) (valid_of validity) }
+    ensures ok { let kind = dtype_meaning dtype.now in
+        (rs : List Row) → AreTextsOf kind rs (filled texts) (valid_of validity) → IfOk result (IsPacked kind rs) }
+    ensures err { let kind = dtype_meaning dtype.now in
+        (rs : List Row) → AreTextsOf kind rs (filled texts) (valid_of validity) → IfErr result (IsPackRefused kind rs) }
+{
+    let (buffers, views) = texts.finish(alloc)?;
     let dtype = dtype.try_clone(alloc)?;
     ArrayRef::var_bin_view(alloc, views, buffers, dtype, validity)
 }
@@ -73,7 +91,7 @@ fn heap_len(dtype: &DType, pieces: &[Piece]) -> usize
 }
 
 // How many bytes the values have together that stand in no view.
-fn long_len(views: &[BinaryView]) -> usize {
+pub(crate) fn long_len(views: &[BinaryView]) -> usize {
     let mut total: usize = 0;
     for view in views {
         if !view.is_inlined() {
@@ -84,7 +102,7 @@ fn long_len(views: &[BinaryView]) -> usize {
 }
 
 // The values of a piece, after the others.
-fn push_texts(
+pub(crate) fn push_texts(
     alloc: Global,
     texts: &mut Filling,
     dtype: &DType,

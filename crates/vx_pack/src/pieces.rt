@@ -12,9 +12,11 @@ ghost use Rattle.vx_pack.specs.Lists.{IsItemOf};
 ghost use Rattle.vx_pack.specs.Packed.{bytes_of_numbers, has_bytes, items_or_blank, number_or_zero};
 ghost use Rattle.vx_pack.specs.Pieces.{AreJoined, IsFieldPiece, IsListPiece, IsPiece, IsWithinPiece, blank_of, piece_len, piece_row, piece_rows};
 ghost use Rattle.vx_pack.specs.Records.{kind_at};
+ghost use Rattle.vx_pack.specs.StoredLists.{AreStoredLists};
 ghost use Rattle.vx_pack.specs.StoredNumbers.{AreStoredNumbers};
 
 use crate::parts::Part;
+use crate::stored_lists::StoredLists;
 use crate::stored_numbers::StoredNumbers;
 use std::alloc::Global;
 use vx_base::{PType, StructFields, VortexError};
@@ -143,6 +145,18 @@ impl<'a> Piece<'a> {
                 None => Piece::Blank(blank),
             },
             Piece::Blank(_) => Piece::Blank(blank),
+        }
+    }
+
+    // The lists that the rows are, where offsets and sizes stand as numbers and no row is null.
+    pub fn stored_lists(self) -> Option<StoredLists<'a>>
+        requires { IsWithinPiece self }
+        ensures { IfSome result (λ s. (item k : Kind) → IsItemOf item k → IsPiece k self.entry →
+            AreStoredLists item (piece_rows k self.entry) s) }
+    {
+        match self {
+            Piece::Rows(part) => part.stored_lists(),
+            Piece::Blank(_) => None,
         }
     }
 

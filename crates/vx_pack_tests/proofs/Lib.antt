@@ -1,2 +1,1 @@
-pub mod ByteNumbers
 pub mod ListsWithin

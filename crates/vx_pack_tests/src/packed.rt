@@ -1,9 +1,7 @@
 // What arrays pack to: each wanted text was written by hand, of the rows alone.
 
 use crate::written::written;
-use std::alloc::Global;
 use std::process::Abort;
-use vx_base::VortexError;
 use vx_pack::laws::{
     packed_parts_tell_rows, packing_keeps_rows, packing_twice_is_packing_once,
     rows_pack_to_one_tree, what_is_packed_is_held,
@@ -22,6 +20,7 @@ mod lists;
 mod nests;
 mod numbers;
 mod records;
+mod stored_lists;
 mod texts;
 mod truths;
 mod values;
@@ -30,18 +29,13 @@ mod values;
 const LEVELS: usize = 8;
 
 // The packed form of an array, as text.
-fn packed_text(alloc: Global, array: &ArrayRef) -> Result<String, VortexError> {
-    written(alloc, &array.pack(alloc)?, LEVELS)
+fn packed_text(rt: &(impl Abort + AllocGlobal), array: &ArrayRef) -> String {
+    written(rt, &array.pack(rt.alloc()).expect(rt, "packed"), LEVELS)
 }
 
 // Stops unless what was made packs to these parts.
-fn expect_packed(
-    rt: &(impl Abort + AllocGlobal),
-    made: Result<ArrayRef, VortexError>,
-    wanted: &str,
-) {
-    let array = made.expect(rt, "made");
-    expect_packs_to(rt, &array, wanted);
+fn expect_packed(rt: &(impl Abort + AllocGlobal), made: ArrayRef, wanted: &str) {
+    expect_packs_to(rt, &made, wanted);
 }
 
 // Stops unless an array packs to these parts, they do too, and have its rows.
@@ -53,11 +47,15 @@ fn expect_packs_to(rt: &(impl Abort + AllocGlobal), array: &ArrayRef, wanted: &s
 // The packed form: stops unless it has these parts, and packs to them.
 fn expect_parts(rt: &(impl Abort + AllocGlobal), array: &ArrayRef, wanted: &str) -> ArrayRef {
     let packed = array.pack(rt.alloc()).expect(rt, "packed");
-    let text = written(rt.alloc(), &packed, LEVELS).expect(rt, "written");
-    assert_eq!(rt; text.as_str(), wanted);
-    let again = packed_text(rt.alloc(), &packed).expect(rt, "packed again");
-    assert_eq!(rt; again.as_str(), wanted);
+    expect_written(rt, &packed, wanted);
+    let again = packed.pack(rt.alloc()).expect(rt, "packed again");
+    expect_written(rt, &again, wanted);
     packed
+}
+
+// Stops unless an array has these parts.
+fn expect_written(rt: &(impl Abort + AllocGlobal), array: &ArrayRef, wanted: &str) {
+    assert_eq!(rt; written(rt, array, LEVELS).as_str(), wanted);
 }
 
 // Stops unless all arrays pack to the same parts.
@@ -65,7 +63,7 @@ pub(crate) fn expect_packed_alike(rt: &(impl Abort + AllocGlobal), arrays: &[Arr
     let Some(first) = arrays.first() else {
         return;
     };
-    let wanted = packed_text(rt.alloc(), first).expect(rt, "packed");
+    let wanted = packed_text(rt, first);
     for array in arrays {
         expect_packs_to(rt, array, wanted.as_str());
     }
@@ -78,9 +76,9 @@ pub(crate) fn expect_packed_otherwise(
     others: &[ArrayRef],
 ) {
     for array in arrays {
-        let text = packed_text(rt.alloc(), array).expect(rt, "packed");
+        let text = packed_text(rt, array);
         for (j, other) in others.iter().enumerate() {
-            let otherwise = packed_text(rt.alloc(), other).expect(rt, "packed");
+            let otherwise = packed_text(rt, other);
             assert!(rt;
                 text.as_str() != otherwise.as_str(),
                 "the other {j}: {otherwise}"

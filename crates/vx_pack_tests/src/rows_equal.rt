@@ -16,14 +16,11 @@ mod records;
 mod texts;
 mod truths;
 
-// Stops unless all arrays have the same rows and pack to the same parts.
-fn expect_equal(rt: &(impl Abort + AllocGlobal), arrays: &[ArrayRef]) {
+// Stops unless all arrays have the same rows and pack to the same parts, and none of the others has
+// these rows or packs to these parts.
+fn expect_rows(rt: &(impl Abort + AllocGlobal), arrays: &[ArrayRef], others: &[ArrayRef]) {
     expect_equal_rows(rt, arrays);
     expect_packed_alike(rt, arrays);
-}
-
-// Stops unless no array has the rows of one of the others, or packs to the same parts.
-fn expect_others(rt: &(impl Abort + AllocGlobal), arrays: &[ArrayRef], others: &[ArrayRef]) {
     expect_other_rows(rt, arrays, others);
     expect_packed_otherwise(rt, arrays, others);
 }

@@ -1,7 +1,6 @@
 // All parts of an array as text.
 
-use std::alloc::Global;
-use vx_base::VortexError;
+use std::process::Abort;
 use vx_tree::{ArrayRef, Layout, Validity};
 
 mod dtypes;
@@ -32,46 +31,43 @@ mod values;
 /// - `constant`: the value.
 /// - `codes`: the flag; the codes, the values.
 ///
-/// Refuses `NotImplemented` where there are more levels.
-pub(crate) fn written(
-    alloc: Global,
-    array: &ArrayRef,
-    levels: usize,
-) -> Result<String, VortexError> {
-    let mut text = String::new(alloc);
-    write_array(alloc, array, levels, &mut text)?;
-    Ok(text)
+/// Ends where there are more levels.
+pub(crate) fn written(rt: &(impl Abort + AllocGlobal), array: &ArrayRef, levels: usize) -> String {
+    let mut text = String::new(rt.alloc());
+    write_array(rt, &mut text, array, levels);
+    text
 }
 
 // Adds an array.
 fn write_array(
-    alloc: Global,
+    rt: &(impl Abort + AllocGlobal),
+    text: &mut String,
     array: &ArrayRef,
     levels: usize,
-    text: &mut String,
-) -> Result<(), VortexError> {
-    if levels == 0 {
-        return Err(VortexError::NotImplemented);
-    }
-    write_head(array, levels, text)?;
-    parts::write_own(alloc, array.layout(), levels, text)?;
-    let inner = inner_arrays(alloc, array.layout())?;
+) {
+    assert!(rt; 0 < levels);
+    write_head(rt, text, array, levels);
+    parts::write_own(rt, text, array.layout(), levels);
+    let inner = inner_arrays(rt, array.layout());
     for part in &inner {
-        text.push_str(" (")?;
-        write_array(alloc, part, levels - 1, text)?;
-        text.push(')')?;
+        add(rt, text, " (");
+        write_array(rt, text, part, levels - 1);
+        add(rt, text, ")");
     }
-    Ok(())
 }
 
 // Adds what each array begins with.
-fn write_head(array: &ArrayRef, levels: usize, text: &mut String) -> Result<(), VortexError> {
+fn write_head(rt: &impl Abort, text: &mut String, array: &ArrayRef, levels: usize) {
     let len = array.len();
-    text.push_str(word_of(array.layout()))?;
-    dtypes::write_dtype(array.dtype(), levels, text)?;
-    write!(text, " {len}")?;
-    text.push_str(state_of(array.layout()))?;
-    Ok(())
+    add(rt, text, word_of(array.layout()));
+    dtypes::write_dtype(rt, text, array.dtype(), levels);
+    write!(text, " {len}").expect(rt, "written");
+    add(rt, text, state_of(array.layout()));
+}
+
+// Adds these signs.
+fn add(rt: &impl Abort, text: &mut String, signs: &str) {
+    text.push_str(signs).expect(rt, "written");
 }
 
 // The word for a layout.
@@ -113,36 +109,28 @@ fn state_of(layout: &Layout) -> &'static str {
 }
 
 // The arrays that a layout is made of, the one that tells the validity last.
-fn inner_arrays(alloc: Global, layout: &Layout) -> Result<Vec<&ArrayRef>, VortexError> {
-    let mut inner = children(alloc, layout)?;
+fn inner_arrays<'a>(rt: &(impl Abort + AllocGlobal), layout: &'a Layout) -> Vec<&'a ArrayRef> {
+    let mut inner = children(rt, layout);
     if let Some(Validity::Array(array)) = validity_of(layout) {
-        inner.push(array)?;
+        inner.push(array).expect(rt, "lent");
     }
-    Ok(inner)
+    inner
 }
 
 // The same without that one.
-fn children(alloc: Global, layout: &Layout) -> Result<Vec<&ArrayRef>, VortexError> {
-    Ok(match layout {
-        Layout::Dict { codes, values, .. } => vec![in alloc; codes, values]?,
-        Layout::FixedSizeList { elements, .. } => vec![in alloc; elements]?,
+fn children<'a>(rt: &(impl Abort + AllocGlobal), layout: &'a Layout) -> Vec<&'a ArrayRef> {
+    let alloc = rt.alloc();
+    match layout {
+        Layout::Dict { codes, values, .. } => vec![in alloc; codes, values].expect(rt, "lent"),
+        Layout::FixedSizeList { elements, .. } => vec![in alloc; elements].expect(rt, "lent"),
         Layout::ListView {
             elements,
             offsets,
             sizes,
             ..
-        } => vec![in alloc; elements, offsets, sizes]?,
-        Layout::Struct { columns, .. } => references(alloc, columns)?,
+        } => vec![in alloc; elements, offsets, sizes].expect(rt, "lent"),
+        Layout::Struct { columns, .. } => columns.iter().collect(alloc).expect(rt, "lent"),
         Layout::Bool { .. } | Layout::Primitive { .. } => Vec::new(alloc),
         Layout::Constant { .. } | Layout::VarBinView { .. } => Vec::new(alloc),
-    })
-}
-
-// Each of these arrays, lent.
-fn references(alloc: Global, arrays: &[ArrayRef]) -> Result<Vec<&ArrayRef>, VortexError> {
-    let mut lent = Vec::with_capacity(alloc, arrays.len())?;
-    for array in arrays {
-        lent.push(array)?;
     }
-    Ok(lent)
 }

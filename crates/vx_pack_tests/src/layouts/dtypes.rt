@@ -1,8 +1,8 @@
 // Data types.
 
-use std::alloc::Global;
+use std::process::Abort;
 use std::rc::Rc;
-use vx_base::{DType, FieldNames, Nullability, PType, StructFields, VortexError};
+use vx_base::{DType, FieldNames, Nullability, PType, StructFields};
 
 // That of numbers of type u8.
 pub(crate) fn u8s(nullability: Nullability) -> DType {
@@ -11,34 +11,37 @@ pub(crate) fn u8s(nullability: Nullability) -> DType {
 
 // That of lists.
 pub(crate) fn lists_of(
-    alloc: Global,
+    rt: &(impl Abort + AllocGlobal),
     items: DType,
     nullability: Nullability,
-) -> Result<DType, VortexError> {
-    Ok(DType::List(Rc::new(alloc, items)?, nullability))
+) -> DType {
+    DType::List(Rc::new(rt.alloc(), items).expect(rt, "made"), nullability)
 }
 
 // That of lists of one size.
 pub(crate) fn fixed_of(
-    alloc: Global,
+    rt: &(impl Abort + AllocGlobal),
     items: DType,
     size: u32,
     nullability: Nullability,
-) -> Result<DType, VortexError> {
-    Ok(DType::FixedSizeList(Rc::new(alloc, items)?, size, nullability))
+) -> DType {
+    DType::FixedSizeList(
+        Rc::new(rt.alloc(), items).expect(rt, "made"),
+        size,
+        nullability,
+    )
 }
 
-// That of records of these fields. Refuses where there are not as many of both.
-pub(crate) fn records_of(
-    alloc: Global,
+// That of records of these fields.
+pub(crate) fn records_of<const N: usize>(
+    rt: &(impl Abort + AllocGlobal),
     names: &[&str],
-    dtypes: Vec<DType>,
+    dtypes: [DType; N],
     nullability: Nullability,
-) -> Result<DType, VortexError> {
-    let names = FieldNames::try_new(alloc, names)?;
-    if names.len() != dtypes.len() {
-        return Err(VortexError::MismatchedTypes);
-    }
-    let fields = StructFields::new(names, Rc::new(alloc, dtypes)?);
-    Ok(DType::new_struct(fields, nullability))
+) -> DType {
+    let names = FieldNames::try_new(rt.alloc(), names).expect(rt, "names");
+    let dtypes = Vec::from_array(rt.alloc(), dtypes).expect(rt, "data types");
+    assert_eq!(rt; names.len(), dtypes.len());
+    let fields = StructFields::new(names, Rc::new(rt.alloc(), dtypes).expect(rt, "made"));
+    DType::new_struct(fields, nullability)
 }

@@ -1,30 +1,34 @@
 // More rows than memory holds.
 
-use super::{counts, same_counts};
+ghost use Rattle.std.specs.Prelude.{◌<◌};
+
+use super::{defaults, records, repeated, same_counts, u8s};
 use std::alloc::Global;
-use vx_base::{DType, Nullability, PType, Scalar, VortexError};
-use vx_test_help::columns_of;
+use std::process::Abort;
+use vx_base::{Nullability, PType, VortexError};
+use vx_test_help::numbers;
 use vx_tree::{ArrayRef, Validity};
 
 // More rows than memory holds a byte for.
 pub(crate) const MANY: usize = 1099511627776;
 
 // So many records of a number and null, by columns.
-pub(crate) fn many_columns(alloc: Global, first: u8) -> Result<ArrayRef, VortexError> {
-    let one = same_counts(alloc, first, MANY)?;
-    let null = Scalar::null(DType::Primitive(PType::U8, Nullability::Nullable));
-    let null = ArrayRef::constant(alloc, null, MANY)?;
-    if one.len() != MANY || null.len() != MANY {
-        return Err(VortexError::MismatchedTypes);
-    }
-    columns_of(alloc, &["a", "b"], one, null, Validity::NonNullable, MANY)
+pub(crate) fn many_columns(rt: &(impl Abort + AllocGlobal), first: u8) -> ArrayRef {
+    let nulls = defaults(rt, u8s(Nullability::Nullable), MANY);
+    records(rt, &["a", "b"], same_counts(rt, first, MANY), nulls)
 }
 
 // So many rows, each the value 4 or 5 that one code names.
-pub(crate) fn many_named(alloc: Global, code: u8) -> Result<ArrayRef, VortexError> {
-    if code > 1 {
-        return Err(VortexError::MismatchedTypes);
-    }
-    let codes = same_counts(alloc, code, MANY)?;
-    ArrayRef::dictionary(alloc, codes, counts(alloc, &[4, 5])?, false)
+pub(crate) fn many_named(rt: &(impl Abort + AllocGlobal), code: u8) -> ArrayRef {
+    assert!(rt; code < 2);
+    four_or_five(rt.alloc(), code).expect(rt, "a dictionary")
+}
+
+// The same, unless memory is wanting.
+fn four_or_five(alloc: Global, code: u8) -> Result<ArrayRef, VortexError>
+    requires { code < 2 }
+{
+    let codes = repeated(alloc, code, MANY)?;
+    let values = numbers(alloc, PType::U8, &[4, 5], Validity::NonNullable)?;
+    ArrayRef::dictionary(alloc, codes, values, false)
 }

@@ -3,15 +3,12 @@
 
 use super::{LEVELS, expect_packed};
 use crate::layouts::{
-    LONG, counts, fixed, lists_at, named, null_where, one_buffer, records, texts, wrapped,
+    LONG, counts, fixed, lists_at, named, null_where, numbers, records, texts, view, wrapped,
 };
 use crate::written::written;
-use std::alloc::Global;
 use std::process::Abort;
-use vx_base::{BitBuffer, ByteBuffer, Mask, VortexError};
-use vx_test_help::ints;
+use vx_base::{BitBuffer, Mask};
 use vx_tree::ArrayRef;
-use vx_views::BinaryView;
 
 // The bytes of marked numbers and texts, as they are written.
 const MARKS: [&str; 2] = ["abababab", "c2abc2ab"];
@@ -45,78 +42,55 @@ fn is_marked(text: &str) -> bool {
 }
 
 // Rows 0 and 2 of four.
-fn filtered(alloc: Global, rows: &ArrayRef) -> Result<ArrayRef, VortexError> {
-    let bits = BitBuffer::from_bools(alloc, &[true, false, true, false])?;
-    rows.filter(alloc, &Mask::from_buffer(alloc, bits)?)
+fn filtered(rt: &(impl Abort + AllocGlobal), rows: &ArrayRef) -> ArrayRef {
+    let bits = BitBuffer::from_bools(rt.alloc(), &[true, false, true, false]).expect(rt, "bits");
+    let mask = Mask::from_buffer(rt.alloc(), bits).expect(rt, "a mask");
+    rows.filter(rt.alloc(), &mask).expect(rt, "filtered")
 }
 
 // Rows 2 and 0.
-fn taken(alloc: Global, rows: &ArrayRef) -> Result<ArrayRef, VortexError> {
-    rows.take(alloc, &counts(alloc, &[2, 0])?)
+fn taken(rt: &(impl Abort + AllocGlobal), rows: &ArrayRef) -> ArrayRef {
+    rows.take(rt.alloc(), &counts(rt, &[2, 0]))
+        .expect(rt, "taken")
 }
 
 // Stops unless row 2 alone, rows 0 and 2, rows 2 and 0, and all rows with 1 and 3 null pack to
 // these parts, in which no mark is.
-fn expect_cut_away(
-    rt: &(impl Abort + AllocGlobal),
-    made: Result<ArrayRef, VortexError>,
-    wanted: &[&str; 4],
-) {
-    let rows = made.expect(rt, "made");
-    let text = written(rt.alloc(), &rows, LEVELS).expect(rt, "written");
-    assert!(rt; is_marked(text.as_str()));
+fn expect_cut_away(rt: &(impl Abort + AllocGlobal), rows: ArrayRef, wanted: &[&str; 4]) {
+    assert!(rt; is_marked(written(rt, &rows, LEVELS).as_str()));
     for text in wanted {
         assert!(rt; !is_marked(text));
     }
-    expect_packed(rt, rows.slice(rt.alloc(), 2..3), wanted[0]);
-    expect_packed(rt, filtered(rt.alloc(), &rows), wanted[1]);
-    expect_packed(rt, taken(rt.alloc(), &rows), wanted[2]);
-    expect_packed(
-        rt,
-        null_where(rt.alloc(), rows, &[true, false, true, false]),
-        wanted[3],
-    );
+    let third = rows.slice(rt.alloc(), 2..3).expect(rt, "sliced");
+    expect_packed(rt, third, wanted[0]);
+    expect_packed(rt, filtered(rt, &rows), wanted[1]);
+    expect_packed(rt, taken(rt, &rows), wanted[2]);
+    let nulls = null_where(rt, rows, &[true, false, true, false]);
+    expect_packed(rt, nulls, wanted[3]);
 }
 
 // The numbers 1 and 3 beside two marked ones.
-fn numbers(alloc: Global) -> Result<ArrayRef, VortexError> {
-    ints::<u32>(alloc, &[1, 2880154539, 3, 2880154539])
+fn some_numbers(rt: &(impl Abort + AllocGlobal)) -> ArrayRef {
+    numbers::<u32>(rt, &[1, 2880154539, 3, 2880154539])
 }
 
 // A long text and one of 13 bytes beside marked ones.
-fn some_texts(alloc: Global) -> Result<ArrayRef, VortexError> {
-    let marked = BinaryView::make_view(MARKED, 1, 0);
+fn some_texts(rt: &(impl Abort + AllocGlobal)) -> ArrayRef {
+    let marked = view(rt, MARKED, 1, 0);
     let views = [
-        BinaryView::make_view(LONG, 0, 0),
+        view(rt, LONG, 0, 0),
         marked,
-        BinaryView::make_view(b"thirteen byte", 1, 14),
+        view(rt, b"thirteen byte", 1, 14),
         marked,
     ];
-    let mut buffers = one_buffer(alloc, LONG)?;
-    buffers.push(ByteBuffer::copy_from(alloc, AFTER)?)?;
-    texts(alloc, &views, buffers)
-}
-
-// The lists of a long text, and of one of 13 bytes and an empty one, beside marked ones.
-fn lists_of_texts(alloc: Global) -> Result<ArrayRef, VortexError> {
-    lists_at(alloc, some_texts(alloc)?, &[0, 1, 2, 3], &[1, 1, 1, 1])
-}
-
-// The records `{a:[1, 3]}`, `{a:[3]}` beside marked ones.
-fn records_of_lists(alloc: Global) -> Result<ArrayRef, VortexError> {
-    let elements = ints::<u32>(alloc, &[2880154539, 1, 3, 2880154539])?;
-    wrapped(
-        alloc,
-        "a",
-        lists_at(alloc, elements, &[1, 0, 2, 3], &[2, 1, 1, 1])?,
-    )
+    texts(rt, &views, &[LONG, AFTER])
 }
 
 #[test]
 fn numbers_that_are_cut_away(rt: HostRuntime) {
     expect_cut_away(
         &rt,
-        numbers(rt.alloc()),
+        some_numbers(&rt),
         &[
             "numbers u32 1 plain 03000000",
             "numbers u32 2 plain 01000000 03000000",
@@ -128,24 +102,25 @@ fn numbers_that_are_cut_away(rt: HostRuntime) {
 
 #[test]
 fn texts_that_are_cut_away(rt: HostRuntime) {
-    expect_cut_away(&rt, some_texts(rt.alloc()), &TEXTS);
-}
-
-// The same texts by codes.
-fn coded_texts(alloc: Global) -> Result<ArrayRef, VortexError> {
-    named(alloc, counts(alloc, &[0, 1, 2, 3])?, some_texts(alloc)?)
+    expect_cut_away(&rt, some_texts(&rt), &TEXTS);
 }
 
 #[test]
 fn values_that_no_code_names(rt: HostRuntime) {
-    expect_cut_away(&rt, coded_texts(rt.alloc()), &TEXTS);
+    // The same texts by codes.
+    expect_cut_away(
+        &rt,
+        named(&rt, counts(&rt, &[0, 1, 2, 3]), some_texts(&rt)),
+        &TEXTS,
+    );
 }
 
 #[test]
 fn lists_of_texts_that_are_cut_away(rt: HostRuntime) {
+    // The lists of a long text, and of one of 13 bytes and an empty one, beside marked ones.
     expect_cut_away(
         &rt,
-        lists_of_texts(rt.alloc()),
+        lists_at(&rt, some_texts(&rt), &[0, 1, 2, 3], &[1, 1, 1, 1]),
         &[
             "lists [text] 1 plain true \
              (views text 1 plain 0d000000.74686972.00000000.00000000 \
@@ -176,9 +151,12 @@ fn lists_of_texts_that_are_cut_away(rt: HostRuntime) {
 
 #[test]
 fn records_of_lists_that_are_cut_away(rt: HostRuntime) {
+    // The records `{a:[1, 3]}`, `{a:[3]}` beside marked ones.
+    let elements = numbers::<u32>(&rt, &[2880154539, 1, 3, 2880154539]);
+    let lists = lists_at(&rt, elements, &[1, 0, 2, 3], &[2, 1, 1, 1]);
     expect_cut_away(
         &rt,
-        records_of_lists(rt.alloc()),
+        wrapped(&rt, "a", lists),
         &[
             "records {a:[u32]} 1 plain .a \
              (lists [u32] 1 plain true (numbers u32 1 plain 03000000) \
@@ -197,18 +175,14 @@ fn records_of_lists_that_are_cut_away(rt: HostRuntime) {
     );
 }
 
-// The lists `[1, 2]`, `[3, 4]` of one size beside marked ones.
-fn pairs(alloc: Global) -> Result<ArrayRef, VortexError> {
-    let marked = 2880154539;
-    let elements = ints::<u32>(alloc, &[1, 2, marked, marked, 3, 4, marked, marked])?;
-    fixed(alloc, elements, 2, 4)
-}
-
 #[test]
 fn lists_of_one_size_that_are_cut_away(rt: HostRuntime) {
+    // The lists `[1, 2]`, `[3, 4]` of one size beside marked ones.
+    let marked = 2880154539;
+    let elements = numbers::<u32>(&rt, &[1, 2, marked, marked, 3, 4, marked, marked]);
     expect_cut_away(
         &rt,
-        pairs(rt.alloc()),
+        fixed(&rt, elements, 2, 4),
         &[
             "fixed [u32;2] 1 plain (numbers u32 2 plain 03000000 04000000)",
             "fixed [u32;2] 2 plain (numbers u32 4 plain 01000000 02000000 03000000 04000000)",
@@ -219,16 +193,13 @@ fn lists_of_one_size_that_are_cut_away(rt: HostRuntime) {
     );
 }
 
-// The records `{a:1,b:this value is definitely long}`, `{a:3,b:thirteen byte}` beside marked ones.
-fn records_of_texts(alloc: Global) -> Result<ArrayRef, VortexError> {
-    records(alloc, &["a", "b"], numbers(alloc)?, some_texts(alloc)?)
-}
-
 #[test]
 fn records_of_texts_that_are_cut_away(rt: HostRuntime) {
+    // The records `{a:1,b:this value is definitely long}`, `{a:3,b:thirteen byte}` beside marked
+    // ones.
     expect_cut_away(
         &rt,
-        records_of_texts(rt.alloc()),
+        records(&rt, &["a", "b"], some_numbers(&rt), some_texts(&rt)),
         &[
             "records {a:u32,b:text} 1 plain .a .b (numbers u32 1 plain 03000000) \
              (views text 1 plain 0d000000.74686972.00000000.00000000 <746869727465656e2062797465>)",

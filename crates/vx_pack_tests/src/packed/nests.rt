@@ -2,9 +2,7 @@
 
 use crate::layouts::{counts, fixed, lists_at, wrapped};
 use crate::written::written;
-use std::alloc::Global;
 use std::process::Abort;
-use vx_base::VortexError;
 use vx_pack::{Pack, RowsEqual};
 use vx_tree::{ArrayRef, Layout};
 
@@ -14,30 +12,30 @@ const LISTS: usize = 2000;
 const RECORDS: usize = 1000;
 
 // A number within so many lists.
-fn lists(alloc: Global, depth: usize) -> Result<ArrayRef, VortexError> {
-    let mut row = counts(alloc, &[7])?;
+fn lists(rt: &(impl Abort + AllocGlobal), depth: usize) -> ArrayRef {
+    let mut row = counts(rt, &[7]);
     for _ in 0..depth {
-        row = lists_at(alloc, row, &[0], &[1])?;
+        row = lists_at(rt, row, &[0], &[1]);
     }
-    Ok(row)
+    row
 }
 
 // A number within so many lists of size 1.
-fn lists_of_one_size(alloc: Global, depth: usize) -> Result<ArrayRef, VortexError> {
-    let mut row = counts(alloc, &[7])?;
+fn lists_of_one_size(rt: &(impl Abort + AllocGlobal), depth: usize) -> ArrayRef {
+    let mut row = counts(rt, &[7]);
     for _ in 0..depth {
-        row = fixed(alloc, row, 1, 1)?;
+        row = fixed(rt, row, 1, 1);
     }
-    Ok(row)
+    row
 }
 
 // A number within so many records.
-fn records(alloc: Global, depth: usize) -> Result<ArrayRef, VortexError> {
-    let mut row = counts(alloc, &[7])?;
+fn records(rt: &(impl Abort + AllocGlobal), depth: usize) -> ArrayRef {
+    let mut row = counts(rt, &[7]);
     for _ in 0..depth {
-        row = wrapped(alloc, "a", row)?;
+        row = wrapped(rt, "a", row);
     }
-    Ok(row)
+    row
 }
 
 // What lies within a list, whose flag is set, a list of one size or a record of one column.
@@ -60,26 +58,24 @@ fn innermost(array: &ArrayRef, depth: usize) -> Option<&ArrayRef> {
 }
 
 // Stops unless a number within so many levels packs to one.
-fn expect_nest(rt: &(impl Abort + AllocGlobal), made: Result<ArrayRef, VortexError>, depth: usize) {
-    let array = made.expect(rt, "made");
+fn expect_nest(rt: &(impl Abort + AllocGlobal), array: ArrayRef, depth: usize) {
     let packed = array.pack(rt.alloc()).expect(rt, "packed");
     assert!(rt; packed.rows_equal(&array));
     let inner = innermost(&packed, depth).expect(rt, "as many levels, the flag of each list set");
-    let text = written(rt.alloc(), inner, 1).expect(rt, "written");
-    assert_eq!(rt; text.as_str(), "numbers u8 1 plain 07");
+    assert_eq!(rt; written(rt, inner, 1).as_str(), "numbers u8 1 plain 07");
 }
 
 #[test]
 fn a_nest_of_two_thousand_lists(rt: HostRuntime) {
-    expect_nest(&rt, lists(rt.alloc(), LISTS), LISTS);
+    expect_nest(&rt, lists(&rt, LISTS), LISTS);
 }
 
 #[test]
 fn a_nest_of_two_thousand_lists_of_one_size(rt: HostRuntime) {
-    expect_nest(&rt, lists_of_one_size(rt.alloc(), LISTS), LISTS);
+    expect_nest(&rt, lists_of_one_size(&rt, LISTS), LISTS);
 }
 
 #[test]
 fn a_nest_of_a_thousand_records(rt: HostRuntime) {
-    expect_nest(&rt, records(rt.alloc(), RECORDS), RECORDS);
+    expect_nest(&rt, records(&rt, RECORDS), RECORDS);
 }

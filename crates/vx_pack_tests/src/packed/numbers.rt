@@ -1,37 +1,25 @@
 // Numbers.
 
 use super::expect_packed;
-use crate::layouts::{counts, null_where};
-use std::alloc::Global;
-use vx_base::{NativePType, VortexError};
-use vx_test_help::ints;
+use crate::layouts::{counts, null_where, numbers, some_counts};
+use std::process::Abort;
+use vx_base::NativePType;
 use vx_tree::ArrayRef;
 
 // Three numbers, of which the second one lies below a null.
-fn null_between<T: NativePType>(alloc: Global, numbers: &[T; 3]) -> Result<ArrayRef, VortexError> {
-    null_where(alloc, ints::<T>(alloc, numbers)?, &[true, false, true])
-}
-
-// The middle of four numbers.
-fn cut(alloc: Global) -> Result<ArrayRef, VortexError> {
-    counts(alloc, &[9, 5, 6, 9])?.slice(alloc, 1..3)
-}
-
-// The three in the middle of five numbers, of which the second one lies below a null.
-fn cut_with_null(alloc: Global) -> Result<ArrayRef, VortexError> {
-    let numbers = ints::<u16>(alloc, &[9, 258, 43947, 65535, 9])?;
-    null_where(alloc, numbers, &[true, true, false, true, true])?.slice(alloc, 1..4)
+fn null_between<T: NativePType>(rt: &(impl Abort + AllocGlobal), items: &[T; 3]) -> ArrayRef {
+    null_where(rt, numbers::<T>(rt, items), &[true, false, true])
 }
 
 #[test]
 fn numbers_without_a_sign(rt: HostRuntime) {
-    let made = ints::<u8>(rt.alloc(), &[0, 255]);
+    let made = numbers::<u8>(&rt, &[0, 255]);
     expect_packed(&rt, made, "numbers u8 2 plain 00 ff");
-    let made = ints::<u16>(rt.alloc(), &[258, 65535]);
+    let made = numbers::<u16>(&rt, &[258, 65535]);
     expect_packed(&rt, made, "numbers u16 2 plain 0201 ffff");
-    let made = ints::<u32>(rt.alloc(), &[16909060, 4294967295]);
+    let made = numbers::<u32>(&rt, &[16909060, 4294967295]);
     expect_packed(&rt, made, "numbers u32 2 plain 04030201 ffffffff");
-    let made = ints::<u64>(rt.alloc(), &[72623859790382856, 18446744073709551615]);
+    let made = numbers::<u64>(&rt, &[72623859790382856, 18446744073709551615]);
     expect_packed(
         &rt,
         made,
@@ -41,13 +29,13 @@ fn numbers_without_a_sign(rt: HostRuntime) {
 
 #[test]
 fn numbers_with_a_sign(rt: HostRuntime) {
-    let made = ints::<i8>(rt.alloc(), &[-1, -128, 127]);
+    let made = numbers::<i8>(&rt, &[-1, -128, 127]);
     expect_packed(&rt, made, "numbers i8 3 plain ff 80 7f");
-    let made = ints::<i16>(rt.alloc(), &[-2, 258]);
+    let made = numbers::<i16>(&rt, &[-2, 258]);
     expect_packed(&rt, made, "numbers i16 2 plain feff 0201");
-    let made = ints::<i32>(rt.alloc(), &[-2, 16909060]);
+    let made = numbers::<i32>(&rt, &[-2, 16909060]);
     expect_packed(&rt, made, "numbers i32 2 plain feffffff 04030201");
-    let made = ints::<i64>(rt.alloc(), &[-2, 72623859790382856]);
+    let made = numbers::<i64>(&rt, &[-2, 72623859790382856]);
     expect_packed(
         &rt,
         made,
@@ -59,22 +47,22 @@ fn numbers_with_a_sign(rt: HostRuntime) {
 fn null_numbers_without_a_sign_are_zero(rt: HostRuntime) {
     expect_packed(
         &rt,
-        null_between::<u8>(rt.alloc(), &[7, 171, 9]),
+        null_between::<u8>(&rt, &[7, 171, 9]),
         "numbers u8? 3 told 07 00 09 (bits bool 3 plain 0:05)",
     );
     expect_packed(
         &rt,
-        null_between::<u16>(rt.alloc(), &[7, 43947, 9]),
+        null_between::<u16>(&rt, &[7, 43947, 9]),
         "numbers u16? 3 told 0700 0000 0900 (bits bool 3 plain 0:05)",
     );
     expect_packed(
         &rt,
-        null_between::<u32>(rt.alloc(), &[7, 2880154539, 9]),
+        null_between::<u32>(&rt, &[7, 2880154539, 9]),
         "numbers u32? 3 told 07000000 00000000 09000000 (bits bool 3 plain 0:05)",
     );
     expect_packed(
         &rt,
-        null_between::<u64>(rt.alloc(), &[7, 12370169555311111083, 9]),
+        null_between::<u64>(&rt, &[7, 12370169555311111083, 9]),
         "numbers u64? 3 told 0700000000000000 0000000000000000 0900000000000000 \
          (bits bool 3 plain 0:05)",
     );
@@ -84,22 +72,22 @@ fn null_numbers_without_a_sign_are_zero(rt: HostRuntime) {
 fn null_numbers_with_a_sign_are_zero(rt: HostRuntime) {
     expect_packed(
         &rt,
-        null_between::<i8>(rt.alloc(), &[-7, -85, 9]),
+        null_between::<i8>(&rt, &[-7, -85, 9]),
         "numbers i8? 3 told f9 00 09 (bits bool 3 plain 0:05)",
     );
     expect_packed(
         &rt,
-        null_between::<i16>(rt.alloc(), &[-7, -21589, 9]),
+        null_between::<i16>(&rt, &[-7, -21589, 9]),
         "numbers i16? 3 told f9ff 0000 0900 (bits bool 3 plain 0:05)",
     );
     expect_packed(
         &rt,
-        null_between::<i32>(rt.alloc(), &[-7, -1414812757, 9]),
+        null_between::<i32>(&rt, &[-7, -1414812757, 9]),
         "numbers i32? 3 told f9ffffff 00000000 09000000 (bits bool 3 plain 0:05)",
     );
     expect_packed(
         &rt,
-        null_between::<i64>(rt.alloc(), &[-7, -6076574518398440533, 9]),
+        null_between::<i64>(&rt, &[-7, -6076574518398440533, 9]),
         "numbers i64? 3 told f9ffffffffffffff 0000000000000000 0900000000000000 \
          (bits bool 3 plain 0:05)",
     );
@@ -107,20 +95,24 @@ fn null_numbers_with_a_sign_are_zero(rt: HostRuntime) {
 
 #[test]
 fn numbers_are_cut_out(rt: HostRuntime) {
-    expect_packed(&rt, cut(rt.alloc()), "numbers u8 2 plain 05 06");
+    // The middle of four numbers.
+    let rows = counts(&rt, &[9, 5, 6, 9]);
+    let made = rows.slice(rt.alloc(), 1..3).expect(&rt, "sliced");
+    expect_packed(&rt, made, "numbers u8 2 plain 05 06");
+    // The three in the middle of five numbers, of which the second one lies below a null.
+    let rows = numbers::<u16>(&rt, &[9, 258, 43947, 65535, 9]);
+    let rows = null_where(&rt, rows, &[true, true, false, true, true]);
     expect_packed(
         &rt,
-        cut_with_null(rt.alloc()),
+        rows.slice(rt.alloc(), 1..4).expect(&rt, "sliced"),
         "numbers u16? 3 told 0201 0000 ffff (bits bool 3 plain 0:05)",
     );
 }
 
 #[test]
 fn no_bits_tell_that_all_numbers_are_there_or_none(rt: HostRuntime) {
-    let made = counts(rt.alloc(), &[5, 6]).expect(&rt, "made");
-    let made = null_where(rt.alloc(), made, &[true, true]);
+    let made = some_counts(&rt, &[5, 6], &[true, true]);
     expect_packed(&rt, made, "numbers u8? 2 all 05 06");
-    let made = counts(rt.alloc(), &[5, 6]).expect(&rt, "made");
-    let made = null_where(rt.alloc(), made, &[false, false]);
+    let made = some_counts(&rt, &[5, 6], &[false, false]);
     expect_packed(&rt, made, "numbers u8? 2 none 00 00");
 }

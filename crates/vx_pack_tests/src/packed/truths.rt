@@ -1,10 +1,8 @@
 // Truth values.
 
 use super::{expect_packed, expect_packed_alike};
-use crate::layouts::{counts, named, null_where};
-use std::alloc::Global;
-use vx_base::VortexError;
-use vx_test_help::bools;
+use crate::layouts::{counts, named, some_truths, truths};
+use std::process::Abort;
 use vx_tree::ArrayRef;
 
 // Twenty truth values, of which eleven from the sixth on are true, false, true, true, false, false,
@@ -20,107 +18,95 @@ const THERE: [bool; 20] = [
     true, true, true, true, true,
 ];
 
-// Truth values, null where the second ones are false.
-fn truths(alloc: Global, values: &[bool], valid: &[bool]) -> Result<ArrayRef, VortexError> {
-    null_where(alloc, bools(alloc, values)?, valid)
-}
-
-// The eleven.
-fn cut(alloc: Global) -> Result<ArrayRef, VortexError> {
-    bools(alloc, &TWENTY)?.slice(alloc, 5..16)
-}
-
-// The eleven, of which three are null.
-fn cut_with_nulls(alloc: Global) -> Result<ArrayRef, VortexError> {
-    truths(alloc, &TWENTY, &THERE)?.slice(alloc, 5..16)
-}
-
 // The codes 0, 1 and 2 by turns, so many.
-fn turns(alloc: Global, len: usize) -> Result<Vec<u8>, VortexError> {
-    let mut codes = Vec::new(alloc);
+fn turns(rt: &(impl Abort + AllocGlobal), len: usize) -> Vec<u8> {
+    let mut codes = Vec::new(rt.alloc());
     for i in 0..len {
-        codes.push((i % 3) as u8)?;
+        codes.push((i % 3) as u8).expect(rt, "a code");
     }
-    Ok(codes)
+    codes
 }
 
 // True for the code 0, false for 1 and null for 2, with a bit that is set below each null.
-fn by_bits(alloc: Global, codes: &[u8]) -> Result<ArrayRef, VortexError> {
-    let mut values = Vec::new(alloc);
-    let mut valid = Vec::new(alloc);
+fn by_bits(rt: &(impl Abort + AllocGlobal), codes: &[u8]) -> ArrayRef {
+    let mut values = Vec::new(rt.alloc());
+    let mut valid = Vec::new(rt.alloc());
     for code in codes {
-        values.push(*code != 1)?;
-        valid.push(*code < 2)?;
+        values.push(*code != 1).expect(rt, "a value");
+        valid.push(*code < 2).expect(rt, "whether it is there");
     }
-    truths(alloc, &values, &valid)
+    some_truths(rt, &values, &valid)
 }
 
 // The same by a dictionary, which is read row by row.
-fn by_codes(alloc: Global, codes: &[u8]) -> Result<ArrayRef, VortexError> {
-    let values = truths(alloc, &[true, false, true], &[true, true, false])?;
-    named(alloc, counts(alloc, codes)?, values)
+fn by_codes(rt: &(impl Abort + AllocGlobal), codes: &[u8]) -> ArrayRef {
+    let values = some_truths(rt, &[true, false, true], &[true, true, false]);
+    named(rt, counts(rt, codes), values)
 }
 
 // So many of these rows from the sixth on, in both layouts.
-fn both(alloc: Global, len: usize) -> Result<Vec<ArrayRef>, VortexError> {
-    let codes = turns(alloc, len.saturating_add(9))?;
-    let rows = 5..len.saturating_add(5);
-    let mut made = Vec::new(alloc);
-    made.push(by_bits(alloc, &codes)?.slice(alloc, rows.clone()?)?)?;
-    made.push(by_codes(alloc, &codes)?.slice(alloc, rows)?)?;
-    Ok(made)
+fn both(rt: &(impl Abort + AllocGlobal), len: usize) -> [ArrayRef; 2] {
+    let codes = turns(rt, len.saturating_add(9));
+    let end = len.saturating_add(5);
+    [
+        by_bits(rt, &codes)
+            .slice(rt.alloc(), 5..end)
+            .expect(rt, "sliced"),
+        by_codes(rt, &codes)
+            .slice(rt.alloc(), 5..end)
+            .expect(rt, "sliced"),
+    ]
 }
 
 #[test]
 fn truths_and_nulls_pack_alike_by_bits_and_by_rows(rt: HostRuntime) {
     for len in [63, 64, 65, 200] {
-        let made = both(rt.alloc(), len).expect(&rt, "made");
-        expect_packed_alike(&rt, made.as_slice());
+        let made = both(&rt, len);
+        expect_packed_alike(&rt, &made);
     }
 }
 
 #[test]
 fn many_truths_and_nulls(rt: HostRuntime) {
-    let codes = turns(rt.alloc(), 66).expect(&rt, "made");
     expect_packed(
         &rt,
-        by_bits(rt.alloc(), &codes),
+        by_bits(&rt, &turns(&rt, 66)),
         "bits bool? 66 told 0:499224499224499200 (bits bool 66 plain 0:dbb66ddbb66ddbb601)",
     );
 }
 
 #[test]
 fn null_truths_are_false(rt: HostRuntime) {
-    let made = truths(rt.alloc(), &[true, true, false], &[true, false, true]);
+    let made = some_truths(&rt, &[true, true, false], &[true, false, true]);
     expect_packed(&rt, made, "bits bool? 3 told 0:01 (bits bool 3 plain 0:05)");
-    let made = truths(rt.alloc(), &[true, false], &[true, true]);
+    let made = some_truths(&rt, &[true, false], &[true, true]);
     expect_packed(&rt, made, "bits bool? 2 all 0:01");
-    let made = truths(rt.alloc(), &[true, true], &[false, false]);
+    let made = some_truths(&rt, &[true, true], &[false, false]);
     expect_packed(&rt, made, "bits bool? 2 none 0:00");
 }
 
 #[test]
 fn bits_begin_with_the_first_byte(rt: HostRuntime) {
-    expect_packed(&rt, cut(rt.alloc()), "bits bool 11 plain 0:8d02");
+    // The eleven.
+    let made = truths(&rt, &TWENTY)
+        .slice(rt.alloc(), 5..16)
+        .expect(&rt, "sliced");
+    expect_packed(&rt, made, "bits bool 11 plain 0:8d02");
+    // The eleven, of which three are null.
+    let rows = some_truths(&rt, &TWENTY, &THERE);
     expect_packed(
         &rt,
-        cut_with_nulls(rt.alloc()),
+        rows.slice(rt.alloc(), 5..16).expect(&rt, "sliced"),
         "bits bool? 11 told 0:0900 (bits bool 11 plain 0:7b05)",
     );
 }
 
 #[test]
 fn no_bit_after_the_last_row_is_set(rt: HostRuntime) {
-    let made = bools(rt.alloc(), &[true, true, true, true, true, true, true]);
+    let made = truths(&rt, &[true, true, true, true, true, true, true]);
     expect_packed(&rt, made, "bits bool 7 plain 0:7f");
-    let made = bools(
-        rt.alloc(),
-        &[true, true, true, true, true, true, true, true],
-    );
+    let made = truths(&rt, &[true, true, true, true, true, true, true, true]);
     expect_packed(&rt, made, "bits bool 8 plain 0:ff");
-    let made = bools(
-        rt.alloc(),
-        &[true, true, true, true, true, true, true, true, true],
-    );
+    let made = truths(&rt, &[true, true, true, true, true, true, true, true, true]);
     expect_packed(&rt, made, "bits bool 9 plain 0:ff01");
 }

@@ -1,10 +1,10 @@
 // Constants of lists and records: what is packed stands in values, at each depth.
 
 use super::expect_packed;
-use crate::layouts::{LONG, fixed_of, lists_of, records_of, u8s};
-use std::alloc::Global;
+use crate::layouts::{LONG, fixed_of, lists_of, records_of, same, u8s, value};
+use std::process::Abort;
 use vx_base::Nullability::{NonNullable, Nullable};
-use vx_base::{ByteBuffer, DType, Scalar, ScalarValue, ScalarValues, VortexError};
+use vx_base::{ByteBuffer, DType, ScalarValue, ScalarValues};
 use vx_tree::ArrayRef;
 
 // A number.
@@ -13,101 +13,42 @@ fn number(number: i128) -> Option<ScalarValue> {
 }
 
 // A text.
-fn text(alloc: Global, bytes: &[u8]) -> Result<Option<ScalarValue>, VortexError> {
-    Ok(Some(ScalarValue::Text(ByteBuffer::copy_from(alloc, bytes)?)))
+fn text(rt: &(impl Abort + AllocGlobal), bytes: &[u8]) -> Option<ScalarValue> {
+    Some(ScalarValue::Text(ByteBuffer::copy_from(rt.alloc(), bytes).expect(rt, "bytes")))
 }
 
 // A list.
-fn list(
-    alloc: Global,
-    values: Vec<Option<ScalarValue>>,
-) -> Result<Option<ScalarValue>, VortexError> {
-    Ok(Some(ScalarValue::List(ScalarValues::from_vec(alloc, values)?)))
+fn list(values: ScalarValues) -> Option<ScalarValue> {
+    Some(ScalarValue::List(values))
 }
 
-// A record.
-fn record(
-    alloc: Global,
-    values: Vec<Option<ScalarValue>>,
-) -> Result<Option<ScalarValue>, VortexError> {
-    Ok(Some(ScalarValue::Record(ScalarValues::from_vec(alloc, values)?)))
+// These values.
+fn some<const N: usize>(
+    rt: &(impl Abort + AllocGlobal),
+    values: [Option<ScalarValue>; N],
+) -> ScalarValues {
+    let values = Vec::from_array(rt.alloc(), values).expect(rt, "values");
+    ScalarValues::from_vec(rt.alloc(), values).expect(rt, "values")
 }
 
 // A list of these values, so many times.
 fn same_lists(
-    alloc: Global,
+    rt: &(impl Abort + AllocGlobal),
     items: DType,
-    values: Vec<Option<ScalarValue>>,
+    values: ScalarValues,
     len: usize,
-) -> Result<ArrayRef, VortexError> {
-    let dtype = lists_of(alloc, items, NonNullable)?;
-    ArrayRef::constant(alloc, Scalar::try_new(dtype, list(alloc, values)?)?, len)
-}
-
-// Twice a long text, null, and a short one.
-fn lists_of_texts(alloc: Global) -> Result<ArrayRef, VortexError> {
-    let values = vec![in alloc; text(alloc, LONG)?, None, text(alloc, b"a")?]?;
-    same_lists(alloc, DType::Utf8(Nullable), values, 2)
-}
-
-// Twice true, false, and true.
-fn lists_of_truths(alloc: Global) -> Result<ArrayRef, VortexError> {
-    let values = vec![in alloc;
-        Some(ScalarValue::Bool(true)),
-        Some(ScalarValue::Bool(false)),
-        Some(ScalarValue::Bool(true)),
-    ]?;
-    same_lists(alloc, DType::Bool(NonNullable), values, 2)
-}
-
-// Twice the lists `[1]` and `[]`.
-fn lists_of_lists(alloc: Global) -> Result<ArrayRef, VortexError> {
-    let one = list(alloc, vec![in alloc; number(1)]?)?;
-    let values = vec![in alloc; one, list(alloc, Vec::new(alloc))?]?;
-    same_lists(
-        alloc,
-        lists_of(alloc, u8s(NonNullable), NonNullable)?,
-        values,
-        2,
-    )
-}
-
-// The list `[1, 2]` of size 2, and null.
-fn list_of_pairs(alloc: Global) -> Result<ArrayRef, VortexError> {
-    let pair = list(alloc, vec![in alloc; number(1), number(2)]?)?;
-    let items = fixed_of(alloc, u8s(NonNullable), 2, Nullable)?;
-    same_lists(alloc, items, vec![in alloc; pair, None]?, 1)
-}
-
-// The record `{a:1,b:null}`, and null.
-fn list_of_records(alloc: Global) -> Result<ArrayRef, VortexError> {
-    let row = record(alloc, vec![in alloc; number(1), None]?)?;
-    let fields = vec![in alloc; u8s(NonNullable), u8s(Nullable)]?;
-    let items = records_of(alloc, &["a", "b"], fields, Nullable)?;
-    same_lists(alloc, items, vec![in alloc; row, None]?, 1)
-}
-
-// Twice the record of the list `[1, 2]`, and of `[3, 4]` of size 2.
-fn records_of_lists(alloc: Global) -> Result<ArrayRef, VortexError> {
-    let numbers = list(alloc, vec![in alloc; number(1), number(2)]?)?;
-    let pair = list(alloc, vec![in alloc; number(3), number(4)]?)?;
-    let first = lists_of(alloc, u8s(NonNullable), NonNullable)?;
-    let second = fixed_of(alloc, u8s(NonNullable), 2, NonNullable)?;
-    let dtype = records_of(
-        alloc,
-        &["a", "b"],
-        vec![in alloc; first, second]?,
-        NonNullable,
-    )?;
-    let row = record(alloc, vec![in alloc; numbers, pair]?)?;
-    ArrayRef::constant(alloc, Scalar::try_new(dtype, row)?, 2)
+) -> ArrayRef {
+    let dtype = lists_of(rt, items, NonNullable);
+    same(rt, value(rt, dtype, ScalarValue::List(values)), len)
 }
 
 #[test]
 fn constant_lists_of_leaves(rt: HostRuntime) {
+    // Twice a long text, null, and a short one.
+    let values = some(&rt, [text(&rt, LONG), None, text(&rt, b"a")]);
     expect_packed(
         &rt,
-        lists_of_texts(rt.alloc()),
+        same_lists(&rt, DType::Utf8(Nullable), values, 2),
         "lists [text?] 2 plain true (views text? 6 told 1d000000.74686973.00000000.00000000 \
          00000000.00000000.00000000.00000000 01000000.61000000.00000000.00000000 \
          1d000000.74686973.00000000.1d000000 00000000.00000000.00000000.00000000 \
@@ -116,9 +57,18 @@ fn constant_lists_of_leaves(rt: HostRuntime) {
          746869732076616c756520697320646566696e6974656c79206c6f6e67> (bits bool 6 plain 0:2d)) \
          (numbers i32 2 plain 00000000 03000000) (numbers i32 2 plain 03000000 03000000)",
     );
+    // Twice true, false, and true.
+    let values = some(
+        &rt,
+        [
+            Some(ScalarValue::Bool(true)),
+            Some(ScalarValue::Bool(false)),
+            Some(ScalarValue::Bool(true)),
+        ],
+    );
     expect_packed(
         &rt,
-        lists_of_truths(rt.alloc()),
+        same_lists(&rt, DType::Bool(NonNullable), values, 2),
         "lists [bool] 2 plain true (bits bool 6 plain 0:2d) \
          (numbers i32 2 plain 00000000 03000000) (numbers i32 2 plain 03000000 03000000)",
     );
@@ -126,17 +76,23 @@ fn constant_lists_of_leaves(rt: HostRuntime) {
 
 #[test]
 fn constant_lists_of_lists(rt: HostRuntime) {
+    // Twice the lists `[1]` and `[]`.
+    let values = some(&rt, [list(some(&rt, [number(1)])), list(some(&rt, []))]);
+    let items = lists_of(&rt, u8s(NonNullable), NonNullable);
     expect_packed(
         &rt,
-        lists_of_lists(rt.alloc()),
+        same_lists(&rt, items, values, 2),
         "lists [[u8]] 2 plain true (lists [u8] 4 plain true (numbers u8 2 plain 01 01) \
          (numbers i32 4 plain 00000000 01000000 01000000 02000000) \
          (numbers i32 4 plain 01000000 00000000 01000000 00000000)) \
          (numbers i32 2 plain 00000000 02000000) (numbers i32 2 plain 02000000 02000000)",
     );
+    // The list `[1, 2]` of size 2, and null.
+    let values = some(&rt, [list(some(&rt, [number(1), number(2)])), None]);
+    let items = fixed_of(&rt, u8s(NonNullable), 2, Nullable);
     expect_packed(
         &rt,
-        list_of_pairs(rt.alloc()),
+        same_lists(&rt, items, values, 1),
         "lists [[u8;2]?] 1 plain true \
          (fixed [u8;2]? 2 told (numbers u8 4 plain 01 02 00 00) (bits bool 2 plain 0:01)) \
          (numbers i32 1 plain 00000000) (numbers i32 1 plain 02000000)",
@@ -145,9 +101,14 @@ fn constant_lists_of_lists(rt: HostRuntime) {
 
 #[test]
 fn constant_lists_of_records(rt: HostRuntime) {
+    // The record `{a:1,b:null}`, and null.
+    let row = ScalarValue::Record(some(&rt, [number(1), None]));
+    let values = some(&rt, [Some(row), None]);
+    let fields = [u8s(NonNullable), u8s(Nullable)];
+    let items = records_of(&rt, &["a", "b"], fields, Nullable);
     expect_packed(
         &rt,
-        list_of_records(rt.alloc()),
+        same_lists(&rt, items, values, 1),
         "lists [{a:u8,b:u8?}?] 1 plain true (records {a:u8,b:u8?}? 2 told .a .b \
          (numbers u8 2 plain 01 00) (numbers u8? 2 none 00 00) (bits bool 2 plain 0:01)) \
          (numbers i32 1 plain 00000000) (numbers i32 1 plain 02000000)",
@@ -156,9 +117,17 @@ fn constant_lists_of_records(rt: HostRuntime) {
 
 #[test]
 fn constant_records_of_lists(rt: HostRuntime) {
+    // Twice the record of the list `[1, 2]`, and of `[3, 4]` of size 2.
+    let first = lists_of(&rt, u8s(NonNullable), NonNullable);
+    let second = fixed_of(&rt, u8s(NonNullable), 2, NonNullable);
+    let fields = [first, second];
+    let dtype = records_of(&rt, &["a", "b"], fields, NonNullable);
+    let numbers = list(some(&rt, [number(1), number(2)]));
+    let pair = list(some(&rt, [number(3), number(4)]));
+    let row = ScalarValue::Record(some(&rt, [numbers, pair]));
     expect_packed(
         &rt,
-        records_of_lists(rt.alloc()),
+        same(&rt, value(&rt, dtype, row), 2),
         "records {a:[u8],b:[u8;2]} 2 plain .a .b \
          (lists [u8] 2 plain true (numbers u8 4 plain 01 02 01 02) \
          (numbers i32 2 plain 00000000 02000000) (numbers i32 2 plain 02000000 02000000)) \

@@ -1,130 +1,97 @@
 // Numbers.
 
-use super::{expect_equal, expect_others};
-use crate::layouts::{counts, named, same_counts};
-use std::alloc::Global;
-use vx_base::VortexError;
-use vx_test_help::{bools, ints};
-use vx_tree::ArrayRef;
+use super::expect_rows;
+use crate::layouts::{counts, named, null_where, numbers, same_counts, some_counts, truths};
 
-// The number 5, null, and the number 5 again, of type u8.
-fn some_numbers(alloc: Global) -> Result<Vec<ArrayRef>, VortexError> {
-    let mut made = Vec::new(alloc);
-    made.push(counts(alloc, &[5, 0, 5])?.mask(alloc, &bools(alloc, &[true, false, true])?)?)?;
-    // Another byte lies below the null.
-    made.push(counts(alloc, &[5, 9, 5])?.mask(alloc, &bools(alloc, &[true, false, true])?)?)?;
-    // A part of more rows.
-    let longer = counts(alloc, &[7, 5, 1, 5, 8])?;
-    let longer = longer.mask(alloc, &bools(alloc, &[false, true, false, true, true])?)?;
-    made.push(longer.slice(alloc, 1..4)?)?;
-    // A null code, and a null value.
-    let codes = ints::<i16>(alloc, &[0, 1, 0])?.mask(alloc, &bools(alloc, &[true, false, true])?)?;
-    made.push(named(alloc, codes, counts(alloc, &[5, 6])?)?)?;
-    let values = counts(alloc, &[5, 6, 5])?.mask(alloc, &bools(alloc, &[true, false, true])?)?;
-    made.push(named(alloc, counts(alloc, &[2, 1, 0])?, values)?)?;
-    // A validity that is a dictionary, and rows that are all one but for null.
-    let valid = named(
-        alloc,
-        counts(alloc, &[1, 0, 1])?,
-        bools(alloc, &[false, true])?,
-    )?;
-    made.push(counts(alloc, &[5, 5, 5])?.mask(alloc, &valid)?)?;
-    made.push(same_counts(alloc, 5, 3)?.mask(alloc, &bools(alloc, &[true, false, true])?)?)?;
-    Ok(made)
-}
-
-// Rows that differ from them in one thing.
-fn other_some_numbers(alloc: Global) -> Result<Vec<ArrayRef>, VortexError> {
-    let mut made = Vec::new(alloc);
-    // A number.
-    made.push(counts(alloc, &[5, 0, 6])?.mask(alloc, &bools(alloc, &[true, false, true])?)?)?;
-    // No null: the default row, and the byte that lies below a null.
-    made.push(counts(alloc, &[5, 0, 5])?.mask(alloc, &bools(alloc, &[true, true, true])?)?)?;
-    made.push(counts(alloc, &[5, 9, 5])?.mask(alloc, &bools(alloc, &[true, true, true])?)?)?;
-    // A null more.
-    made.push(counts(alloc, &[5, 0, 5])?.mask(alloc, &bools(alloc, &[true, false, false])?)?)?;
-    // The length, the type, and rows of another kind.
-    made.push(counts(alloc, &[5, 0])?.mask(alloc, &bools(alloc, &[true, false])?)?)?;
-    made.push(ints::<i8>(alloc, &[5, 0, 5])?.mask(alloc, &bools(alloc, &[true, false, true])?)?)?;
-    made.push(bools(alloc, &[true, false, true])?)?;
-    Ok(made)
-}
-
+// The number 5, null, and the number 5 again, of type u8, and rows that differ from them in one
+// thing.
 #[test]
 fn some_numbers_in_all_layouts(rt: HostRuntime) {
-    let made = some_numbers(rt.alloc()).expect(&rt, "made");
-    let others = other_some_numbers(rt.alloc()).expect(&rt, "made");
-    expect_equal(&rt, made.as_slice());
-    expect_others(&rt, made.as_slice(), others.as_slice());
+    let there = [true, false, true];
+    let longer = some_counts(&rt, &[7, 5, 1, 5, 8], &[false, true, false, true, true]);
+    let codes = null_where(&rt, numbers::<i16>(&rt, &[0, 1, 0]), &there);
+    let values = some_counts(&rt, &[5, 6, 5], &there);
+    let valid = named(&rt, counts(&rt, &[1, 0, 1]), truths(&rt, &[false, true]));
+    let made = [
+        some_counts(&rt, &[5, 0, 5], &there),
+        // Another byte lies below the null.
+        some_counts(&rt, &[5, 9, 5], &there),
+        // A part of more rows.
+        longer.slice(rt.alloc(), 1..4).expect(&rt, "sliced"),
+        // A null code, and a null value.
+        named(&rt, codes, counts(&rt, &[5, 6])),
+        named(&rt, counts(&rt, &[2, 1, 0]), values),
+        // A validity that is a dictionary, and rows that are all one but for null.
+        counts(&rt, &[5, 5, 5])
+            .mask(rt.alloc(), &valid)
+            .expect(&rt, "masked"),
+        null_where(&rt, same_counts(&rt, 5, 3), &there),
+    ];
+    let others = [
+        // A number.
+        some_counts(&rt, &[5, 0, 6], &there),
+        // No null: the default row, and the byte that lies below a null.
+        some_counts(&rt, &[5, 0, 5], &[true, true, true]),
+        some_counts(&rt, &[5, 9, 5], &[true, true, true]),
+        // A null more.
+        some_counts(&rt, &[5, 0, 5], &[true, false, false]),
+        // The length, the type, and rows of another kind.
+        some_counts(&rt, &[5, 0], &[true, false]),
+        null_where(&rt, numbers::<i8>(&rt, &[5, 0, 5]), &there),
+        truths(&rt, &there),
+    ];
+    expect_rows(&rt, &made, &others);
 }
 
-// The numbers 258, -2, 258 of type i32.
-fn signed_numbers(alloc: Global) -> Result<Vec<ArrayRef>, VortexError> {
-    let mut made = Vec::new(alloc);
-    made.push(ints::<i32>(alloc, &[258, -2, 258])?)?;
-    made.push(ints::<i32>(alloc, &[9, 258, -2, 258, 9])?.slice(alloc, 1..4)?)?;
-    made.push(named(
-        alloc,
-        counts(alloc, &[1, 0, 1])?,
-        ints::<i32>(alloc, &[-2, 258])?,
-    )?)?;
-    Ok(made)
-}
-
-// Rows that differ from them in one thing.
-fn other_signed_numbers(alloc: Global) -> Result<Vec<ArrayRef>, VortexError> {
-    let mut made = Vec::new(alloc);
-    made.push(ints::<i32>(alloc, &[258, -2, 259])?)?;
-    made.push(ints::<i32>(alloc, &[257, -2, 258])?)?;
-    made.push(ints::<i32>(alloc, &[258, -2])?)?;
-    // Null may stand.
-    made.push(ints::<i32>(alloc, &[258, -2, 258])?.mask(
-        alloc,
-        &bools(alloc, &[true, true, true])?,
-    )?)?;
-    // The same bytes as other numbers.
-    made.push(ints::<u32>(alloc, &[258, 4294967294, 258])?)?;
-    made.push(ints::<i64>(alloc, &[258, -2, 258])?)?;
-    Ok(made)
-}
-
+// The numbers 258, -2, 258 of type i32, and rows that differ from them in one thing.
 #[test]
 fn signed_numbers_in_all_layouts(rt: HostRuntime) {
-    let made = signed_numbers(rt.alloc()).expect(&rt, "made");
-    let others = other_signed_numbers(rt.alloc()).expect(&rt, "made");
-    expect_equal(&rt, made.as_slice());
-    expect_others(&rt, made.as_slice(), others.as_slice());
+    let longer = numbers::<i32>(&rt, &[9, 258, -2, 258, 9]);
+    let made = [
+        numbers::<i32>(&rt, &[258, -2, 258]),
+        longer.slice(rt.alloc(), 1..4).expect(&rt, "sliced"),
+        named(
+            &rt,
+            counts(&rt, &[1, 0, 1]),
+            numbers::<i32>(&rt, &[-2, 258]),
+        ),
+    ];
+    let others = [
+        numbers::<i32>(&rt, &[258, -2, 259]),
+        numbers::<i32>(&rt, &[257, -2, 258]),
+        numbers::<i32>(&rt, &[258, -2]),
+        // Null may stand.
+        null_where(
+            &rt,
+            numbers::<i32>(&rt, &[258, -2, 258]),
+            &[true, true, true],
+        ),
+        // The same bytes as other numbers.
+        numbers::<u32>(&rt, &[258, 4294967294, 258]),
+        numbers::<i64>(&rt, &[258, -2, 258]),
+    ];
+    expect_rows(&rt, &made, &others);
 }
 
-// The number 5 three times, where no null may stand.
-fn same_numbers(alloc: Global) -> Result<Vec<ArrayRef>, VortexError> {
-    let mut made = Vec::new(alloc);
-    made.push(same_counts(alloc, 5, 3)?)?;
-    made.push(counts(alloc, &[5, 5, 5])?)?;
-    made.push(named(alloc, counts(alloc, &[1, 0, 1])?, counts(alloc, &[5, 5])?)?)?;
-    made.push(named(alloc, same_counts(alloc, 0, 3)?, counts(alloc, &[5, 6])?)?)?;
-    // A dictionary of a dictionary.
-    let inner = named(alloc, counts(alloc, &[1, 1])?, counts(alloc, &[6, 5])?)?;
-    made.push(named(alloc, counts(alloc, &[0, 1, 0])?, inner)?)?;
-    Ok(made)
-}
-
-// Rows that differ from them in one thing.
-fn other_same_numbers(alloc: Global) -> Result<Vec<ArrayRef>, VortexError> {
-    let mut made = Vec::new(alloc);
-    made.push(same_counts(alloc, 6, 3)?)?;
-    made.push(same_counts(alloc, 5, 4)?)?;
-    made.push(counts(alloc, &[5, 5, 6])?)?;
-    made.push(counts(alloc, &[6, 5, 5])?)?;
-    made.push(named(alloc, counts(alloc, &[1, 0, 1])?, counts(alloc, &[6, 5])?)?)?;
-    made.push(counts(alloc, &[5, 5, 5])?.mask(alloc, &bools(alloc, &[true, true, true])?)?)?;
-    Ok(made)
-}
-
+// The number 5 three times, where no null may stand, and rows that differ from them in one thing.
 #[test]
 fn same_numbers_in_all_layouts(rt: HostRuntime) {
-    let made = same_numbers(rt.alloc()).expect(&rt, "made");
-    let others = other_same_numbers(rt.alloc()).expect(&rt, "made");
-    expect_equal(&rt, made.as_slice());
-    expect_others(&rt, made.as_slice(), others.as_slice());
+    let inner = named(&rt, counts(&rt, &[1, 1]), counts(&rt, &[6, 5]));
+    let made = [
+        same_counts(&rt, 5, 3),
+        counts(&rt, &[5, 5, 5]),
+        named(&rt, counts(&rt, &[1, 0, 1]), counts(&rt, &[5, 5])),
+        named(&rt, same_counts(&rt, 0, 3), counts(&rt, &[5, 6])),
+        // A dictionary of a dictionary.
+        named(&rt, counts(&rt, &[0, 1, 0]), inner),
+    ];
+    let others = [
+        same_counts(&rt, 6, 3),
+        same_counts(&rt, 5, 4),
+        counts(&rt, &[5, 5, 6]),
+        counts(&rt, &[6, 5, 5]),
+        named(&rt, counts(&rt, &[1, 0, 1]), counts(&rt, &[6, 5])),
+        some_counts(&rt, &[5, 5, 5], &[true, true, true]),
+    ];
+    expect_rows(&rt, &made, &others);
 }

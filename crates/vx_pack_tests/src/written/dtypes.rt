@@ -1,60 +1,50 @@
 // Data types as text.
 
-use vx_base::{DType, StructFields, VortexError};
+use super::add;
+use std::process::Abort;
+use vx_base::{DType, StructFields};
 
 // Adds a data type.
 #[cycle(dtype)]
-pub(crate) fn write_dtype(
-    dtype: &DType,
-    levels: usize,
-    text: &mut String,
-) -> Result<(), VortexError> {
-    if levels == 0 {
-        return Err(VortexError::NotImplemented);
-    }
+pub(crate) fn write_dtype(rt: &impl Abort, text: &mut String, dtype: &DType, levels: usize) {
+    assert!(rt; 0 < levels);
     match dtype {
-        DType::Bool(_) => text.push_str("bool")?,
+        DType::Bool(_) => add(rt, text, "bool"),
         DType::Primitive(ptype, _) => {
             let ptype = *ptype;
-            write!(text, "{ptype}")?;
+            write!(text, "{ptype}").expect(rt, "written");
         }
-        DType::Utf8(_) => text.push_str("text")?,
-        DType::Binary(_) => text.push_str("bytes")?,
+        DType::Utf8(_) => add(rt, text, "text"),
+        DType::Binary(_) => add(rt, text, "bytes"),
         DType::List(items, _) => {
-            text.push('[')?;
-            write_dtype(items, levels - 1, text)?;
-            text.push(']')?;
+            add(rt, text, "[");
+            write_dtype(rt, text, items, levels - 1);
+            add(rt, text, "]");
         }
         DType::FixedSizeList(items, size, _) => {
             let size = *size;
-            text.push('[')?;
-            write_dtype(items, levels - 1, text)?;
-            write!(text, ";{size}]")?;
+            add(rt, text, "[");
+            write_dtype(rt, text, items, levels - 1);
+            write!(text, ";{size}]").expect(rt, "written");
         }
-        DType::Struct(fields, _) => write_fields(fields, levels - 1, text)?,
+        DType::Struct(fields, _) => write_fields(rt, text, fields, levels - 1),
     }
     if dtype.is_nullable() {
-        text.push('?')?;
+        add(rt, text, "?");
     }
-    Ok(())
 }
 
 // Adds the names and the data types of fields.
 #[cycle(dtype)]
-fn write_fields(
-    fields: &StructFields,
-    levels: usize,
-    text: &mut String,
-) -> Result<(), VortexError> {
-    text.push('{')?;
+fn write_fields(rt: &impl Abort, text: &mut String, fields: &StructFields, levels: usize) {
+    add(rt, text, "{");
     for (place, field) in fields.fields().iter().enumerate() {
         if place > 0 {
-            text.push(',')?;
+            add(rt, text, ",");
         }
-        text.push_str(fields.names().get(place).as_str())?;
-        text.push(':')?;
-        write_dtype(field, levels, text)?;
+        add(rt, text, fields.names().get(place).as_str());
+        add(rt, text, ":");
+        write_dtype(rt, text, field, levels);
     }
-    text.push('}')?;
-    Ok(())
+    add(rt, text, "}");
 }

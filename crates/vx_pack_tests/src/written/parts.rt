@@ -1,8 +1,9 @@
 // The parts of layouts that are no arrays, as text.
 
+use super::add;
 use super::values::write_value;
-use std::alloc::Global;
-use vx_base::{BitBuffer, ByteBuffer, FieldNames, VortexError};
+use std::process::Abort;
+use vx_base::{BitBuffer, ByteBuffer, FieldNames};
 use vx_tree::Layout;
 use vx_views::BinaryView;
 
@@ -11,103 +12,93 @@ const GROUP: usize = 4;
 
 // Adds what a layout has beside its data type, its validity and arrays.
 pub(crate) fn write_own(
-    alloc: Global,
+    rt: &(impl Abort + AllocGlobal),
+    text: &mut String,
     layout: &Layout,
     levels: usize,
-    text: &mut String,
-) -> Result<(), VortexError> {
+) {
     match layout {
-        Layout::Bool { bits, .. } => write_bits(alloc, bits, text),
+        Layout::Bool { bits, .. } => write_bits(rt, text, bits),
         Layout::Primitive { ptype, bytes, .. } => {
-            write_numbers(bytes.as_slice(), ptype.byte_width(), text)
+            write_numbers(rt, text, bytes.as_slice(), ptype.byte_width());
         }
         Layout::Constant { scalar, .. } => {
-            text.push(' ')?;
-            write_value(scalar.value(), levels, text)
+            add(rt, text, " ");
+            write_value(rt, text, scalar.value(), levels);
         }
-        Layout::Dict { flag, .. } | Layout::ListView { flag, .. } => write_flag(*flag, text),
+        Layout::Dict { flag, .. } | Layout::ListView { flag, .. } => {
+            let flag = *flag;
+            write!(text, " {flag}").expect(rt, "written");
+        }
         Layout::VarBinView { views, buffers, .. } => {
-            write_views(views.as_slice(), text)?;
-            write_buffers(buffers, text)
+            write_views(rt, text, views.as_slice());
+            write_buffers(rt, text, buffers);
         }
-        Layout::Struct { names, .. } => write_names(names, text),
-        Layout::FixedSizeList { .. } => Ok(()),
+        Layout::Struct { names, .. } => write_names(rt, text, names),
+        Layout::FixedSizeList { .. } => {}
     }
 }
 
 // Adds where the bits begin, and the bytes in which they lie.
-fn write_bits(alloc: Global, bits: &BitBuffer, text: &mut String) -> Result<(), VortexError> {
-    let (offset, _, bytes) = bits.try_clone(alloc)?.into_inner();
-    write!(text, " {offset}:")?;
-    write_bytes(bytes.as_slice(), text)
+fn write_bits(rt: &(impl Abort + AllocGlobal), text: &mut String, bits: &BitBuffer) {
+    let (offset, _, bytes) = bits.try_clone(rt.alloc()).expect(rt, "shared").into_inner();
+    write!(text, " {offset}:").expect(rt, "written");
+    write_bytes(rt, text, bytes.as_slice());
 }
 
 // Adds numbers of so many bytes each.
-fn write_numbers(bytes: &[u8], width: usize, text: &mut String) -> Result<(), VortexError> {
+fn write_numbers(rt: &impl Abort, text: &mut String, bytes: &[u8], width: usize) {
     for (place, byte) in bytes.iter().enumerate() {
         if place.checked_rem(width) == Some(0) {
-            text.push(' ')?;
+            add(rt, text, " ");
         }
-        write_byte(*byte, text)?;
+        write_byte(rt, text, *byte);
     }
-    Ok(())
 }
 
 // Adds views.
-fn write_views(views: &[BinaryView], text: &mut String) -> Result<(), VortexError> {
+fn write_views(rt: &impl Abort, text: &mut String, views: &[BinaryView]) {
     for view in views {
-        text.push(' ')?;
-        write_view(view.as_u128().to_le_bytes(), text)?;
+        add(rt, text, " ");
+        write_view(rt, text, view.as_u128().to_le_bytes());
     }
-    Ok(())
 }
 
 // Adds the bytes of a view.
-fn write_view(bytes: [u8; 16], text: &mut String) -> Result<(), VortexError> {
+fn write_view(rt: &impl Abort, text: &mut String, bytes: [u8; 16]) {
     for (place, byte) in bytes.iter().enumerate() {
         if place > 0 && place % GROUP == 0 {
-            text.push('.')?;
+            add(rt, text, ".");
         }
-        write_byte(*byte, text)?;
+        write_byte(rt, text, *byte);
     }
-    Ok(())
 }
 
 // Adds buffers.
-fn write_buffers(buffers: &[ByteBuffer], text: &mut String) -> Result<(), VortexError> {
+fn write_buffers(rt: &impl Abort, text: &mut String, buffers: &[ByteBuffer]) {
     for buffer in buffers {
-        text.push_str(" <")?;
-        write_bytes(buffer.as_slice(), text)?;
-        text.push('>')?;
+        add(rt, text, " <");
+        write_bytes(rt, text, buffer.as_slice());
+        add(rt, text, ">");
     }
-    Ok(())
 }
 
 // Adds names.
-fn write_names(names: &FieldNames, text: &mut String) -> Result<(), VortexError> {
+fn write_names(rt: &impl Abort, text: &mut String, names: &FieldNames) {
     for place in 0..names.len() {
-        text.push_str(" .")?;
-        text.push_str(names.get(place).as_str())?;
+        add(rt, text, " .");
+        add(rt, text, names.get(place).as_str());
     }
-    Ok(())
-}
-
-// Adds a flag.
-fn write_flag(flag: bool, text: &mut String) -> Result<(), VortexError> {
-    write!(text, " {flag}")?;
-    Ok(())
 }
 
 // Adds bytes.
-pub(crate) fn write_bytes(bytes: &[u8], text: &mut String) -> Result<(), VortexError> {
+pub(crate) fn write_bytes(rt: &impl Abort, text: &mut String, bytes: &[u8]) {
     for byte in bytes {
-        write_byte(*byte, text)?;
+        write_byte(rt, text, *byte);
     }
-    Ok(())
 }
 
 // Adds a byte.
-fn write_byte(byte: u8, text: &mut String) -> Result<(), VortexError> {
-    write!(text, "{byte:02x}")?;
-    Ok(())
+fn write_byte(rt: &impl Abort, text: &mut String, byte: u8) {
+    write!(text, "{byte:02x}").expect(rt, "written");
 }

@@ -1,50 +1,45 @@
 // The values of constants as text.
 
+use super::add;
 use super::parts::write_bytes;
-use vx_base::{ScalarValue, VortexError};
+use std::process::Abort;
+use vx_base::ScalarValue;
 
 // Adds a value.
 #[cycle(value)]
 pub(crate) fn write_value(
+    rt: &impl Abort,
+    text: &mut String,
     value: &Option<ScalarValue>,
     levels: usize,
-    text: &mut String,
-) -> Result<(), VortexError> {
-    if levels == 0 {
-        return Err(VortexError::NotImplemented);
-    }
+) {
+    assert!(rt; 0 < levels);
     match value {
-        None => text.push_str("null")?,
+        None => add(rt, text, "null"),
         Some(ScalarValue::Bool(truth)) => {
             let truth = *truth;
-            write!(text, "{truth}")?;
+            write!(text, "{truth}").expect(rt, "written");
         }
         Some(ScalarValue::Int(number)) => {
             let number = *number;
-            write!(text, "{number}")?;
+            write!(text, "{number}").expect(rt, "written");
         }
-        Some(ScalarValue::Bytes(bytes)) => write_bytes(bytes.as_slice(), text)?,
-        Some(ScalarValue::Text(bytes)) => write_bytes(bytes.as_slice(), text)?,
-        Some(ScalarValue::List(values)) => write_values(values.as_slice(), levels - 1, text)?,
-        Some(ScalarValue::Record(values)) => write_values(values.as_slice(), levels - 1, text)?,
+        Some(ScalarValue::Bytes(bytes)) => write_bytes(rt, text, bytes.as_slice()),
+        Some(ScalarValue::Text(bytes)) => write_bytes(rt, text, bytes.as_slice()),
+        Some(ScalarValue::List(values)) => write_values(rt, text, values.as_slice(), levels - 1),
+        Some(ScalarValue::Record(values)) => write_values(rt, text, values.as_slice(), levels - 1),
     }
-    Ok(())
 }
 
 // Adds the rows of a list, or the fields of a record.
 #[cycle(value)]
-fn write_values(
-    values: &[Option<ScalarValue>],
-    levels: usize,
-    text: &mut String,
-) -> Result<(), VortexError> {
-    text.push('[')?;
+fn write_values(rt: &impl Abort, text: &mut String, values: &[Option<ScalarValue>], levels: usize) {
+    add(rt, text, "[");
     for (place, value) in values.iter().enumerate() {
         if place > 0 {
-            text.push(',')?;
+            add(rt, text, ",");
         }
-        write_value(value, levels, text)?;
+        write_value(rt, text, value, levels);
     }
-    text.push(']')?;
-    Ok(())
+    add(rt, text, "]");
 }

@@ -1,4 +1,4 @@
-use Rattle.std.proofs.Common.{◌≡◌, ◌∙◌, ap, sym, subst, arith, rules}
+use Rattle.std.proofs.Common.{◌≡◌, ◌∙◌, ap, sym, subst, rules}
 use Rattle.std.specs.Prelude.{◌≤ℤ◌, pos}
 use Rattle.vx_base.specs.Rows.{count_in}
 use Rattle.vx_tree.specs.Meaning.{row_at}

@@ -1,4 +1,4 @@
-use Rattle.std.proofs.Common.{◌≡◌, ◌∙◌, ◌<◌, length, map, sum, ap, subst, sym, refl, inr, arith}
+use Rattle.std.proofs.Common.{◌≡◌, ◌∙◌, ◌<◌, length, ap, subst, sym, refl, inr, arith}
 use Rattle.std.specs.Result.{IfErr, IfOk}
 use Rattle.std.proofs.lemmas.List.{length_push}
 use Rattle.std.proofs.lemmas.Result.{MatchResult-weaker, err_from_is_err_and}
@@ -12,10 +12,11 @@ use Rattle.vx_tree.specs.Meaning.{trees_from}
 use Rattle.vx_tree.specs.Parts.{valid_of}
 use Rattle.vx_tree.specs.Tree.{structure}
 use Rattle.vx_pack.specs.Packed.{ArePacked, IsPackRefused, IsPacked}
-use Rattle.vx_pack.specs.Pieces.{ArePieces, piece_len, pieces_rows}
+use Rattle.vx_pack.specs.Pieces.{ArePieces, pieces_rows}
 use Rattle.vx_pack.specs.Records.{kind_at}
 use Rattle.vx_pack.proofs.FieldPieces.{ArePieces-fields, fields_are_even}
-use Rattle.vx_pack.proofs.ListPieces.{ArePieces-elements, ArePieces-lists}
+use Rattle.vx_pack.proofs.ListItems.{list_items-lists, lists_of_items}
+use Rattle.vx_pack.proofs.ListPieces.{ArePieces-elements, ArePieces-lists, rows_of_lists}
 use Rattle.vx_pack.proofs.PackedColumns.{all_packed, one_more_packed, packed_struct}
 use Rattle.vx_pack.proofs.PackedSteps.{field_refused, field_told, list_parts, lists_items, lists_packed, lists_refused, lists_too_many}
 use Rattle.vx_pack.proofs.PackedSteps.{parts_formed, records_packed, rows_counted, sized_formed, sized_packed, sized_refused}
@@ -25,84 +26,130 @@ use Rattle.vx_pack.proofs.pack_rows.+pack.Goals as goal
 
 -- ---- lists
 
+pub pack_lists-check_same_lists-requires-clause-lists : goal.pack_lists-check_same_lists-requires-clause-lists
+pack_lists-check_same_lists-requires-clause-lists t c =
+    lists_of_items (dtype_meaning c.args.dtype.now) (dtype_meaning c.args.items.now) c.requires.kind.0 c.requires.kind.1
+
+pub pack_lists-total_of_lists-requires-clause-lists : goal.pack_lists-total_of_lists-requires-clause-lists
+pack_lists-total_of_lists-requires-clause-lists t c =
+    lists_of_items (dtype_meaning c.args.dtype.now) (dtype_meaning c.args.items.now) c.requires.kind.0 c.requires.kind.1
+
+pub pack_lists-of_lists-requires-clause-lists : goal.pack_lists-of_lists-requires-clause-lists
+pack_lists-of_lists-requires-clause-lists t c =
+    lists_of_items (dtype_meaning c.args.dtype.now) (dtype_meaning c.args.items.now) c.requires.kind.0 c.requires.kind.1
+
+pub pack_lists-returns-in_err-check_same_lists-clause-err : goal.pack_lists-returns-in_err-check_same_lists-clause-err
+pack_lists-returns-in_err-check_same_lists-clause-err t c =
+    let k = dtype_meaning c.args.dtype.now in
+    let item = dtype_meaning c.args.items.now in
+    let rs = pieces_rows k c.args.pieces.now in
+    let p = err_from_is_err_and c.from_residual.result c.from_residual.ensures.1 in
+    let same = ap length (list_items-lists k item c.requires.kind.0 rs c.requires.kind.1) in
+    rw (p.1, p.2) (inr (
+      c.in_err-check_same_lists.ensures.0,
+      lists_too_many k item c.requires.kind.0 rs c.requires.kind.1 (omega (arith, same, c.in_err-check_same_lists.ensures.1)),
+    ))
+
 pub pack_lists-returns-in_err-total-clause-err : goal.pack_lists-returns-in_err-total-clause-err
 pack_lists-returns-in_err-total-clause-err t c =
     let k = dtype_meaning c.args.dtype.now in
     let item = dtype_meaning c.args.items.now in
     let rs = pieces_rows k c.args.pieces.now in
-    let lists = c.in_ok-lists.ensures item (lists_items k item c.requires.kind.0 c.requires.kind.1) in
-    let ps = c.in_ok-lists.lists.items in
     let p = err_from_is_err_and c.from_residual-in_err-total.result c.from_residual-in_err-total.ensures.1 in
-    let counted = ap (λ qs. sum (map piece_len qs)) c.deref.ensures.value in
+    let same = ap length (list_items-lists k item c.requires.kind.0 rs c.requires.kind.1) in
     rw (p.1, p.2) (inr (
       c.in_err-total.ensures.0,
-      lists_too_many k item c.requires.kind.0 rs ps c.requires.kind.1 lists
-          (omega (arith, counted, c.in_err-total.ensures.1)),
+      lists_too_many k item c.requires.kind.0 rs c.requires.kind.1 (omega (arith, same, c.in_err-total.ensures.1)),
     ))
 
-pub pack_lists-pack_rows-requires : goal.pack_lists-pack_rows-requires
-pack_lists-pack_rows-requires t c =
-    let k = dtype_meaning c.args.dtype.now in
-    let item = dtype_meaning c.args.items.now in
-    let rs = pieces_rows k c.args.pieces.now in
-    let lists = c.in_ok-lists.ensures item (lists_items k item c.requires.kind.0 c.requires.kind.1) in
-    let ps = c.in_ok-lists.lists.items in
-    let total = c.in_ok-total.total in
-    let counted = c.in_ok-total.ensures.0 ∙ ap (λ qs. sum (map piece_len qs)) c.deref.ensures.value in
-    let pieces = ArePieces-lists item 0 rs ps total lists counted (omega (arith, c.in_ok-total.ensures.1)) in (
-      omega (arith, ap kind_depth c.requires.kind.1, c.decreases),
-      subst (λ qs. ArePieces item qs total) (sym c.deref-2.ensures.value)
-          pieces,
-    )
+pub pack_lists-pack_elements-requires : goal.pack_lists-pack_elements-requires
+pack_lists-pack_elements-requires t c = (omega (arith, c.decreases), (c.requires.kind, (c.requires.pieces, sym c.in_ok-total.ensures.0)))
+
+pub pack_lists-of_lists-requires-clause-total : goal.pack_lists-of_lists-requires-clause-total
+pack_lists-of_lists-requires-clause-total t c = sym c.in_ok-total.ensures.0
+
+pub pack_lists-of_lists-requires-clause-fits : goal.pack_lists-of_lists-requires-clause-fits
+pack_lists-of_lists-requires-clause-fits t c = omega (arith, c.in_ok-total.ensures.1)
 
 pub pack_lists-returns-in_err-elements-clause-err : goal.pack_lists-returns-in_err-elements-clause-err
 pack_lists-returns-in_err-elements-clause-err t c =
     let k = dtype_meaning c.args.dtype.now in
     let item = dtype_meaning c.args.items.now in
     let rs = pieces_rows k c.args.pieces.now in
-    let lists = c.in_ok-lists.ensures item (lists_items k item c.requires.kind.0 c.requires.kind.1) in
-    let ps = c.in_ok-lists.lists.items in
+    let n = c.requires.kind.0 in
+    let kind = c.requires.kind.1 in
     let e = c.in_err-elements.field-0.0 in
     let p = err_from_is_err_and c.from_residual-in_err-elements.result c.from_residual-in_err-elements.ensures.1 in
-    let refused = subst (λ qs. IsPackRefused item (pieces_rows item qs) e) c.deref-2.ensures.value c.in_err-elements.ensures.err in
-    rw (p.1, p.2) (lists_refused k item c.requires.kind.0 rs ps e c.requires.kind.1 lists refused)
+    let refused = subst (λ xs. IsPackRefused item xs e) (list_items-lists k item n rs kind) c.in_err-elements.ensures.err in
+    rw (p.1, p.2) (lists_refused k item n rs e kind refused)
 
 pub pack_lists-list_view-requires : goal.pack_lists-list_view-requires
 pack_lists-list_view-requires t c =
     let k = dtype_meaning c.args.dtype.now in
     let item = dtype_meaning c.args.items.now in
     let rs = pieces_rows k c.args.pieces.now in
-    let lists = c.in_ok-lists.ensures item (lists_items k item c.requires.kind.0 c.requires.kind.1) in
-    let ps = c.in_ok-lists.lists.items in
     let total = c.in_ok-total.total in
     let e = c.in_ok-elements.elements in
-    let o = c.in_ok-offsets.offsets in
-    let s = c.in_ok-sizes.sizes in
-    let parts = list_parts item rs ps c.deref.result.now c.deref-2.result.now c.deref-3.result.now c.deref-4.result.now total e o s
-    lists c.deref.ensures.value c.deref-2.ensures.value c.deref-3.ensures.value c.deref-4.ensures.value
-    c.in_ok-total.ensures.0 (omega (arith, c.in_ok-total.ensures.1)) c.in_ok-elements.ensures.ok c.in_ok-offsets.ensures
-    c.in_ok-sizes.ensures in
-    parts_formed k item rs ps total e o s (valid_of c.in_ok-validity.validity) parts c.in_ok-validity.ensures
+    let parts = list_parts k item c.requires.kind.0 rs total e c.in_ok-offsets.offsets c.in_ok-offsets.sizes c.requires.kind.1
+    c.in_ok-total.ensures.0 (omega (arith, c.in_ok-total.ensures.1)) c.in_ok-elements.ensures.ok c.in_ok-offsets.ensures.0
+    c.in_ok-offsets.ensures.1 in
+    parts_formed k item rs total e c.in_ok-offsets.offsets c.in_ok-offsets.sizes (valid_of c.in_ok-validity.validity) parts
+    c.in_ok-validity.ensures
 
 pub pack_lists-returns-clause-ok : goal.pack_lists-returns-clause-ok
 pack_lists-returns-clause-ok t c =
     let k = dtype_meaning c.args.dtype.now in
     let item = dtype_meaning c.args.items.now in
     let rs = pieces_rows k c.args.pieces.now in
-    let lists = c.in_ok-lists.ensures item (lists_items k item c.requires.kind.0 c.requires.kind.1) in
-    let ps = c.in_ok-lists.lists.items in
     let total = c.in_ok-total.total in
     let e = c.in_ok-elements.elements in
-    let o = c.in_ok-offsets.offsets in
-    let s = c.in_ok-sizes.sizes in
-    let parts = list_parts item rs ps c.deref.result.now c.deref-2.result.now c.deref-3.result.now c.deref-4.result.now total e o s
-    lists c.deref.ensures.value c.deref-2.ensures.value c.deref-3.ensures.value c.deref-4.ensures.value
-    c.in_ok-total.ensures.0 (omega (arith, c.in_ok-total.ensures.1)) c.in_ok-elements.ensures.ok c.in_ok-offsets.ensures
-    c.in_ok-sizes.ensures in
+    let parts = list_parts k item c.requires.kind.0 rs total e c.in_ok-offsets.offsets c.in_ok-offsets.sizes c.requires.kind.1
+    c.in_ok-total.ensures.0 (omega (arith, c.in_ok-total.ensures.1)) c.in_ok-elements.ensures.ok c.in_ok-offsets.ensures.0
+    c.in_ok-offsets.ensures.1 in
     MatchResult-weaker c.list_view.result c.list_view.ensures
-    (λ a is. lists_packed k item c.requires.kind.0 rs ps total e o s (valid_of c.in_ok-validity.validity) a c.requires.kind.1 parts
-    c.in_ok-validity.ensures is)
+    (λ a is. lists_packed k item c.requires.kind.0 rs total e c.in_ok-offsets.offsets c.in_ok-offsets.sizes
+    (valid_of c.in_ok-validity.validity) a c.requires.kind.1 parts c.in_ok-validity.ensures is)
     (λ f m. tt)
+
+-- ---- the elements of lists
+
+pub pack_elements-pack_rows-requires : goal.pack_elements-pack_rows-requires
+pack_elements-pack_rows-requires t c =
+    let k = dtype_meaning c.args.dtype.now in
+    let item = dtype_meaning c.args.items.now in
+    let rs = pieces_rows k c.args.pieces.now in
+    let n = c.requires.kind.0 in
+    let kind = c.requires.kind.1 in
+    let lists = c.in_ok-lists-in-List.ensures item (lists_items k item n kind) in
+    let pieces = ArePieces-lists item rs c.in_ok-lists-in-List.lists.items c.args.total lists
+    (sym c.requires.total ∙ ap length (list_items-lists k item n rs kind)) (omega (arith, c.ranges.total.fits)) in (
+      omega (arith, ap kind_depth kind, c.decreases),
+      subst (λ qs. ArePieces item qs c.args.total) (sym c.deref.ensures.value) pieces,
+    )
+
+pub pack_elements-returns-in_ok-lists-in-List-clause-ok : goal.pack_elements-returns-in_ok-lists-in-List-clause-ok
+pack_elements-returns-in_ok-lists-in-List-clause-ok t c =
+    let k = dtype_meaning c.args.dtype.now in
+    let item = dtype_meaning c.args.items.now in
+    let rs = pieces_rows k c.args.pieces.now in
+    let n = c.requires.kind.0 in
+    let kind = c.requires.kind.1 in
+    let lists = c.in_ok-lists-in-List.ensures item (lists_items k item n kind) in
+    let same = ap (pieces_rows item) c.deref.ensures.value ∙ rows_of_lists item 0 rs c.in_ok-lists-in-List.lists.items lists
+    ∙ sym (list_items-lists k item n rs kind) in
+    subst (λ xs. IfOk c.pack_rows.result (IsPacked item xs)) same c.pack_rows.ensures.ok
+
+pub pack_elements-returns-in_ok-lists-in-List-clause-err : goal.pack_elements-returns-in_ok-lists-in-List-clause-err
+pack_elements-returns-in_ok-lists-in-List-clause-err t c =
+    let k = dtype_meaning c.args.dtype.now in
+    let item = dtype_meaning c.args.items.now in
+    let rs = pieces_rows k c.args.pieces.now in
+    let n = c.requires.kind.0 in
+    let kind = c.requires.kind.1 in
+    let lists = c.in_ok-lists-in-List.ensures item (lists_items k item n kind) in
+    let same = ap (pieces_rows item) c.deref.ensures.value ∙ rows_of_lists item 0 rs c.in_ok-lists-in-List.lists.items lists
+    ∙ sym (list_items-lists k item n rs kind) in
+    subst (λ xs. IfErr c.pack_rows.result (IsPackRefused item xs)) same c.pack_rows.ensures.err
 
 -- ---- lists of one size
 

@@ -12,6 +12,9 @@ decreases-pack_rows l = 4 * kind_depth (dtype_meaning l.dtype.now) + 3
 abbrev pub decreases-pack_lists : goal.decreases-pack_lists
 decreases-pack_lists l = 4 * kind_depth (dtype_meaning l.dtype.now) + 2
 
+abbrev pub decreases-pack_elements : goal.decreases-pack_elements
+decreases-pack_elements l = 4 * kind_depth (dtype_meaning l.dtype.now) + 1
+
 abbrev pub decreases-pack_fixed_lists : goal.decreases-pack_fixed_lists
 decreases-pack_fixed_lists l = 4 * kind_depth (dtype_meaning l.dtype.now) + 2
 

@@ -1,4 +1,4 @@
-use Rattle.std.proofs.Common.{[], subst}
+use Rattle.std.proofs.Common.{[]}
 use Rattle.vx_base.specs.DTypes.{dtype_meaning}
 use Rattle.vx_text.specs.Filling.{filling}
 use Rattle.vx_pack.specs.StoredTexts.{filled}

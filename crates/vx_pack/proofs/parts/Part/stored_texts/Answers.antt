@@ -1,4 +1,4 @@
-use Rattle.std.proofs.Common.{◌≡◌, ◌∙◌, ◌+◌, sym, ap, refl, subst}
+use Rattle.std.proofs.Common.{◌∙◌, ◌+◌, sym, ap, refl, subst}
 use Rattle.std.specs.Prelude.{slice_range}
 use Rattle.vx_base.specs.DTypes.{dtype_meaning}
 use Rattle.vx_tree.specs.Formed.{WellFormed}
@@ -7,7 +7,6 @@ use Rattle.vx_tree.specs.Tree.{view_array}
 use Rattle.vx_pack.proofs.StoredTexts.{stored_texts_of}
 use Rattle.vx_pack.specs.declared.parts.Part.TheVariants.{Array}
 use Rattle.vx_pack.specs.Parts.{IsWithin}
-use Rattle.vx_pack.specs.StoredTexts.{AreStoredTexts}
 use Rattle.vx_pack.proofs.parts.Part.stored_texts.Goals as goal
 
 pub returns : goal.returns
