@@ -20,8 +20,6 @@ mod rows;
 #[cfg(test)]
 mod samples;
 #[cfg(test)]
-mod steps;
-#[cfg(test)]
 mod text_arrays;
 #[cfg(test)]
 mod truths;

@@ -1,18 +1,19 @@
 // Lists of steps, and scripts.
 
-use crate::samples::{bools, ints, lists, numbers, one_name, records};
 use std::alloc::Global;
 use std::io::Cursor;
 use vx_base::{FieldName, VortexError};
 use vx_lists::ListViewRebuildMode;
 use vx_memory_help::{End, are_alike, judged};
 use vx_run::{RunFault, Step, WriteFault, run, run_script, write_rows};
+use vx_test_help::samples::{lists, records};
+use vx_test_help::{bools, ints};
 use vx_tree::ArrayRef;
 
 // Numbers, indices, truth values, list views and records, as arrays 0 to 4.
 fn given(alloc: Global) -> Result<Vec<ArrayRef>, VortexError> {
     let mut arrays = Vec::with_capacity(alloc, 5)?;
-    arrays.push(numbers(alloc)?)?;
+    arrays.push(ints(alloc, &[7i16, 0, -9])?)?;
     arrays.push(ints(alloc, &[2u8, 0])?)?;
     arrays.push(bools(alloc, &[true, false, true])?)?;
     arrays.push(lists(alloc)?)?;
@@ -42,6 +43,13 @@ fn steps(alloc: Global) -> Result<Vec<Step>, VortexError> {
         Step::Rebuild { array: 3, mode },
         Step::Narrow { array: 0 },
     ]?)
+}
+
+// A name.
+fn one_name(alloc: Global, name: &str) -> Result<Vec<FieldName>, VortexError> {
+    let mut names = Vec::with_capacity(alloc, 1)?;
+    names.push(FieldName::try_new(alloc, name)?)?;
+    Ok(names)
 }
 
 // A step of each kind on records.
