@@ -76,7 +76,8 @@ struct codrask_node {
 struct codrask_fault {
     uint32_t number; /* 0 where there is none; 1 to 23 as codrask_fault_name tells; 32 to 36 of the table itself; from 64 on of Arrow */
     size_t node;     /* the node that has it, counted from 0 */
-    size_t place;    /* the row that has it; of CODRASK_OUT_OF_BOUNDS the end of a list past its elements, or the code; else 0 */
+    size_t place;    /* the row that has it; of CODRASK_OUT_OF_BOUNDS the end of a list past its elements, or the code; of CODRASK_NOT_UTF8
+                      * of records the name that is no text, counted from 0; else 0 */
 };
 
 enum codrask_number {
@@ -195,7 +196,8 @@ struct codrask_run_fault {
     uint32_t part;
     size_t which; /* the table, the step or the result, counted from 0 */
     size_t node;  /* the node of the table, else 0 */
-    size_t place; /* the row that has it; of CODRASK_OUT_OF_BOUNDS the position that lies past a length; else 0 */
+    size_t place; /* the row that has it; of CODRASK_OUT_OF_BOUNDS the position that lies past a length; of CODRASK_NOT_UTF8 of records, and
+                   * of names that are chosen, the name that is no text, counted from 0; else 0 */
 };
 
 /* Runs steps on columns, and writes the arrays at the wanted positions, in plain layouts: neither a dictionary nor a constant.

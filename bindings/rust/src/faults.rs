@@ -64,7 +64,8 @@ impl Refused {
         self.node
     }
 
-    /// The row that has it, or the position that lies past a length; else 0.
+    /// The row that has it, the position that lies past a length, or which name of a record is no
+    /// text; else 0.
     pub fn row(&self) -> usize {
         self.row
     }
@@ -159,7 +160,8 @@ impl Stopped {
         self.node
     }
 
-    /// The row that has it, or the position that lies past a length; else 0.
+    /// The row that has it, the position that lies past a length, or which name of a record is no
+    /// text; else 0.
     pub fn row(&self) -> usize {
         self.row
     }

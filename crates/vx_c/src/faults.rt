@@ -21,7 +21,8 @@ pub struct CodraskFault {
     pub number: u32,
     /// The node that has it, counted from 0.
     pub node: usize,
-    /// The row that has it, or the position that lies past a length; else 0.
+    /// The row that has it, the position that lies past a length, or which name of a record is no
+    /// text; else 0.
     pub place: usize,
 }
 
@@ -37,7 +38,8 @@ pub struct CodraskRunFault {
     pub which: usize,
     /// The node of the table that has it, else 0.
     pub node: usize,
-    /// The row that has it, or the position that lies past a length; else 0.
+    /// The row that has it, the position that lies past a length, or which name of a record is no
+    /// text; else 0.
     pub place: usize,
 }
 
