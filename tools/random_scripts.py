@@ -417,9 +417,9 @@ class LargeWriter(Writer):
         if words[0] == "concat" and arrays and None not in arrays:
             counts = [array.rows.count for array in arrays]
             is_constant = all(array.layout == "constant" for array in arrays)
-            return not is_constant and (
-                any(array.nullable and array.rows.count > MOST_MADE for array in arrays)
-                or not (same_types(arrays) and fit_together(arrays, counts))
+            is_joined = same_types(arrays) and fit_together(arrays, counts)
+            return is_joined and not is_constant and any(
+                array.nullable and array.rows.count > MOST_MADE for array in arrays
             )
         return False
 

@@ -301,11 +301,11 @@ def rebuild(array: Array, mode: str) -> Array:
     if array.flag:
         return array
     offset_type, size_type = REBUILT[array.offsets.kind], REBUILT[array.sizes.kind]
-    made(numbers(offset_type, array.offsets.rows))
     sizes = array.rows.changed(lambda row: 0 if row is None else row.count)
     total = sum(size * count for size, count in sizes.runs)
     want(total in RANGES[offset_type] and total in RANGES[size_type], "Overflow")
     want(fits_usize(array.elements, total), "Overflow")
+    made(numbers(offset_type, array.offsets.rows))
     rows, offsets = laid_out(array)
     layout = "constant" if array.elements.layout == "constant" else "rows"
     rebuilt = array._replace(
