@@ -38,8 +38,8 @@ pub struct CodraskRunFault {
     pub which: usize,
     /// The node of the table that has it, else 0.
     pub node: usize,
-    /// The row that has it, the position that lies past a length, or which name of a record is no
-    /// text; else 0.
+    /// The row that has it, the position that lies past a length, or which name, of a record or of
+    /// those that a step chooses, is no text; else 0.
     pub place: usize,
 }
 

@@ -19,7 +19,7 @@ use vx_tree::ArrayRef;
 // How many buffers can be numbered by a `u32`.
 const MAX_BUFFERS: usize = 1 << 32;
 
-// Refuses with `Overflow` where arrays of a data type, with so many rows together, have not.
+// Refuses with `Overflow` where arrays of a data type, with so many rows together, have more.
 pub(crate) fn arrays_fit(
     alloc: Global,
     dtype: &DType,
@@ -59,7 +59,7 @@ fn is_leaf(dtype: &DType) -> bool
     }
 }
 
-// The same of pieces.
+// Refuses with `Overflow` where pieces of a data type, with so many rows together, have more.
 #[cycle(pieces_fit)]
 fn pieces_fit(
     alloc: Global,
@@ -84,7 +84,7 @@ fn pieces_fit(
     }
 }
 
-// The same of a part of each piece, of this data type.
+// Refuses so of a part of each piece, of this data type.
 #[cycle(pieces_fit)]
 fn parts_fit(
     alloc: Global,
@@ -102,7 +102,7 @@ fn parts_fit(
     pieces_fit(alloc, dtype, len, &parts)
 }
 
-// The same of the columns of records, each of its data type.
+// Refuses so of the columns of records, each of its data type.
 #[cycle(pieces_fit)]
 fn columns_fit(
     alloc: Global,

@@ -1,11 +1,11 @@
 //! Arrays in plain layout: one at a time, and one after another.
 //!
 //! Read `to_canonical` and `concat` first: the contracts, with specs/Canonical and
-//! specs/Concatenated. Both count first: `extents` over `pieces`, and `countable_rows`. Then
-//! `canonical`, which makes an array plain, or picked rows of it, and `join`, which joins plain
-//! arrays. Of constants, `canonical_nested` makes the values plain, level by level, and
-//! `canonical_values` the leaves; `canonical_zeroes` makes rows of which only the validity is given,
-//! and `kept_parts` what values keep without a row. `layouts/` has what does not recurse.
+//! specs/Concatenated. Both count first, by `countable_rows`; `concat` by `extents` over `pieces`
+//! too. Then `canonical`, which makes an array plain, or picked rows of it, and `join`, which joins
+//! plain arrays. Of constants, `canonical_nested` makes the values plain, level by level, and
+//! `canonical_values` the leaves; `canonical_zeroes` makes rows of which only the validity is
+//! given, and `kept_parts` what values keep without a row. `layouts/` has what does not recurse.
 //!
 //! Each walk is a circle of free functions in one file: `canonical`, `plain_values`
 //! (`canonical_nested`), `blank` and `is_countable` (`canonical_zeroes`), `kept_parts`, `is_plain`,

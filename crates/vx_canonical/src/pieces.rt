@@ -114,7 +114,7 @@ fn is_long(value: &Option<ScalarValue>) -> bool
     }
 }
 
-// How many elements a piece has, and so many more.
+// How many elements a piece has, and so many more. Refuses `Overflow` where they cannot be counted.
 pub(crate) fn add_elements(piece: &Piece<'_>, count: usize) -> Result<usize, VortexError>
     ensures count { IfOk result (λ n. n ≡ count + element_count (piece_extent piece.now)) }
     ensures tests { Tests result (count_fault (count + element_count (piece_extent piece.now))) }
@@ -165,7 +165,7 @@ fn item_count(value: &Option<ScalarValue>) -> usize
     }
 }
 
-// Both together.
+// The sum of two counts. Refuses `Overflow` where it cannot be counted.
 pub(crate) fn checked_sum(a: usize, b: usize) -> Result<usize, VortexError>
     ensures sum { IfOk result (λ n. n ≡ a + b) }
     ensures tests { Tests result (count_fault (a + b)) }

@@ -16,8 +16,8 @@ use std::ops::Range;
 use vx_base::{NativePType, PType, VortexError, call_native, int_at};
 use vx_tree::{ArrayRef, Layout};
 
-// Refuses the first valid code that is no position below `len`. Numbers are tested a word of rows at
-// a time up to the first word with a fault. Of a constant one row is read.
+// Refuses the first valid code that is no position below `len`. Numbers are tested a word of rows
+// at a time up to the first word with a fault. Of a constant one row is read.
 pub(crate) fn check_codes(alloc: Global, codes: &ArrayRef, len: usize) -> Result<(), VortexError>
     requires { is_integers (kind_of codes.now) ≡ true }
     ensures { Refuses result (indices_fault len codes.now) }

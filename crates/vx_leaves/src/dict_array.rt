@@ -44,8 +44,8 @@ pub(crate) struct LentParts<'a> {
 }
 
 impl<'a> LentParts<'a> {
-    // That every value is referenced, where the flag says so. Asks that the parts are well formed, so
-    // that nothing has to be read.
+    // That every value is referenced, where the flag says so. Asks that the parts are well formed,
+    // so that nothing has to be read.
     pub(crate) fn validate(&self) -> Result<(), VortexError>
         requires { IsDictionary self.now.codes.now self.now.values.now self.now.flag }
         ensures { Gives result (λ _. IsTrue self.now.flag → ReferencesAll self.now.codes.now self.now.values.now) }

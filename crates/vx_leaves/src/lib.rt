@@ -3,8 +3,8 @@
 //!
 //! A type has up to three files: its array (`primitive_array`), what it tells of its parts, a trait
 //! (`primitive_ext`), and its data apart from the validity (`primitive_data`). Read these three
-//! first, with specs/Leaves; then `narrow`, with specs/Narrow, and of dictionaries `valid_rows` (the
-//! rows of codes by words), `code_checks` (which codes are refused) and `code_scan` over
+//! first, with specs/Leaves; then `narrow`, with specs/Narrow, and of dictionaries `valid_rows`
+//! (which codes are valid, by words), `code_checks` (which codes are refused) and `code_scan` over
 //! `code_marks`, with specs/Scan (which values codes name). `collect`, `number_bytes` and
 //! `bool_iterators` read iterators; `spread` lays values over valid rows.
 //!

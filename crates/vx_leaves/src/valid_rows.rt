@@ -96,8 +96,8 @@ impl ValidRows {
         }
     }
 
-    // The booleans of the rows from `start` on, as many as a word has, but none from `end` on: a bit
-    // for each, with zeroes after them, and how many they are.
+    // The booleans of the rows from `start` on, as many as a word has, but none from `end` on: a
+    // bit for each, with zeroes after them, and how many they are.
     #[inline]
     pub(crate) fn word(&self, start: usize, end: usize) -> (u64, usize)
         requires order { start < end }
@@ -129,8 +129,8 @@ impl ValidRows {
     }
 }
 
-// The bits from a place on, and how many they are: those up to the end of the eighth byte, or of the
-// first where there are fewer bytes.
+// The bits from a place on, and how many they are: those up to the end of the eighth byte, or of
+// the first where there are fewer bytes.
 #[inline]
 fn bits_from(bytes: &[u8], place: usize) -> (u64, usize)
     requires { place / 8 < length bytes.now }

@@ -2,10 +2,10 @@
 //!
 //! Read `list_view/array` first, with specs/ListViews; then `list_view/checks`, what `try_new`
 //! tests, and `list_view/rebuild`, with specs/ListViews/Layout: `totals` tells what is refused,
-//! `plan` makes the runs and the new numbers, `positions` the places of elements. `references` tells
-//! which elements the lists lie in, and `trim` lets the others go. `number_rows` has the loops over
-//! offsets and sizes, one for each pair of their types. `fixed_size_list/` is lists of one size.
-//! `laws` are for callers.
+//! `plan` makes the runs and the new numbers, `positions` the places of elements. `references`
+//! tells which elements the lists lie in, and `trim` lets the others go. `number_rows` has the
+//! loops over offsets and sizes, one for each pair of their types. `fixed_size_list/` is lists of
+//! one size. `laws` are for callers.
 //!
 //! Two walks recurse: `#[cycle(is_countable)]` in `totals`, and `has_one_row` in `counts`.
 #![tactic(auto)]

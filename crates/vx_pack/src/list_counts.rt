@@ -324,8 +324,8 @@ pub(crate) fn total_of_lists(
     Ok(total)
 }
 
-// So many, and those of the lists of a piece: by the sum of its sizes, where these stand as numbers,
-// and by a product, where its lists are all one.
+// So many, and those of the lists of a piece: by the sum of its sizes, where these stand as
+// numbers, and by a product, where its lists are all one.
 fn total_with(
     dtype: &DType,
     piece: Piece,

@@ -1,4 +1,5 @@
-// Lists that layouts hold by offsets and sizes which are numbers one after another, none of them null.
+// Lists that layouts hold by offsets and sizes which are numbers one after another, none of them
+// null.
 
 ghost use Rattle.std.specs.Prelude.{◌≡◌, ◌≤◌, ◌+◌, Bool, IfSome, map, pos};
 ghost use Rattle.std.specs.List.{range_with_len};

@@ -1,5 +1,6 @@
-// How many elements the valid lists have in all, and whether so many can be taken: told by the sizes
-// where they lie, and by the layout of the elements, so that a refusal comes before anything is listed.
+// How many elements the valid lists have in all, and whether so many can be taken: told by the
+// sizes where they lie, and by the layout of the elements, so that a refusal comes before anything
+// is listed.
 
 ghost use Rattle.std.specs.Prelude.{◌≡◌, length, None, Some, if◌then◌else◌};
 ghost use Rattle.vx_base.specs.Refusals.{overflow};
@@ -29,7 +30,7 @@ pub(crate) fn total_size(sizes: &ArrayRef, mask: &Mask) -> u128
     total_by_row(sizes, mask)
 }
 
-// The same in any layout, row by row.
+// How many elements the present rows have in all, in any layout, row by row.
 fn total_by_row(sizes: &ArrayRef, mask: &Mask) -> u128
     requires counts { IsCounts sizes.now }
     requires same_len { length mask.now ≡ tree_len sizes.now }
