@@ -9,7 +9,7 @@ ghost use Rattle.vx_canonical.specs.Counted.{columns_rows_overflow, rows_overflo
 use crate::canonical_zeroes::is_countable;
 use vx_tree::{ArrayRef, Layout};
 
-// Those of an array, at every depth.
+// Whether those in an array, at every depth, do.
 #[cycle(has_countable_rows)]
 pub(crate) fn has_countable_rows(array: &ArrayRef) -> bool
     ensures { rows_overflow array.now ≡ (if result then None else Some overflow) }
@@ -26,7 +26,7 @@ pub(crate) fn has_countable_rows(array: &ArrayRef) -> bool
     }
 }
 
-// Those of each of these.
+// Whether those in each of these arrays do.
 #[cycle(has_countable_rows)]
 pub(crate) fn have_countable_rows(arrays: &[ArrayRef]) -> bool
     ensures { columns_rows_overflow (trees_from arrays.now) ≡ (if result then None else Some overflow) }

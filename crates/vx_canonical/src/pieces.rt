@@ -103,7 +103,7 @@ fn long_count(values: &[Option<ScalarValue>]) -> usize
     count
 }
 
-// Whether a value is.
+// Whether a value is a text or a byte list too long for a view.
 fn is_long(value: &Option<ScalarValue>) -> bool
     ensures { result ≡ is_long_row (option_row value.now) }
 {
