@@ -2,6 +2,9 @@
 #![tactic(auto)]
 
 ghost use Rattle.std.specs.Prelude.{◌≡◌, ◌<◌, ◌≤◌, false, IfOk};
+ghost use Rattle.vx_base.specs.Refusals.{Refuses, or_else};
+ghost use Rattle.vx_lists.specs.declared.list_view.rebuild.ListViewRebuildMode.TheVariants.{MakeZeroCopyToList};
+ghost use Rattle.vx_lists.specs.ListViews.Faults.{list_view_fault, rebuild_fault};
 ghost use Rattle.vx_lists.specs.ListViews.{elements_of};
 ghost use Rattle.vx_tree.specs.Meaning.{rows, tree_len};
 ghost use Rattle.vx_tree.specs.Tree.{list_view, non_nullable};
@@ -27,8 +30,10 @@ fn end_to_end(
     offsets: ArrayRef,
     sizes: ArrayRef,
 ) -> Result<ListViewArray, VortexError>
-    ensures { IfOk result (λ lists.
+    ensures rows { IfOk result (λ lists.
         rows lists ≡ rows (list_view elements offsets sizes non_nullable false)) }
+    ensures refuses { Refuses result (or_else (list_view_fault elements offsets sizes non_nullable)
+        (rebuild_fault MakeZeroCopyToList (list_view elements offsets sizes non_nullable false))) }
 {
     let lists = ListViewArray::try_new(alloc, elements, offsets, sizes, Validity::NonNullable)?;
     Ok(lists.rebuild(alloc, ListViewRebuildMode::MakeZeroCopyToList)?)
