@@ -160,8 +160,8 @@ impl Stopped {
         self.node
     }
 
-    /// The row that has it, the position that lies past a length, or which name of a record is no
-    /// text; else 0.
+    /// The row that has it, the position that lies past a length, or which name of a record, or
+    /// of those that a step chooses, is no text; else 0.
     pub fn row(&self) -> usize {
         self.row
     }
