@@ -4,7 +4,7 @@ ghost use Rattle.std.specs.Prelude.{◌≡◌, ◌<◌, ◌+◌, ◌++◌, ◌/�
 ghost use Rattle.std.specs.List.{flat_map};
 ghost use Rattle.vx_base.specs.DTypes.{dtype_meaning};
 ghost use Rattle.vx_base.specs.Integers.{byte_width};
-ghost use Rattle.vx_base.specs.Kinds.{integers, is_nullable_kind};
+ghost use Rattle.vx_base.specs.Kinds.{Kind, integers, is_nullable_kind};
 ghost use Rattle.vx_base.specs.Refusals.{Gives};
 ghost use Rattle.vx_base.specs.Rows.{Row, is_present};
 ghost use Rattle.vx_tree.specs.Parts.{valid_of};
@@ -44,13 +44,8 @@ pub(crate) struct Gathered {
 }
 
 impl Leaf {
-    // No values, and room for so many, and for so many bytes in a buffer.
-    fn with_capacity(
-        alloc: Global,
-        dtype: &DType,
-        len: usize,
-        heap: usize,
-    ) -> Result<Leaf, VortexError>
+    // No values, and room for so many.
+    fn with_capacity(alloc: Global, dtype: &DType, len: usize) -> Result<Leaf, VortexError>
         requires { is_leaf (dtype_meaning dtype.now) ≡ true }
         ensures { Gives result (AreValues (dtype_meaning dtype.now) []) }
     {
@@ -61,7 +56,7 @@ impl Leaf {
                 Ok(Leaf::Numbers(*ptype, Vec::with_capacity(alloc, room)?))
             }
             DType::Utf8(_) | DType::Binary(_) => {
-                Ok(Leaf::Texts(Filling::with_capacity(alloc, len, heap)?))
+                Ok(Leaf::Texts(Filling::with_capacity(alloc, len, 0)?))
             }
             DType::List(_, _) | DType::FixedSizeList(_, _, _) | DType::Struct(_, _) => {
                 unreachable!()
@@ -88,20 +83,30 @@ impl Leaf {
 }
 
 impl Gathered {
-    // No rows, and room for so many, and for so many bytes in a buffer.
+    // No rows, and room for so many.
     pub fn with_capacity(
         alloc: Global,
         dtype: &DType,
         len: usize,
-        heap: usize,
     ) -> Result<Gathered, VortexError>
         requires { is_leaf (dtype_meaning dtype.now) ≡ true }
         ensures { Gives result (AreGathered (dtype_meaning dtype.now) []) }
     {
         let room = if dtype.is_nullable() { len } else { 0 };
         let present = BitBufferMut::with_capacity(alloc, room)?;
-        let leaf = Leaf::with_capacity(alloc, dtype, len, heap)?;
+        let leaf = Leaf::with_capacity(alloc, dtype, len)?;
         Ok(Gathered { leaf, present })
+    }
+
+    // The same rows, and room for so many bytes in a buffer.
+    pub fn reserve_bytes(&mut self, bytes: usize) -> Result<(), VortexError>
+        ensures { Gives result (λ _. (kind : Kind) (rs : List Row) → AreGathered kind rs self.old
+            → AreGathered kind rs self.new) }
+    {
+        match &mut self.leaf {
+            Leaf::Texts(texts) => Ok(texts.last.reserve(bytes)?),
+            Leaf::Truths(_) | Leaf::Numbers(_, _) => Ok(()),
+        }
     }
 
     // The rows of a piece, after the others.

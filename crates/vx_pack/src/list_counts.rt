@@ -17,15 +17,10 @@ ghost use Rattle.vx_pack.specs.Pieces.{IsPiece, IsWithinPiece, piece_len, piece_
 use crate::count_bytes::{count_of_bytes, total_with_counts};
 use crate::packed_numbers::push_count;
 use crate::pieces::Piece;
+use crate::stored_lists::{BLOCK, FEW};
 use std::alloc::Global;
 use vx_base::{ByteBuffer, DType, NativePType, PType, VortexError, call_native, number_count};
 use vx_tree::{ArrayRef, Validity};
-
-// How many lists a block has.
-const BLOCK: usize = 128;
-
-// Fewer lists than these are put one by one: a block is cleared before it is filled.
-const FEW: usize = 16;
 
 // How many bytes the narrow type has.
 const NARROW: usize = 4;

@@ -10,13 +10,10 @@ ghost use Rattle.vx_pack.specs.CountBytes.{counts_of};
 ghost use Rattle.vx_pack.specs.StoredLists.{AreListBytes, all_positions, positions_of, stored_sizes, stored_starts};
 
 use crate::count_bytes::count_of_bytes;
-use crate::stored_lists::StoredLists;
+use crate::stored_lists::{BLOCK, StoredLists};
 use vx_base::{
     NativePType, PType, Selection, VortexError, call_native, extend_with_numbers, number_count,
 };
-
-// How many lists a block has.
-const BLOCK: usize = 128;
 
 // The bytes, and after them those of the numbers of all lists, where these bytes of a type hold the
 // elements.

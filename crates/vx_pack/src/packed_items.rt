@@ -8,22 +8,18 @@ ghost use Rattle.vx_base.specs.Kinds.{lists};
 ghost use Rattle.vx_base.specs.Refusals.{Gives};
 ghost use Rattle.vx_base.specs.Rows.{Row};
 ghost use Rattle.vx_pack.specs.Gathered.{AreGathered, is_leaf};
-ghost use Rattle.vx_pack.specs.ListItems.{AreLists, item_of, list_items};
+ghost use Rattle.vx_pack.specs.ListItems.{list_items};
 ghost use Rattle.vx_pack.specs.Packed.{IsPackRefused, IsPacked};
 ghost use Rattle.vx_pack.specs.Pieces.{IsPiece, piece_rows, pieces_rows};
 
 use crate::gathered::Gathered;
 use crate::packed_texts::long_len;
 use crate::pieces::Piece;
-use crate::stored_lists::plain_numbers;
+use crate::stored_lists::{FEW, plain_numbers};
 use std::alloc::Global;
 use vx_base::{DType, VortexError};
 use vx_tree::ArrayRef;
 use vx_views::MAX_BUFFER_LEN;
-
-// Fewer lists than these are looked at one by one: what is gathered in runs passes through blocks,
-// which are cleared first.
-const FEW: usize = 16;
 
 // The packed form of the items of lists, of which there are so many.
 pub(crate) fn pack_items(
@@ -42,8 +38,8 @@ pub(crate) fn pack_items(
     ensures err { let kind = dtype_meaning dtype.now in
         IfErr result (IsPackRefused (dtype_meaning items.now) (list_items kind (pieces_rows kind pieces.now))) }
 {
-    let heap = heap_len(dtype, items, pieces).min(MAX_BUFFER_LEN);
-    let mut gathered = Gathered::with_capacity(alloc, items, total, heap)?;
+    let mut gathered = Gathered::with_capacity(alloc, items, total)?;
+    gathered.reserve_bytes(heap_len(dtype, items, pieces).min(MAX_BUFFER_LEN))?;
     for piece in pieces {
         push_items(alloc, &mut gathered, dtype, items, *piece)?;
     }

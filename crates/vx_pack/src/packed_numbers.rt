@@ -1,7 +1,6 @@
 // Numbers that are packed, as bytes of their type.
 
-ghost use Rattle.std.specs.Prelude.{◌≡◌, ◌++◌, ◌<◌, Bool, length, map, pos};
-ghost use Rattle.vx_base.specs.DTypes.{dtype_meaning};
+ghost use Rattle.std.specs.Prelude.{◌≡◌, ◌++◌, ◌<◌, Bool, map, pos};
 ghost use Rattle.vx_base.specs.Integers.{Holds, byte_width, bytes_of};
 ghost use Rattle.vx_base.specs.Kinds.{integers};
 ghost use Rattle.vx_base.specs.Refusals.{Gives};

@@ -18,6 +18,12 @@ use crate::truths::is_full;
 use vx_base::{DType, PType};
 use vx_tree::{ArrayRef, Layout};
 
+// How many lists are looked at together.
+pub(crate) const BLOCK: usize = 128;
+
+// Fewer lists than these are looked at one by one: a block is cleared before it is filled.
+pub(crate) const FEW: usize = 16;
+
 // The elements, and the bytes of where each list begins among them and of how many it has.
 #[derive(Clone, Copy)]
 pub(crate) struct StoredLists<'a> {
