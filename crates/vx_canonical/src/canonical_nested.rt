@@ -1,6 +1,6 @@
 // Values that are lists or records, one a row, in plain layout: one recursion through data types.
 
-ghost use Rattle.std.specs.Prelude.{◌≡◌, ◌<◌, ◌*◌, ◌^◌, ◌++◌, [], ◌∷◌, None, length, map, is_some, replicate, slice_index_or, IfOk};
+ghost use Rattle.std.specs.Prelude.{◌≡◌, ◌<◌, ◌*◌, ◌++◌, [], ◌∷◌, None, length, map, is_some, replicate, slice_index_or, IfOk};
 ghost use Rattle.std.specs.List.{All, filter, flat_map};
 ghost use Rattle.vx_base.specs.DTypes.{dtype_meaning, field_kinds, field_names, is_nullable, kinds_of};
 ghost use Rattle.vx_base.specs.Kinds.{fixed_lists, lists, records};

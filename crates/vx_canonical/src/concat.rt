@@ -69,10 +69,10 @@ impl Concatenate for ArrayRef {
         if let DType::Primitive(ptype, nullability) = first.dtype() {
             return Ok(concat_numbers(alloc, *ptype, *nullability, arrays, len)?);
         }
-        arrays_fit(alloc, first.dtype(), len, arrays)?;
         if !have_countable_rows(arrays) {
             return Err(VortexError::Overflow);
         }
+        arrays_fit(alloc, first.dtype(), len, arrays)?;
         let plain = plain_arrays(alloc, arrays)?;
         all_formed(&plain);
         join_like(alloc, &plain[0], &plain)
