@@ -27,8 +27,8 @@ read_rows t r back =
     let c = back.plain in
     let same : unflagged c ≡ r = sym (ap (column_or r) back.is) in
     subst (λ (x : Tree). HasRowsOf t x × IsPlain x × AllFormed x) same
-    (rows_both t c (unflagged c) back.canonical.same (unflagged-rows c), kept_plain c back.canonical.plain, kept_formed c back.formed)
+    (rows_both t c (unflagged c) back.made.canonical.same (unflagged-rows c), kept_plain c back.made.canonical.plain, kept_formed c back.made.formed)
 
 -- a plain array is read back as it is, without its flags
 pub read_plain : (t r : Tree) → IsPlain t → IsReadBack t (Ok r) → r ≡ unflagged t
-read_plain t r plain back = ap (column_or r) back.is ∙ ap unflagged (back.shared plain)
+read_plain t r plain back = ap (column_or r) back.is ∙ ap unflagged (back.made.shared plain)

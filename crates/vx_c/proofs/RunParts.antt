@@ -10,7 +10,7 @@ use Rattle.vx_base.specs.declared.errors.VortexError.{VortexError}
 use Rattle.vx_base.specs.declared.errors.VortexError.TheVariants.{Memory, OutOfBounds}
 use Rattle.vx_base.specs.Refusals.{out_of_bounds, IsMemoryOr}
 use Rattle.vx_tree.specs.Tree.{Tree, bools, non_nullable}
-use Rattle.vx_canonical.specs.Canonical.{IsCanonical}
+use Rattle.vx_canonical.specs.Canonical.{IsCanonical, IsCanonicalWithin}
 use Rattle.vx_tree.specs.CanonicalFaults.{canonical_fault}
 use Rattle.vx_tree.specs.Faults.{position_fault}
 use Rattle.vx_tree.specs.Fitting.{AllFormed}
@@ -34,7 +34,7 @@ use Rattle.vx_c.specs.ColumnSteps.{HasColumnRun}
 use Rattle.vx_c.specs.Steps.{IsStepOf, step_form_fault}
 use Rattle.vx_c.specs.Unflagged.{unflagged, least_count, node_count}
 use Rattle.vx_c.specs.Written.{IsWritten, node_of}
-use Rattle.vx_c.specs.Runs.{column_in, AreColumns, AreSteps, IsMadeOf, IsMade, IsNoTable, kind_fault, or_fault, result_fault, IsRunError, IsToldOf}
+use Rattle.vx_c.specs.Runs.{column_in, AreColumns, AreSteps, IsMadeOf, IsMadePlain, IsMade, IsNoTable, kind_fault, or_fault, result_fault, IsRunError, IsToldOf}
 use Rattle.vx_c.specs.Runs.{AreColumnsOr, AreStepsOr, IsRanOr, AreTablesOr, told_of_run}
 use Rattle.vx_c.specs.declared.faults.CodraskRunFault.{CodraskRunFault}
 use Rattle.vx_c.proofs.Unflagged.{kept_count}
@@ -169,23 +169,24 @@ faultless : (results : List Tree) (w : ℕ) (a : Tree) → slice_get results w �
     → result_fault results w ≡ None
 faultless results w a is few none = fault_there results w a is ∙ few_nodes a few ∙ ap (option_map refused) none
 
+pub made_plain : (a c : Tree) → IsCanonical a c → IsCanonicalWithin a c → (IsPlain a → c ≡ a) → AllFormed c → IsMadePlain a c
+made_plain a c canonical within shared formed = record { canonical = canonical; within = within; shared = shared; formed = formed }
+
 pub too_long : (results : List Tree) (w : ℕ) (a c : Tree) → slice_get results w ≡ Some a → least_count (kind_of a) ≤ MAX_NODES
-    → canonical_fault a ≡ None → IsCanonical a c → AllFormed c → MAX_NODES < node_count c → IsNoTable results w TooManyNodes
-too_long results w a c is few none canonical formed long =
-    inr (refl, faultless results w a is few none, (c, subst (λ x. IsCanonical x c) (sym (array_there results w a is)) canonical, formed, long))
+    → canonical_fault a ≡ None → IsMadePlain a c → MAX_NODES < node_count c → IsNoTable results w TooManyNodes
+too_long results w a c is few none made long =
+    inr (refl, faultless results w a is few none, (c, subst (λ x. IsMadePlain x c) (sym (array_there results w a is)) made, long))
 
 pub table_made : (results : List Tree) (w : ℕ) (a c : Tree) (nodes made : List WrittenNode) → slice_get results w ≡ Some a
-    → least_count (kind_of a) ≤ MAX_NODES → canonical_fault a ≡ None → IsCanonical a c → (IsPlain a → c ≡ a) → AllFormed c
+    → least_count (kind_of a) ≤ MAX_NODES → canonical_fault a ≡ None → IsMadePlain a c
     → IsWritten [] (unflagged c ∷ []) nodes → node_count c ≤ MAX_NODES → made ≡ nodes → IsMadeOf results w (column_of (map node_of made))
-table_made results w a c nodes made is few none canonical shared formed written short kept =
+table_made results w a c nodes made is few none plain written short kept =
     let counted : length (map node_of written.more) ≤ MAX_NODES =
     omega (arith, length-map written.more node_of, ap length written.put, written_alone c nodes written, short) in
     let read : column_of (map node_of made) ≡ Ok (unflagged c) =
     ap (λ ws. column_of (map node_of ws)) (kept ∙ written.put) ∙ tables-column (map node_of written.more) (unflagged c) written.tables counted in
-    let of : IsCanonical (array_at results w) c = subst (λ x. IsCanonical x c) (sym (array_there results w a is)) canonical in
-    let itself : IsPlain (array_at results w) → c ≡ array_at results w =
-    λ plain. shared (subst IsPlain (array_there results w a is) plain) ∙ sym (array_there results w a is) in
-    (faultless results w a is few none, record { plain = c; canonical = of; shared = itself; formed = formed; short = short; is = read })
+    let of : IsMadePlain (array_at results w) c = subst (λ x. IsMadePlain x c) (sym (array_there results w a is)) plain in
+    (faultless results w a is few none, record { plain = c; made = of; short = short; is = read })
 
 -- ---- the whole run
 
@@ -238,6 +239,6 @@ told_run tables steps wanted e fault is told = (e, is, told)
 
 pub ruleset step_parts = (steps_read, no_step, many_steps)
 
-pub ruleset table_parts = (no_array, many_nodes, not_plain, no_memory, too_long, table_made)
+pub ruleset table_parts = (no_array, many_nodes, not_plain, no_memory, made_plain, too_long, table_made)
 
 pub ruleset run_parts = (columns_error, steps_error, run_error, result_error, run_made)

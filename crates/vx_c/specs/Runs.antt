@@ -6,7 +6,7 @@ use Rattle.vx_base.specs.declared.errors.VortexError.{VortexError}
 use Rattle.vx_base.specs.Kinds.{Kind}
 use Rattle.vx_base.specs.Refusals.{error_number}
 use Rattle.vx_tree.specs.Tree.{Tree}
-use Rattle.vx_canonical.specs.Canonical.{IsCanonical}
+use Rattle.vx_canonical.specs.Canonical.{IsCanonical, IsCanonicalWithin}
 use Rattle.vx_tree.specs.CanonicalFaults.{canonical_fault}
 use Rattle.vx_tree.specs.Faults.{position_fault}
 use Rattle.vx_tree.specs.Fitting.{AllFormed}
@@ -45,13 +45,17 @@ AreSteps meant steps = (length meant ≤ MAX_STEPS) × AllZip IsStepOf meant ste
 
 -- ---- what is written
 
--- a table that was read is a column: this array, made plain, which is itself where it is plain already, and well formed at every
--- depth, of no more nodes than a table may have, with no flag set
-pub record IsReadBack (t : Tree) (read : Result Tree (ℕ × NodeFault)) : Type 0 where
-  pub plain : Tree
+-- an array in plain layout, it and each of its parts, at every depth: itself where it is plain already, and well formed
+pub record IsMadePlain (t plain : Tree) : Type 0 where
   pub canonical : IsCanonical t plain
+  pub within : IsCanonicalWithin t plain
   pub shared : IsPlain t → plain ≡ t
   pub formed : AllFormed plain
+
+-- a table that was read is a column: this array, made plain, of no more nodes than a table may have, with no flag set
+pub record IsReadBack (t : Tree) (read : Result Tree (ℕ × NodeFault)) : Type 0 where
+  pub plain : Tree
+  pub made : IsMadePlain t plain
   pub short : node_count plain ≤ MAX_NODES
   pub is : read ≡ Ok (unflagged plain)
 
@@ -113,9 +117,9 @@ pub record IsStopped (tables : List CodraskTable) (steps : List CodraskStep) (i 
   pub formed : All AllFormed results
   pub stops : IsColumnStop taken i results e
 
--- an array, made plain and well formed at every depth, has more nodes than a table may have
+-- an array, made plain, has more nodes than a table may have
 abbrev pub IsTooLong : Tree → Type 0
-IsTooLong t = (c : Tree) × IsCanonical t c × AllFormed c × (MAX_NODES < node_count c)
+IsTooLong t = (plain : Tree) × IsMadePlain t plain × (MAX_NODES < node_count plain)
 
 -- the array at a position has a fault, or it has none, and its table has too many nodes
 abbrev pub IsNoTable : List Tree → ℕ → NodeError → Type 0

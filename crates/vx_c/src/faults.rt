@@ -7,7 +7,6 @@ ghost use Rattle.vx_base.specs.declared.errors.VortexError.TheVariants.{Memory};
 ghost use Rattle.vx_c.specs.declared.faults.NodeError.TheVariants.{Refused};
 ghost use Rattle.vx_c.specs.Answers.{no_fault, want_of_memory, fault_at, as_told, told_of};
 ghost use Rattle.vx_c.specs.Answers.{error_place, node_error_number, node_error_place};
-ghost use Rattle.vx_base.specs.Refusals.{error_number};
 
 use std::alloc::{AllocError, AllocFailed};
 use vx_base::VortexError;

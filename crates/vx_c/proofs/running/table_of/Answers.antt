@@ -4,7 +4,7 @@ use Rattle.vx_c.specs.declared.reading.TheConstants.{MAX_NODES}
 use Rattle.vx_c.specs.declared.written.WrittenNode.{WrittenNode}
 use Rattle.vx_c.specs.Unflagged.{unflagged, least_count, node_count}
 use Rattle.vx_c.specs.Written.{IsWritten}
-use Rattle.vx_c.proofs.RunParts.{lent_there, table_made}
+use Rattle.vx_c.proofs.RunParts.{lent_there, made_plain, table_made}
 use Rattle.vx_c.proofs.running.table_of.Goals as goal
 
 pub returns-clause-ok : goal.returns-clause-ok
@@ -14,5 +14,7 @@ returns-clause-ok c =
     let none : List WrittenNode → Type 0 = λ old. IsWritten old (unflagged c.in_ok-plain.plain ∷ []) nodes in
     let few : least_count (kind_of c.in_ok-array.array.now) ≤ MAX_NODES = search rules in
     let short : node_count c.in_ok-plain.plain ≤ MAX_NODES = search rules in
+    let made = made_plain c.in_ok-array.array.now c.in_ok-plain.plain c.in_ok-plain.ensures.canonical c.in_ok-plain.ensures.within
+        c.in_ok-plain.ensures.shared c.known.ensures in
     table_made c.args.results.now c.args.position c.in_ok-array.array.now c.in_ok-plain.plain nodes c.in_ok-of.field-0.nodes.items is few
-    c.in_ok-plain.ensures.refuses c.in_ok-plain.ensures.canonical c.in_ok-plain.ensures.shared c.known.ensures (subst none c.new-nodes.ensures.items c.in_ok-write.ensures.written) short c.in_ok-of.ensures
+    c.in_ok-plain.ensures.refuses made (subst none c.new-nodes.ensures.items c.in_ok-write.ensures.written) short c.in_ok-of.ensures
