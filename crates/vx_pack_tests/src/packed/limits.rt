@@ -84,6 +84,13 @@ fn elements_that_i64_does_not_count(rt: HostRuntime) {
 }
 
 #[test]
+fn lists_that_are_one_are_counted_by_a_product(rt: HostRuntime) {
+    let items = [Some(1), Some(2), Some(3)];
+    let lists = same_lists(&rt, &items, NonNullable, QUARTER as usize);
+    expect_refused(&rt, lists, VortexError::Overflow);
+}
+
+#[test]
 fn elements_of_one_size_that_usize_does_not_count(rt: HostRuntime) {
     expect_refused(&rt, too_large(&rt), VortexError::Overflow);
 }
