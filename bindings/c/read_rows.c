@@ -273,27 +273,14 @@ static void put_past(struct cut *cut, int64_t start, int64_t end, struct codrask
         put_fields(view, UINT32_MAX, 0, (uint32_t)(cut->count - 1), (uint32_t)(start - cut->start));
 }
 
-/* The view of a value that stands in it, with zeroes behind. Where the heap goes on for 12 bytes, they are read at once, and those of
- * other values cleared. */
-static inline void put_short(struct codrask_view *view, const uint8_t *value, uint32_t size, bool goes_on) {
-    uint64_t first = 0;
-    uint32_t last = 0;
-    if (!goes_on) {
-        *view = (struct codrask_view){{(uint8_t)size}};
-        memcpy(view->bytes + 4, value, size);
-        return;
-    }
-    memcpy(&first, value, 8);
-    memcpy(&last, value + 8, 4);
-    if (size < 8)
-        first &= ~(UINT64_MAX << 8 * size), last = 0;
-    else
-        last &= (uint32_t) ~(UINT64_MAX << 8 * (size - 8));
-    put_fields(view, size, (uint32_t)first, (uint32_t)(first >> 32), last);
+/* The view of a value that stands in it, with zeroes behind. */
+static void put_short(struct codrask_view *view, const uint8_t *value, uint32_t size) {
+    *view = (struct codrask_view){{(uint8_t)size}};
+    memcpy(view->bytes + 4, value, size);
 }
 
 /* The view of a value; false of one that no view counts. */
-static inline bool put_view(struct cut *cut, const struct task *task, int64_t start, int64_t after, struct codrask_view *view) {
+static bool put_view(struct cut *cut, const struct task *task, int64_t start, int64_t after, struct codrask_view *view) {
     if (task->base > start || start > after)
         *view = astray;
     else if (after > task->heap_end)
@@ -305,20 +292,71 @@ static inline bool put_view(struct cut *cut, const struct task *task, int64_t st
     else if (after - start > 12)
         put_long(cut, start, after, view);
     else
-        put_short(view, cut->heap + start, (uint32_t)(after - start), task->end - start >= 12);
+        put_short(view, cut->heap + start, (uint32_t)(after - start));
     return true;
 }
 
-/* Values that lie between offsets, as views: how many, until one has none. */
-static inline size_t put_views(struct cut *cut, const struct task *task, size_t width, struct codrask_view *views, size_t length) {
-    int64_t start = codrask_offset_at(task->offsets, width, 0);
-    for (size_t row = 0; row < length; row++) {
-        int64_t after = codrask_offset_at(task->offsets, width, row + 1);
+/* Values that lie between offsets, as views, from a row on: the first one that no view counts. */
+static size_t put_views(struct cut *cut, const struct task *task, size_t row, struct codrask_view *views, size_t length) {
+    int64_t start = codrask_offset_at(task->offsets, task->width, row);
+    for (; row < length; row++) {
+        int64_t after = codrask_offset_at(task->offsets, task->width, row + 1);
         if (!put_view(cut, task, start, after, &views[row]))
             return row;
         start = after;
     }
     return length;
+}
+
+/* Which of the twelve bytes from a value's first one on stand in its view, by its size: all of a short value, four of a long one. */
+static const struct {
+    uint64_t first;
+    uint32_t last;
+} kept_bytes[] = {
+    {0, 0},
+    {0xff, 0},
+    {0xffff, 0},
+    {0xffffff, 0},
+    {UINT32_MAX, 0},
+    {0xffffffffff, 0},
+    {0xffffffffffff, 0},
+    {0xffffffffffffff, 0},
+    {UINT64_MAX, 0},
+    {UINT64_MAX, 0xff},
+    {UINT64_MAX, 0xffff},
+    {UINT64_MAX, 0xffffff},
+    {UINT64_MAX, UINT32_MAX},
+    {UINT32_MAX, 0},
+};
+
+/* The view of a value of whichever size, after whose first byte the heap goes on for twelve; a long one lies in the first heap. */
+static inline void put_any(struct codrask_view *view, const uint8_t *value, uint32_t size, uint32_t place) {
+    uint64_t first;
+    uint32_t last, kind = size < 13 ? size : 13;
+    memcpy(&first, value, 8);
+    memcpy(&last, value + 8, 4);
+    first &= kept_bytes[kind].first;
+    last &= kept_bytes[kind].last;
+    put_fields(view, size, (uint32_t)first, (uint32_t)(first >> 32), kind == 13 ? place : last);
+}
+
+/* The same of values that lie one after another in the first heap: how many, up to the first one that does not, or that begins with the
+ * heap's last twelve bytes. No branch depends on the size of a value. */
+static inline size_t put_ordered(struct cut *cut, const struct task *task, size_t width, struct codrask_view *views, size_t length) {
+    int64_t base = task->base, start = base, end = task->end - base > INT32_MAX ? base + INT32_MAX : task->end, most = base;
+    size_t row = 0;
+    if (codrask_offset_at(task->offsets, width, 0) != base)
+        return 0;
+    for (; row < length && end - start >= 12; row++) {
+        int64_t after = codrask_offset_at(task->offsets, width, row + 1);
+        if (after < start || after > end)
+            break;
+        put_any(&views[row], cut->heap + start, (uint32_t)(after - start), (uint32_t)(start - base));
+        most = after - start > 12 ? after : most;
+        start = after;
+    }
+    cut->heaps->count = (size_t)(most - base);
+    return row;
 }
 
 static uint32_t make_views(struct reader *r, size_t i, const struct task *task) {
@@ -328,7 +366,8 @@ static uint32_t make_views(struct reader *r, size_t i, const struct task *task) 
     if (!views || !cut.heaps)
         return no_memory(r);
     open_heap(&cut, task->base);
-    size_t made = task->width == 4 ? put_views(&cut, task, 4, views, length) : put_views(&cut, task, 8, views, length);
+    size_t made = task->width == 4 ? put_ordered(&cut, task, 4, views, length) : put_ordered(&cut, task, 8, views, length);
+    made = put_views(&cut, task, made, views, length);
     if (made < length)
         return codrask_refuse(r, CODRASK_OVERFLOW, i, made);
     r->nodes[i].views = views;
