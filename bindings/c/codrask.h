@@ -450,6 +450,14 @@ uint32_t codrask_write_arrow_as(const struct codrask_node *nodes, size_t node_co
                                 const char *name, const struct codrask_limits *limits, struct ArrowSchema *schema,
                                 struct ArrowArray *array, struct codrask_fault *fault);
 
+/* The same of a table that has passed: to which codrask_check answered 0, or which codrask_run wrote, and in which nothing has changed
+ * since, as in memory of the caller's that nobody else writes to. It is not tested again, nor copied for that. Of such a table a node with
+ * all its parts is one too. Any other table is read past its slices: nobody sees that. A table without nodes, and one of more than 4096,
+ * is refused as above. */
+uint32_t codrask_write_passed(const struct codrask_node *nodes, size_t node_count, const uint8_t *formats, uint32_t flags,
+                              const char *name, const struct codrask_limits *limits, struct ArrowSchema *schema, struct ArrowArray *array,
+                              struct codrask_fault *fault);
+
 /* The formats of what a run wrote: of the same columns, steps and positions, to which codrask_run answered 0. Of each column there are as
  * many as it has nodes, or a null pointer; so there is room for those of each column that was written.
  *

@@ -154,6 +154,32 @@ static void taken_out(void) {
     other.release(&other);
 }
 
+static uint32_t write_passed(const struct codrask_node *nodes, size_t count, uint32_t flags) {
+    const struct codrask_limits limits = {64};
+    return codrask_write_passed(nodes, count, NULL, flags, "x", &limits, &written_schema, &written, &fault);
+}
+
+/* What has passed is not tested again, and copied all the same; a text that is none shows it. What else is refused stays refused. */
+static void passed_before(void) {
+    static struct codrask_node many[4097];
+    struct codrask_view views[] = {{{1, 0, 0, 0, 0xff}}};
+    struct codrask_node n = node(CODRASK_UTF8_VIEW, 0, 1);
+    uint8_t values[65] = {0};
+    n.views = views, n.view_count = 1;
+    refuse("a text that is none", &n, 1, CODRASK_BY_VIEWS, CODRASK_NOT_UTF8, 0, 0);
+    bool good = !write_passed(&n, 1, CODRASK_BY_VIEWS) && !strcmp(written_schema.name, "x") && !strcmp(written_schema.format, "vu")
+                && written.buffers[1] != (const void *)views && !memcmp(written.buffers[1], views, 16);
+    tell("what has passed is not tested again", good);
+    give_back();
+    tell("flags that are none", write_passed(&n, 1, 2) == CODRASK_BAD_FLAGS && !written.release);
+    n = numbers(CODRASK_U8, 65, SLICE(values));
+    tell("too many bytes of what has passed", write_passed(&n, 1, 0) == CODRASK_TOO_MANY_BYTES && !written.release);
+    tell("no node has passed", write_passed(&n, 0, 0) == CODRASK_NOT_ONE_ARRAY && fault.number == CODRASK_NOT_ONE_ARRAY);
+    for (size_t i = 0; i < COUNT(many); i++)
+        many[i] = numbers(CODRASK_U8, 0, values, 0);
+    tell("so many nodes never passed", write_passed(many, COUNT(many), 0) == CODRASK_TOO_MANY_NODES && !written.release);
+}
+
 int main(void) {
     padding();
     names();
@@ -161,6 +187,7 @@ int main(void) {
     nodes();
     small_offsets();
     taken_out();
+    passed_before();
     printf("%d passed, %d failed\n", passed, failed);
     return failed != 0;
 }

@@ -1,5 +1,5 @@
-/* Columns as Arrow arrays. A table is tested by codrask_check before it is read, and copied: what is made has blocks of its
- * own, and each array and schema gives back just its own. */
+/* Columns as Arrow arrays. A table is tested by codrask_check before it is read, where it has not passed before, and copied: what is made
+ * has blocks of its own, and each array and schema gives back just its own. */
 #include "inside.h"
 
 #include <stdio.h>
@@ -745,25 +745,49 @@ static uint32_t test_formats(struct maker *m) {
     return 0;
 }
 
+/* Tests the flags, the formats and the bytes of a table, and the table itself where it has not passed; one of no node, or of too many,
+ * has not. */
+static uint32_t test_table(struct maker *m, const struct codrask_limits *limits, bool passed, struct codrask_fault *fault) {
+    bool has_room = m->node_count <= MOST_NODES;
+    uint32_t error = test_formats(m);
+    if (!error && has_room)
+        error = test_bytes(m, limits);
+    if (error || (passed && has_room && m->node_count))
+        return error;
+    error = codrask_check(m->nodes, m->node_count, fault);
+    m->node = fault->node;
+    m->row = fault->place;
+    return error;
+}
+
+/* Writes a table, which is tested first where it has not passed. */
+static uint32_t write_table(struct maker *m, const char *name, const struct codrask_limits *limits, bool passed, struct pair p,
+                            struct codrask_fault *fault) {
+    *p.schema = (struct ArrowSchema){.release = NULL};
+    *p.array = (struct ArrowArray){.release = NULL};
+    uint32_t error = test_table(m, limits, passed, fault);
+    if (!error)
+        error = make_column(m, name, p);
+    if (error && p.schema->release)
+        p.schema->release(p.schema);
+    if (error && p.array->release)
+        p.array->release(p.array);
+    *fault = (struct codrask_fault){error, error && error != CODRASK_MEMORY ? m->node : 0, m->row};
+    return error;
+}
+
 uint32_t codrask_write_arrow_as(const struct codrask_node *nodes, size_t node_count, const uint8_t *formats, uint32_t flags,
                                 const char *name, const struct codrask_limits *limits, struct ArrowSchema *schema,
                                 struct ArrowArray *array, struct codrask_fault *fault) {
     struct maker m = {.nodes = nodes, .node_count = node_count, .formats = formats, .flags = flags};
-    *schema = (struct ArrowSchema){.release = NULL};
-    *array = (struct ArrowArray){.release = NULL};
-    uint32_t error = test_formats(&m);
-    if (!error && node_count <= MOST_NODES)
-        error = test_bytes(&m, limits);
-    if (!error && (error = codrask_check(nodes, node_count, fault)))
-        return error;
-    if (!error)
-        error = make_column(&m, name, (struct pair){schema, array});
-    if (error && schema->release)
-        schema->release(schema);
-    if (error && array->release)
-        array->release(array);
-    *fault = (struct codrask_fault){error, error && error != CODRASK_MEMORY ? m.node : 0, m.row};
-    return error;
+    return write_table(&m, name, limits, false, (struct pair){schema, array}, fault);
+}
+
+uint32_t codrask_write_passed(const struct codrask_node *nodes, size_t node_count, const uint8_t *formats, uint32_t flags,
+                              const char *name, const struct codrask_limits *limits, struct ArrowSchema *schema, struct ArrowArray *array,
+                              struct codrask_fault *fault) {
+    struct maker m = {.nodes = nodes, .node_count = node_count, .formats = formats, .flags = flags};
+    return write_table(&m, name, limits, true, (struct pair){schema, array}, fault);
 }
 
 uint32_t codrask_write_arrow(const struct codrask_node *nodes, size_t node_count, uint32_t flags, const char *name,
