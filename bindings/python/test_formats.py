@@ -281,7 +281,7 @@ def with_library(other, call):
 
 
 def test_a_library_without_formats():
-    older = Library(["codrask_table_formats", "codrask_write_arrow_as", "codrask_run_formats"])
+    older = Library(["codrask_table_formats", "codrask_write_arrow_as", "codrask_write_passed", "codrask_run_formats"])
     whole = of.values(["x", "y"], "U")
     column = with_library(older, lambda: Column.from_arrow(whole))
     assert with_library(older, lambda: out(column)) == ("vu",) == with_library(older, lambda: out(column.slice(1)))

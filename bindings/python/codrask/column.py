@@ -10,7 +10,7 @@ from .capsules import capsule_of, schema_in
 from .equal import same_rows
 from .faults import MEMORY, TOO_MANY_BYTES, TOO_MANY_NODES, Refused, refusal
 from .formats import formats_asked
-from .library import Fault, Limits, later, load
+from .library import Fault, Limits, has, later, load
 from .made import nodes_of
 from .memory import bytes_in, raw, raw_or_numbers
 from .nulls import null_count
@@ -42,9 +42,9 @@ class Column:
         raise TypeError("a Column is neither pickled nor copied deeply")
 
     @classmethod
-    def _made(cls, nodes, name=b"", formats=None):
+    def _made(cls, nodes, name=b"", formats=None, passed=False):
         column = object.__new__(cls)
-        column._nodes, column._passed, column._name = nodes, False, name
+        column._nodes, column._passed, column._name = nodes, passed, name
         column._formats = bytes(len(nodes)) if formats is None else formats
         return column
 
@@ -220,7 +220,10 @@ class Column:
         return path, _shortened(types_of(self._nodes)[top]), part
 
     def fault(self):
-        """The first fault as `Refused`, or None where there is none. MemoryError where memory was refused."""
+        """The first fault as `Refused`, or None where there is none. MemoryError where memory was refused. What has passed is not
+        tested again."""
+        if self._passed:
+            return None
         nodes, fault = self._private(), Fault()
         if load().codrask_check(of.given(nodes), len(nodes), ctypes.byref(fault)):
             refused = refusal(fault, *(self._words(fault.node) if fault.node < len(nodes) else ()))
@@ -232,7 +235,7 @@ class Column:
 
     def check(self):
         """This column, where it is one. Raises `Refused` with its first fault. What can be written to is copied first: what
-        passed is in memory that nobody can change."""
+        passed is in memory that nobody can change, and is neither tested nor copied again."""
         fault = self.fault()
         if fault:
             raise fault
@@ -255,10 +258,14 @@ class Column:
         return column._written(column._formats if by_offsets is None else None, told, most, self._name)
 
     def _written(self, formats, by_offsets, most, name):
-        """An `Arrow` of the column as it is, in some formats or by a flag for all."""
+        """An `Arrow` of the column as it is, in some formats or by a flag for all. It is tested where it had not passed before its
+        nodes were taken."""
+        passed = self._passed
         nodes, limits, made, fault = self._private(), Limits(most), Arrow(), Fault()
         how, into = (int(by_offsets), name, ctypes.byref(limits)), (made._schema, made._array, ctypes.byref(fault))
-        if any(formats or ()):
+        if passed and has("codrask_write_passed"):
+            number = load().codrask_write_passed(of.given(nodes), len(nodes), formats, *how, *into)
+        elif any(formats or ()):
             number = later("codrask_write_arrow_as")(of.given(nodes), len(nodes), formats, *how, *into)
         else:
             number = load().codrask_write_arrow(of.given(nodes), len(nodes), *how, *into)

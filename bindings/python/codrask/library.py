@@ -168,6 +168,10 @@ LATER = {
         _number,
         [_to(Node), _count, ctypes.c_char_p, _number, ctypes.c_char_p, _to(Limits), _to(ArrowSchema), _to(ArrowArray), _to(Fault)],
     ),
+    "codrask_write_passed": (
+        _number,
+        [_to(Node), _count, ctypes.c_char_p, _number, ctypes.c_char_p, _to(Limits), _to(ArrowSchema), _to(ArrowArray), _to(Fault)],
+    ),
     "codrask_run_formats": (
         _number,
         [_to(Nodes), _to(ctypes.c_char_p), _count, _to(Step), _count, _to(_count), _to(Columns), _to(ctypes.c_void_p)],

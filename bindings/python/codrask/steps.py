@@ -134,7 +134,8 @@ def _positions(columns, steps, wanted):
 
 def run(columns, steps, wanted=None):
     """Runs steps on columns. Gives the arrays at the wanted positions as columns, in plain layouts; the last array where no
-    position is given. Raises `Stopped` where a column, a step or a result is refused, and MemoryError where memory is."""
+    position is given. What it gives has passed. Raises `Stopped` where a column, a step or a result is refused, and MemoryError where
+    memory is."""
     columns = each("columns", columns, "Columns", lambda argument, given: instance(argument, given, Column))
     steps = each("steps", steps, "Steps", lambda argument, given: instance(argument, given, Step))
     wanted = _positions(columns, steps, wanted)
@@ -155,7 +156,7 @@ def run(columns, steps, wanted=None):
         raise run_refusal(fault, *told)
     try:
         formats = formats_after(tables, [column._formats for column in columns], given, places, made) if made.count else []
-        results = [Column._made(of.copied(made.columns[i]), b"", formats[i]) for i in range(made.count)]
+        results = [Column._made(of.copied(made.columns[i]), b"", formats[i], True) for i in range(made.count)]
     finally:
         load().codrask_columns_free(ctypes.byref(made))
     for column, nodes in zip(columns, private):

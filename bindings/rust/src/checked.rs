@@ -293,8 +293,7 @@ impl<'c> Checked<'c> {
         let (nodes, formats) = self.own();
         let formats = how.by_offsets.is_none().then_some(formats);
         let flags = u32::from(how.by_offsets == Some(true));
-        let table = (nodes, formats, self.table.levels);
-        arrow::write(table, flags, &name, how.most_bytes)
+        arrow::write((nodes, formats), flags, &name, how.most_bytes)
     }
 
     /// Where the value of a row stands: a node that is no dictionary, and its row. None where the

@@ -4,11 +4,11 @@ use std::ffi::{c_char, c_void, CStr};
 use std::marker::PhantomData;
 use std::{fmt, ptr, slice};
 
-use super::{on_a_stack, refused, Fault, Format, Node};
+use super::{refused, Fault, Format, Node};
 use crate::checked::Checked;
 use crate::column::Column;
 use crate::data::Reading;
-use crate::faults::{Refused, MEMORY};
+use crate::faults::Refused;
 
 /// Arrow's `ArrowSchema`, laid out as arrow-rs lays it out. It is released when it is dropped.
 #[repr(C)]
@@ -186,7 +186,7 @@ extern "C" {
     fn codrask_table_name(table: *const RawTable) -> *const c_char;
     fn codrask_table_formats(table: *const RawTable) -> *const Format;
     fn codrask_table_free(table: *mut RawTable);
-    fn codrask_write_arrow_as(
+    fn codrask_write_passed(
         nodes: *const Node,
         count: usize,
         formats: *const Format,
@@ -513,23 +513,10 @@ impl<'a> Given<'a> {
     }
 }
 
-/// The structs that a thread with a large stack writes to.
-struct Crossing<'w>(&'w mut FFI_ArrowArray, &'w mut FFI_ArrowSchema);
-
-// SAFETY: both are empty when they cross, and what the library writes into them any thread may
-// release: its release calls `free` alone.
-unsafe impl Send for Crossing<'_> {}
-
-impl Crossing<'_> {
-    fn pointers(self) -> (*mut FFI_ArrowArray, *mut FFI_ArrowSchema) {
-        (self.0, self.1)
-    }
-}
-
-/// Writes nodes as an Arrow array, in their formats where there are some, one for each; `levels` is
-/// no less than how deep they are nested.
+/// Writes nodes that have passed as an Arrow array, in their formats where there are some, one for
+/// each. They are not tested again, and written by loops: no nest is too deep for the stack.
 pub(crate) fn write(
-    (nodes, formats, levels): (&[Node], Option<&[Format]>, usize),
+    (nodes, formats): (&[Node], Option<&[Format]>),
     flags: u32,
     name: &CStr,
     most_bytes: Option<usize>,
@@ -539,29 +526,25 @@ pub(crate) fn write(
     let limits = Limits {
         bytes: most_bytes.unwrap_or(0),
     };
-    let (told, into) = (&mut fault, Crossing(&mut array, &mut schema));
-    let call = move || {
-        let (array, schema) = into.pointers();
-        let formats = formats.map_or(ptr::null(), <[Format]>::as_ptr);
-        // SAFETY: the nodes, as many formats, and the name live during the call; the rest can be
-        // written to, and the structs have nothing that would be lost.
-        unsafe {
-            codrask_write_arrow_as(
-                nodes.as_ptr(),
-                nodes.len(),
-                formats,
-                flags,
-                name.as_ptr(),
-                &limits,
-                schema,
-                array,
-                told,
-            )
-        }
+    let formats = formats.map_or(ptr::null(), <[Format]>::as_ptr);
+    // SAFETY: the nodes have passed, and what is lent cannot have changed since. They, as many
+    // formats and the name live during the call; the rest can be written to, and the structs have
+    // nothing that would be lost.
+    let number = unsafe {
+        codrask_write_passed(
+            nodes.as_ptr(),
+            nodes.len(),
+            formats,
+            flags,
+            name.as_ptr(),
+            &limits,
+            &mut schema,
+            &mut array,
+            &mut fault,
+        )
     };
-    match on_a_stack(levels, call) {
-        Some(0) => Ok((array, schema)),
-        Some(_) => Err(refused(&fault)),
-        None => Err(Refused::new(MEMORY, 0, 0)),
+    match number {
+        0 => Ok((array, schema)),
+        _ => Err(refused(&fault)),
     }
 }
