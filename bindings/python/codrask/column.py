@@ -14,6 +14,7 @@ from .library import Fault, Limits, has, later, load
 from .made import nodes_of
 from .memory import bytes_in, raw, raw_or_numbers
 from .nulls import null_count
+from .offsets import list_parts, offsets_of, views_between
 from .packing import takes_more, with_names
 from .reading import Asked, gives_arrays, nodes_at, read_given
 from .rows import rows_of
@@ -131,6 +132,16 @@ class Column:
         return cls._of(kind, views.nbytes // 16, validity, views=views, buffers=buffers)
 
     @classmethod
+    def texts(cls, offsets, buffer, validity=None, binary=False, large=False):
+        """Texts, or byte lists, that lie one after another in a buffer of bytes: between offsets of 32 bits, or with `large` of 64, of
+        which there is one more than there are rows. What can be written to is copied at once. Raises `Refused` where a value has 2 GiB or
+        more."""
+        kind = of.BINARY_VIEW if truth("binary", binary) else of.UTF8_VIEW
+        offsets, buffer = offsets_of("offsets", offsets, truth("large", large)), raw("buffer", buffer)
+        views, buffers = views_between(offsets, buffer, large)
+        return cls._of(kind, views.nbytes // 16, validity, views=views, buffers=buffers)
+
+    @classmethod
     def dictionary(cls, codes, values):
         """The values that codes name; a null code is a null row."""
         codes, values = instance("codes", codes, Column), instance("values", values, Column)
@@ -142,6 +153,15 @@ class Column:
         elements = instance("elements", elements, Column)
         size, length = integer("size", size, U32), integer("length", length)
         return cls._of(of.FIXED_SIZE_LIST, length, validity, [elements], size=size)
+
+    @classmethod
+    def lists(cls, elements, offsets, validity=None, large=False):
+        """Lists that lie one after another in the elements: between offsets of 32 bits, or with `large` of 64, of which there is one
+        more than there are rows. Offsets that can be written to are copied at once."""
+        elements = instance("elements", elements, Column)
+        counts = list_parts(offsets_of("offsets", offsets, truth("large", large)), large)
+        parts = [elements, *(cls._made((node,)) for node in counts)]
+        return cls._of(of.LIST_VIEW, parts[1].length, validity, parts)
 
     @classmethod
     def list_views(cls, elements, offsets, sizes, validity=None):

@@ -121,6 +121,24 @@ def is_fixed(view):
     return type(view.obj) is bytes
 
 
+def fixed(view):
+    """The same bytes where nobody can change them: a copy, where somebody can."""
+    if is_fixed(view):
+        return view
+    stretch = stretch_of(view)
+    return copies_of([stretch])[stretch]
+
+
+def lent_of(stretches, views):
+    """Of the stretches that lie in some memory, the parts of it."""
+    found = {}
+    for view in views:
+        start, count = stretch_of(view)
+        within = [(at, size) for at, size in stretches if size and start <= at and at + size <= start + count]
+        found.update({(at, size): view[at - start : at - start + size] for at, size in within})
+    return found
+
+
 def _united(stretches):
     """The memory of some stretches as pairs of a start and an end, from the lowest up, none meeting the next."""
     whole = []

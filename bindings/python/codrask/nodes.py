@@ -5,7 +5,7 @@ from typing import NamedTuple, Tuple
 
 from .library import Bytes
 from .library import Node as Given
-from .memory import EMPTY, address_of, copies_of, is_fixed, stretch_of
+from .memory import EMPTY, address_of, copies_of, is_fixed, lent_of, stretch_of
 
 BOOL, UTF8_VIEW, BINARY_VIEW, DICTIONARY, FIXED_SIZE_LIST, LIST_VIEW, STRUCT = 0, 9, 10, 11, 12, 13, 14
 NUMBERS = {"u8": 1, "u16": 2, "u32": 3, "u64": 4, "i8": 5, "i16": 6, "i32": 7, "i64": 8}
@@ -128,8 +128,10 @@ def _stretch(address, count):
     return (address, count) if count else (0, 0)
 
 
-def copied(table):
-    """The nodes of a table that the library wrote, in memory of their own."""
+def copied(table, lent=()):
+    """The nodes of a table that the library wrote, in memory of their own, but for what lies in memory that is lent."""
     nodes = [_told(table.nodes[i]) for i in range(table.count)]
-    copies = copies_of([stretch for node in nodes for stretch in node.memory])
-    return tuple(node.over(copies.__getitem__) for node in nodes)
+    stretches = {stretch for node in nodes for stretch in node.memory}
+    shared = lent_of(stretches, lent)
+    whole = {**copies_of(stretches - shared.keys()), **shared}
+    return tuple(node.over(whole.__getitem__) for node in nodes)

@@ -50,15 +50,15 @@ def _read(schema, array, asked, lengths, table):
     return None
 
 
-def nodes_at(schema, array, asked, lengths=None):
-    """The nodes of the Arrow array at two addresses, over copies of what they have, the name of the column, and the formats of the
-    nodes. Raises `Refused` where it is read as no table, or as one of too many bytes."""
+def nodes_at(schema, array, asked, lengths=None, lent=()):
+    """The nodes of the Arrow array at two addresses, over copies of what they have but in memory that is lent, the name of the column,
+    and the formats of the nodes. Raises `Refused` where it is read as no table, or as one of too many bytes."""
     table = Table()
     refused = _read(schema, array, asked, lengths, table)
     if refused:
         raise refused
     try:
-        return of.copied(table), load().codrask_table_name(ctypes.byref(table)), formats_of(table)
+        return of.copied(table, lent), load().codrask_table_name(ctypes.byref(table)), formats_of(table)
     finally:
         load().codrask_table_free(ctypes.byref(table))
 
