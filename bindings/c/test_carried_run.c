@@ -310,6 +310,36 @@ static void two_formats(const char *one, const char *other, const char *name) {
     free_columns(&all);
 }
 
+/* A dictionary of three rows over values of a format. */
+static void add_codes(struct columns *all, const char *format, const void *values) {
+    static const uint8_t codes[] = {2, 0, 1};
+    const void *coded[] = {NULL, codes}, *buffers[] = {NULL, values};
+    struct ArrowSchema of_values = schema(format, 0, NULL, 0), s = schema("C", 0, NULL, 0);
+    struct ArrowArray inner = array(3, 0, buffers, 2, NULL, 0), a = array(3, 0, coded, 2, NULL, 0);
+    s.dictionary = &of_values, a.dictionary = &inner;
+    add(all, &s, &a);
+}
+
+/* Dictionaries whose values have one format are joined with each other and with a column of it, and with nothing of another format. */
+static void two_formats_of_values(const char *one, const char *other) {
+    static const uint64_t values[] = {0, 1, 2};
+    static const size_t each[][2] = {{0, 0}, {0, 2}, {0, 1}, {0, 3}, {3, 0}};
+    struct columns all = {.count = 0};
+    struct codrask_step concat = step(CODRASK_CONCAT, 0);
+    add_codes(&all, one, values), add_codes(&all, other, values);
+    add_numbers(&all, one, 3, values), add_numbers(&all, other, 3, values);
+    for (size_t i = 0; i < COUNT(each); i++) {
+        concat.arrays = each[i], concat.array_count = 2;
+        if (i > 1) {
+            refuse("values of two formats", &all, concat, "DifferingDtypes");
+            continue;
+        }
+        tell("values of one format", !write_step(&all, concat) && written.length == 6 && !strcmp(written_schema.format, one));
+        give_back();
+    }
+    free_columns(&all);
+}
+
 static void refused(void) {
     static const uint64_t values[] = {0, 1, 2};
     static const char *const each[] = {"e", "f", "g", "tdD", "tss:UTC", "tin", "w:1", "w:4", "d:9,2,32"};
@@ -318,6 +348,9 @@ static void refused(void) {
                                            {"w:4", "f"}, {"tdD", "i"}};
     for (size_t i = 0; i < COUNT(pairs); i++)
         two_formats(pairs[i][0], pairs[i][1], "DifferingDtypes");
+    two_formats_of_values("g", "l");
+    two_formats_of_values("tsn:UTC", "tsn:");
+    two_formats_of_values("f", "w:4");
     for (size_t i = 0; i < COUNT(each); i++) {
         struct columns all = {.count = 0};
         struct codrask_step narrow = step(CODRASK_NARROW, 1), take = step(CODRASK_TAKE, 0), filter = step(CODRASK_FILTER, 0),
