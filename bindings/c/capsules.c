@@ -1,5 +1,5 @@
-/* The ends of Python's capsules that have an ArrowSchema or an ArrowArray. A capsule may end while an exception is on its way, and then no
- * Python code may run: so its end is here. The library is linked with no Python: who makes capsules tells it PyCapsule_GetPointer.
+/* The ends of Python's capsules that have an ArrowSchema, an ArrowArray or an ArrowArrayStream. A capsule may end while an exception is on
+ * its way, and then no Python code may run: so its end is here. The library is linked with no Python: who makes capsules tells it PyCapsule_GetPointer.
  * These calls are for the Python package alone. */
 #include "inside.h"
 
@@ -12,6 +12,7 @@ void *codrask_new_capsule(size_t size);
 void codrask_take(void *own, void *given, size_t size, size_t release);
 void codrask_end_schema(void *capsule);
 void codrask_end_array(void *capsule);
+void codrask_end_stream(void *capsule);
 
 static pointer_of *pointer_of_capsule;
 
@@ -46,4 +47,12 @@ void codrask_end_array(void *capsule) {
     if (array && array->release)
         array->release(array);
     free(array);
+}
+
+/* The same of a stream. */
+void codrask_end_stream(void *capsule) {
+    struct ArrowArrayStream *stream = pointer_of_capsule(capsule, "arrow_array_stream");
+    if (stream && stream->release)
+        stream->release(stream);
+    free(stream);
 }

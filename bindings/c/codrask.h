@@ -547,6 +547,12 @@ void codrask_stream_free(struct codrask_stream *stream);
 uint32_t codrask_write_stream(const struct codrask_column *columns, size_t count, uint32_t flags, const char *name,
                               const struct codrask_limits *limits, struct ArrowArrayStream *stream, struct codrask_run_fault *fault);
 
+/* Makes such a stream of arrays that codrask_write_arrow_as, or a call like it, wrote before, each with its schema: so columns that have
+ * passed, or have formats, go out as they are. Answers 0 where all of them, schemas too, are the stream's from then on; their release is
+ * null. Else CODRASK_EMPTY_INPUT, CODRASK_DIFFERING_SCHEMAS as above, or CODRASK_MEMORY, which has no place; all stays the caller's then. */
+uint32_t codrask_stream_written(struct ArrowSchema *schemas, struct ArrowArray *arrays, size_t count, struct ArrowArrayStream *stream,
+                                struct codrask_run_fault *fault);
+
 #ifdef __cplusplus
 }
 #endif

@@ -304,6 +304,51 @@ static uint32_t write_batches(struct batches *batches, const struct codrask_colu
     return 0;
 }
 
+/* The first array that has another schema than the first one. */
+static uint32_t compare_all(struct ArrowSchema *schemas, size_t count, struct codrask_run_fault *fault) {
+    for (size_t i = 1; i < count; i++) {
+        size_t node = 0;
+        uint32_t error = compare_schemas(&schemas[0], &schemas[i], &node);
+        if (error) {
+            bool differs = error != CODRASK_MEMORY;
+            *fault = (struct codrask_run_fault){error, differs ? CODRASK_IN_TABLE : CODRASK_NO_PART, differs ? i : 0, node, 0};
+            return error;
+        }
+    }
+    return 0;
+}
+
+/* Takes arrays over, and the first schema; the other schemas are given back. */
+static void take_over(struct batches *batches, struct ArrowSchema *schemas, struct ArrowArray *arrays, size_t count) {
+    batches->schema = schemas[0];
+    batches->count = count;
+    schemas[0].release = NULL;
+    for (size_t i = 0; i < count; i++) {
+        if (i)
+            schemas[i].release(&schemas[i]);
+        batches->arrays[i] = arrays[i];
+        arrays[i].release = NULL;
+    }
+}
+
+static struct ArrowArrayStream stream_of(struct batches *batches) {
+    return (struct ArrowArrayStream){get_schema, get_next, get_last_error, release_stream, batches};
+}
+
+uint32_t codrask_stream_written(struct ArrowSchema *schemas, struct ArrowArray *arrays, size_t count, struct ArrowArrayStream *stream,
+                                struct codrask_run_fault *fault) {
+    *stream = (struct ArrowArrayStream){.release = NULL};
+    *fault = (struct codrask_run_fault){.number = count ? 0 : CODRASK_EMPTY_INPUT};
+    if (!count || compare_all(schemas, count, fault))
+        return fault->number;
+    struct batches *batches = new_batches(count);
+    if (!batches)
+        return fault->number = CODRASK_MEMORY;
+    take_over(batches, schemas, arrays, count);
+    *stream = stream_of(batches);
+    return 0;
+}
+
 uint32_t codrask_write_stream(const struct codrask_column *columns, size_t count, uint32_t flags, const char *name,
                               const struct codrask_limits *limits, struct ArrowArrayStream *stream, struct codrask_run_fault *fault) {
     *stream = (struct ArrowArrayStream){.release = NULL};
@@ -317,6 +362,6 @@ uint32_t codrask_write_stream(const struct codrask_column *columns, size_t count
     if (error)
         free_batches(batches);
     else
-        *stream = (struct ArrowArrayStream){get_schema, get_next, get_last_error, release_stream, batches};
+        *stream = stream_of(batches);
     return error;
 }

@@ -113,7 +113,31 @@ static uint32_t stream_out(struct codrask_fault *fault) {
     return number;
 }
 
-/* The same, read a batch at a time. */
+/* Writes a column twice, where it has passed, and then a stream of both arrays, of which all is taken. */
+static uint32_t stream_written(struct codrask_fault *fault) {
+    struct ArrowSchema schemas[2] = {{.release = NULL}};
+    struct ArrowArray arrays[2] = {{.release = NULL}};
+    struct ArrowArrayStream stream = {.release = NULL};
+    struct codrask_run_fault told;
+    uint32_t number = codrask_check(made.nodes, made.count, fault);
+    for (int i = 0; i < 2 && !number; i++)
+        number = codrask_write_passed(made.nodes, made.count, NULL, 0, NULL, NULL, &schemas[i], &arrays[i], fault);
+    if (!number && (number = codrask_stream_written(schemas, arrays, 2, &stream, &told)))
+        *fault = (struct codrask_fault){told.number, told.node, told.place};
+    if (!number)
+        number = take_all(&stream);
+    for (int i = 0; i < 2; i++) {
+        if (schemas[i].release)
+            schemas[i].release(&schemas[i]);
+        if (arrays[i].release)
+            arrays[i].release(&arrays[i]);
+    }
+    if (stream.release)
+        stream.release(&stream);
+    return number;
+}
+
+/* Writes a column twice as a stream, which is read a batch at a time. */
 static uint32_t stream_back_in(struct codrask_fault *fault) {
     struct codrask_column column = {made.nodes, made.count}, twice[] = {column, column};
     struct codrask_run_fault told;
@@ -285,6 +309,7 @@ int main(void) {
         gives_back(by_views, seed) ? passed++ : failed++;
         gives_back(passed_before, seed) ? passed++ : failed++;
         gives_back(stream_out, seed) ? passed++ : failed++;
+        gives_back(stream_written, seed) ? passed++ : failed++;
         gives_back(stream_back_in, seed) ? passed++ : failed++;
         gives_back(run, seed) ? passed++ : failed++;
         let_go(&made);

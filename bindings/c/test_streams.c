@@ -449,6 +449,57 @@ static void released_early(void) {
     tell("a stream that is released at once", good);
 }
 
+/* ---- arrays that were written before ---- */
+
+enum { WRITTEN = 3 };
+
+static struct ArrowSchema schemas[WRITTEN];
+static struct ArrowArray arrays[WRITTEN];
+
+/* Writes columns of two rows, the last one under a name of its own. */
+static void write_each(const char *last) {
+    for (int i = 0; i < WRITTEN; i++) {
+        struct records records;
+        struct codrask_fault fault;
+        struct codrask_column column = fill(&records, 10 * i, 2);
+        const char *name = i == WRITTEN - 1 ? last : "column";
+        if (codrask_write_passed(column.nodes, column.count, NULL, 0, name, NULL, &schemas[i], &arrays[i], &fault))
+            abort();
+    }
+}
+
+/* Whether all structs were taken over, or none; those that were not are given back. */
+static bool are_taken(bool taken) {
+    bool good = true;
+    for (int i = 0; i < WRITTEN; i++) {
+        good = good && !schemas[i].release == taken && !arrays[i].release == taken;
+        if (schemas[i].release)
+            schemas[i].release(&schemas[i]);
+        if (arrays[i].release)
+            arrays[i].release(&arrays[i]);
+    }
+    return good;
+}
+
+static void written_before(void) {
+    struct ArrowSchema s;
+    write_each("column");
+    bool good = is_told(codrask_stream_written(schemas, arrays, WRITTEN, &out, &told), 0, 0, 0, 0) && are_taken(true);
+    good = good && hands_out(0, 2) && !out.get_schema(&out, &s) && hands_out(10, 2) && hands_out(20, 2) && hands_out_nothing();
+    out.release(&out);
+    tell("arrays that were written are handed out", good && !strcmp(s.name, "column") && s.n_children == 1);
+    s.release(&s);
+    write_each("column");
+    good = !codrask_stream_written(schemas, arrays, WRITTEN, &out, &told) && hands_out(0, 2) && are_taken(true);
+    out.release(&out);
+    tell("and those that nobody takes are given back", good);
+    write_each("another");
+    out.release = (void (*)(struct ArrowArrayStream *))abort;
+    uint32_t number = codrask_stream_written(schemas, arrays, WRITTEN, &out, &told);
+    tell("of two schemas nothing is taken", is_told(number, CODRASK_DIFFERING_SCHEMAS, 2, 0, 0) && !out.release && are_taken(false));
+    tell("no array", is_told(codrask_stream_written(schemas, arrays, 0, &out, &told), CODRASK_EMPTY_INPUT, 0, 0, 0) && !out.release);
+}
+
 /* ---- columns that are refused ---- */
 
 static void refuse(const char *what, const struct codrask_column *columns, size_t count, uint32_t flags, uint32_t number, size_t which,
@@ -715,6 +766,7 @@ int main(void) {
     random_structures();
     hand_out();
     released_early();
+    written_before();
     refused();
     differing_kinds();
     differing_names();
