@@ -137,7 +137,7 @@ def schema_in(argument, capsule):
 
 def capsule_of(part):
     """A capsule that takes a structure over."""
-    ends = {ArrowSchema: "codrask_end_schema", ArrowArray: "codrask_end_array"}
+    ends = {ArrowSchema: "codrask_end_schema", ArrowArray: "codrask_end_array", ArrowArrayStream: "codrask_end_stream"}
     later("codrask_capsules")(ctypes.cast(ctypes.pythonapi.PyCapsule_GetPointer, ctypes.c_void_p))
     block = later("codrask_new_capsule")(ctypes.sizeof(part))
     if not block:

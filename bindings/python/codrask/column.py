@@ -18,6 +18,7 @@ from .offsets import list_parts, offsets_of, views_between
 from .packing import takes_more, with_names
 from .reading import Asked, gives_arrays, nodes_at, read_given
 from .rows import rows_of
+from .streams import stream_capsule
 from .window import rows_between
 from .words import path_of, type_from, types_of
 
@@ -304,11 +305,19 @@ class Column:
         """The column in two capsules, of a schema and of an array, in blocks of their own, packed and in the formats in which
         `to_arrow` writes it. Where the requested schema has another format that holds the same values, one of `u`, `U` and `vu`, of
         `z`, `Z` and `vz`, or of `+l`, `+L`, `+vl` and `+vL`, that is what goes out; other requests are passed over."""
+        made = self._asked_for(requested_schema, self._name)
+        return capsule_of(made._schema), capsule_of(made._array)
+
+    def _asked_for(self, requested_schema, name):
+        """An `Arrow` of the packed column under a name, in its formats, or where a capsule asks for other ones, in these."""
         asked = None if requested_schema is None else schema_in("requested_schema", requested_schema)
         column = self._packed(0)
         formats = column._formats if asked is None else formats_asked(column._nodes, column._formats, asked)
-        made = column._written(formats, False, 0, self._name)
-        return capsule_of(made._schema), capsule_of(made._array)
+        return column._written(formats, False, 0, name)
+
+    def __arrow_c_stream__(self, requested_schema=None):
+        """The column in the capsule of a stream that has one array: that of `__arrow_c_array__`."""
+        return stream_capsule([self._asked_for(requested_schema, self._name)])
 
     def __arrow_c_schema__(self):
         """The schema of `__arrow_c_array__` in a capsule."""

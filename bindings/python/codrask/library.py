@@ -176,11 +176,16 @@ LATER = {
         _number,
         [_to(Nodes), _to(ctypes.c_char_p), _count, _to(Step), _count, _to(_count), _to(Columns), _to(ctypes.c_void_p)],
     ),
+    "codrask_stream_written": (
+        _number,
+        [_to(ArrowSchema), _to(ArrowArray), _count, _to(ArrowArrayStream), _to(RunFault)],
+    ),
     "codrask_capsules": (None, [ctypes.c_void_p]),
     "codrask_new_capsule": (ctypes.c_void_p, [_count]),
     "codrask_take": (None, [ctypes.c_void_p, ctypes.c_void_p, _count, _count]),
     "codrask_end_schema": (None, [ctypes.c_void_p]),
     "codrask_end_array": (None, [ctypes.c_void_p]),
+    "codrask_end_stream": (None, [ctypes.c_void_p]),
 }
 
 HOW = """'tools/foreign --build', at the top of a clone of Codrask, builds libcodrask.so and prints where it lies; the variable \
