@@ -1,5 +1,5 @@
 """What to_pylist, to_arrow and to_arrow(packed=False) cost, in seconds of a processor, the least of five runs: of columns of a million
-rows that have passed."""
+rows that have passed. No test: tools/foreign --speed runs it."""
 
 import struct
 import time
@@ -42,6 +42,7 @@ def seconds(call):
     return time.process_time() - start
 
 
+print("a million in Python, seconds: to_pylist, to_arrow, to_arrow(packed=False)")
 for made in (integers, floats, short_texts, other_texts, long_texts, lists):
     of = made().check()
     calls = (of.to_pylist, of.to_arrow, lambda of=of: of.to_arrow(packed=False))
