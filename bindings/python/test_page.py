@@ -1,5 +1,5 @@
 """Runs what docs/FROM_C.md and the package's README.md show: the Python of each as one conversation, and each program in C,
-which must print what the page says that it prints. Where pyarrow is not installed, a module of its name stands in for it, with
+which must print what the page says that it prints. And what is believed of who calls must be said at the call. Where pyarrow is not installed, a module of its name stands in for it, with
 the one call that the pages show. usage: test_page.py LIBRARY (the archive that the programs are linked with)"""
 import doctest
 import importlib.util
@@ -56,6 +56,17 @@ def printed(code, library, folder):
     return subprocess.run([program], stdout=subprocess.PIPE, text=True, timeout=60).stdout
 
 
+def believed():
+    """Whether calls that believe what they are given say so: in C in the first sentence above, in Python in the help of the call."""
+    header, trusted = page("bindings", "c", "codrask.h"), " ".join(Column.from_arrow.__doc__.split())
+    above = header[: header.index("uint32_t codrask_read_arrow(")].rsplit("/*", 1)[1]
+    first = " ".join(above.split(":")[0].split())
+    yield "believes that each buffer is as long as the array needs" in first
+    passed = header[: header.index("uint32_t codrask_write_passed(")].rsplit("/*", 1)[1]
+    yield "It is not tested again" in passed and "nobody sees that" in passed
+    yield "whom one trusts: Arrow's structures tell the length of no buffer" in trusted and "no test can see" in trusted
+
+
 def page(*place):
     with open(os.path.join(TOP, *place), encoding="utf-8") as it:
         return it.read()
@@ -64,6 +75,7 @@ def page(*place):
 def main(library):
     stand_in_for_pyarrow()
     text, pages = page("docs", "FROM_C.md"), {"README.md": page("bindings", "python", "README.md")}
+    said = list(believed())
     failed, tried = map(sum, zip(*(conversation(name, one) for name, one in {"FROM_C.md": text, **pages}.items())))
     with tempfile.TemporaryDirectory() as folder:
         for code, wanted in programs(text):
@@ -72,6 +84,9 @@ def main(library):
             if found != wanted + "\n":
                 failed += 1
                 print(f"a program of FROM_C.md prints {found!r}, and not {wanted!r}")
+    if not all(said):
+        print(f"what a call believes is not said: {said}")
+    tried, failed = tried + len(said), failed + said.count(False)
     print(f"{tried - failed} passed, {failed} failed")
     return 1 if failed or tried < 20 else 0
 
