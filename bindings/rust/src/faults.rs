@@ -6,6 +6,9 @@ use std::fmt;
 
 use crate::raw;
 
+/// The part of a run that a column is.
+pub(crate) const IN_COLUMN: u32 = 1;
+
 pub(crate) const MEMORY: u32 = 1;
 pub(crate) const OVERFLOW: u32 = 7;
 pub(crate) const UNKNOWN_FIELD: u32 = 10;
@@ -47,6 +50,14 @@ impl Refused {
             })
         });
         self
+    }
+
+    /// The same fault, of a part of a run.
+    pub(crate) fn in_part(&self, part: (u32, usize)) -> Stopped {
+        match self.number {
+            MEMORY => Stopped::new(MEMORY, (0, 0), 0, 0),
+            number => Stopped::new(number, part, self.node, self.row),
+        }
     }
 
     /// The number of the fault: 1 where memory was refused.
@@ -127,7 +138,7 @@ pub struct Stopped {
 impl Stopped {
     pub(crate) fn new(number: u32, part: (u32, usize), node: usize, row: usize) -> Stopped {
         let part = match part {
-            (1, which) => Part::Column(which),
+            (IN_COLUMN, which) => Part::Column(which),
             (2, which) => Part::Step(which),
             (3, which) => Part::Result(which),
             _ => Part::Nothing,

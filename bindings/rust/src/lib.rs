@@ -18,7 +18,8 @@
 //!
 //! Arrow arrays come in by [`from_data`], which knows the length of each buffer and is safe, or by
 //! [`from_ffi`], which believes Arrow's C structures and is not. They go out by
-//! [`Checked::into_ffi`].
+//! [`Checked::into_ffi`]. Streams of them come in by [`from_stream`], and go out by
+//! [`into_stream`].
 #![deny(unsafe_code, unsafe_op_in_unsafe_fn)]
 #![warn(missing_docs)]
 
@@ -35,6 +36,7 @@ pub use checked::{Checked, Writing};
 pub use column::{Bits, Column, IsView, Kind, Number, Validity};
 pub use data::{from_data, Data, Reading};
 pub use faults::{Part, Refused, Stopped};
+pub use raw::arrow::stream::{from_stream, into_stream, Batches, FFI_ArrowArrayStream};
 pub use raw::arrow::{from_ffi, FFI_ArrowArray, FFI_ArrowSchema, Foreign, Table};
 pub use steps::{run, Owned, Rebuild, Step};
 

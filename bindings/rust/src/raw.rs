@@ -108,7 +108,7 @@ struct Fault {
 
 #[repr(C)]
 #[derive(Default)]
-struct RunFault {
+pub(crate) struct RunFault {
     number: u32,
     part: u32,
     which: usize,
@@ -237,7 +237,7 @@ fn refused(fault: &Fault) -> Refused {
     Refused::new(fault.number, fault.node, fault.place)
 }
 
-fn stopped(fault: &RunFault) -> Stopped {
+pub(crate) fn stopped(fault: &RunFault) -> Stopped {
     let part = (fault.part, fault.which);
     Stopped::new(fault.number, part, fault.node, fault.place)
 }

@@ -1,5 +1,7 @@
 //! The structs of Arrow's C Data Interface, and the calls of the library that read and write them.
 
+pub(crate) mod stream;
+
 use std::ffi::{c_char, c_void, CStr};
 use std::marker::PhantomData;
 use std::{fmt, ptr, slice};
@@ -175,6 +177,26 @@ struct ArrowFault {
     name: *const c_char,
 }
 
+impl RawTable {
+    fn none() -> RawTable {
+        RawTable {
+            nodes: ptr::null_mut(),
+            count: 0,
+            memory: ptr::null_mut(),
+        }
+    }
+}
+
+impl ArrowFault {
+    fn none() -> ArrowFault {
+        ArrowFault {
+            fault: Fault::default(),
+            format: ptr::null(),
+            name: ptr::null(),
+        }
+    }
+}
+
 extern "C" {
     fn codrask_read_arrow_sized(
         schema: *const FFI_ArrowSchema,
@@ -212,6 +234,16 @@ pub struct Table<'a> {
 unsafe impl Send for Table<'_> {}
 // SAFETY: the same; nothing is written to while the table is there.
 unsafe impl Sync for Table<'_> {}
+
+impl<'a> Table<'a> {
+    fn of(raw: RawTable) -> Table<'a> {
+        Table {
+            raw,
+            kept: Vec::new(),
+            lent: PhantomData,
+        }
+    }
+}
 
 impl Table<'_> {
     pub(crate) fn nodes(&self) -> &[Node<'_>] {
@@ -329,9 +361,27 @@ unsafe fn read<'a>(
     lengths: Option<&[usize]>,
     how: &Reading,
 ) -> Result<Table<'a>, Refused> {
+    let (mut table, mut fault) = (Table::of(RawTable::none()), ArrowFault::none());
+    // SAFETY: as the caller says; what is read by is there during the call, and table and fault can
+    // be written to.
+    match with_reading(how, lengths, |how| unsafe {
+        codrask_read_arrow_sized(schema, array, how, &mut table.raw, &mut fault)
+    })? {
+        0 => Ok(table),
+        // SAFETY: the two texts are null pointers or good as long as the schema.
+        _ => Err(unsafe { refused_field(&fault) }),
+    }
+}
+
+/// Calls the library with what is asked of a reading, as C takes it.
+fn with_reading(
+    how: &Reading,
+    lengths: Option<&[usize]>,
+    call: impl FnOnce(&RawReading) -> u32,
+) -> Result<u32, Refused> {
     let names = how.names()?;
     let columns: Vec<_> = names.iter().flatten().map(|name| name.as_ptr()).collect();
-    let how = RawReading {
+    Ok(call(&RawReading {
         limits: Limits {
             bytes: how.most_bytes.unwrap_or(0),
         },
@@ -339,28 +389,7 @@ unsafe fn read<'a>(
         length_count: lengths.map_or(0, <[usize]>::len),
         columns: names.as_ref().map_or(ptr::null(), |_| columns.as_ptr()),
         column_count: columns.len(),
-    };
-    let mut table = Table {
-        raw: RawTable {
-            nodes: ptr::null_mut(),
-            count: 0,
-            memory: ptr::null_mut(),
-        },
-        kept: Vec::new(),
-        lent: PhantomData,
-    };
-    let mut fault = ArrowFault {
-        fault: Fault::default(),
-        format: ptr::null(),
-        name: ptr::null(),
-    };
-    // SAFETY: as the caller says; what is read by is there during the call, and table and fault can
-    // be written to.
-    match unsafe { codrask_read_arrow_sized(schema, array, &how, &mut table.raw, &mut fault) } {
-        0 => Ok(table),
-        // SAFETY: the two texts are null pointers or good as long as the schema.
-        _ => Err(unsafe { refused_field(&fault) }),
-    }
+    }))
 }
 
 /// The refusal of an array.
