@@ -104,6 +104,31 @@ def test_what_goes_out_is_tested_once():
     assert calls_of(came.to_arrow, ["codrask_write_passed"]) == {"codrask_run": 1, "codrask_write_arrow_as": 1}
 
 
+def nameless(column):
+    """The nodes of a column without the names of elements."""
+    return [node._replace(buffers=()) if node.kind == 13 else node for node in column._nodes]
+
+
+def test_what_is_packed_is_packed_once():
+    column = Column.from_arrow(of.lists([[LONG], None, ["a", LONG]], of.values)).check()
+    packed, [cut, same] = column.pack(), run([column], [Step.slice(0, 1, 3), Step.pack(1)], [1, 2])
+    for one in (packed, same):
+        assert one.pack() is one and calls_of(one.pack) == {}
+        assert calls_of(one.to_arrow) == calls_of(one.__arrow_c_array__) == {"codrask_write_passed": 1}
+        assert copied_by(one.to_arrow) == 0 and one.to_arrow().schema.format == b"+l"
+    assert Column.from_arrow(packed) == column and Column.from_arrow(same) == column.slice(1)
+    assert nameless(packed) == nameless(run([packed], [Step.pack(0)])[0])
+    [plain] = run([column], [Step.pack(0)], [0])
+    for one in (column, cut, plain, packed.slice(0), packed.take([0, 1, 2]), run([packed], [Step.pack(0), Step.slice(1, 0, 2)])[0]):
+        assert calls_of(one.to_arrow) == {"codrask_run": 1, "codrask_write_passed": 1}, one
+    try:
+        packed.to_arrow(most_bytes=1)
+    except Refused as fault:
+        assert fault.name == "TooManyBytes", fault
+    else:
+        raise AssertionError("more bytes than a limit")
+
+
 def test_written_as_before():
     """What is written without a second test is what is written with one."""
     for column in (texts(), Column.from_pylist([[1], None, [2, 3]], "list<i64>?"), Column.from_pylist([0.5, None], "f64?")):

@@ -32,7 +32,7 @@ class Column:
     """A column as a table of nodes: each array stands before its parts. Nothing of it is tested until `check`, but how many
     nodes it has, and that each argument is one."""
 
-    __slots__ = ("_nodes", "_passed", "_name", "_formats", "__weakref__")
+    __slots__ = ("_nodes", "_passed", "_is_packed", "_name", "_formats", "__weakref__")
 
     def __init__(self, *_arguments, **_fields):
         raise TypeError("a Column is made by one of its calls, as Column.numbers or Column.from_arrow")
@@ -44,9 +44,9 @@ class Column:
         raise TypeError("a Column is neither pickled nor copied deeply")
 
     @classmethod
-    def _made(cls, nodes, name=b"", formats=None, passed=False):
+    def _made(cls, nodes, name=b"", formats=None, passed=False, is_packed=False):
         column = object.__new__(cls)
-        column._nodes, column._passed, column._name = nodes, passed, name
+        column._nodes, column._passed, column._is_packed, column._name = nodes, passed, is_packed, name
         column._formats = bytes(len(nodes)) if formats is None else formats
         return column
 
@@ -384,7 +384,10 @@ class Column:
 
     def pack(self):
         """The rows in packed form, which is made of the type and the rows alone: with equal rows of one type it is the same, byte
-        for byte. What was cut away before is no part of it; dictionaries become plain, and lists lie one after another."""
+        for byte. What was cut away before is no part of it; dictionaries become plain, and lists lie one after another. What was
+        packed before is this column itself."""
+        if self._is_packed:
+            return self
         made = _ran([self], [_step().pack(0)], self._name)
         made._nodes = with_names(made._nodes, self._nodes)
         return made

@@ -13,6 +13,7 @@ from .library import Step as Given
 __all__ = ["MODES", "Step", "Stopped", "run"]
 
 IN_COLUMN, IN_STEP = 1, 2
+PACK = 12
 UNKNOWN_KIND = 32
 MODES = ("MakeZeroCopyToList", "TrimElements", "MakeExact", "OverlapCompression")
 _nothing = (ctypes.c_uint64 * 2)()
@@ -95,7 +96,7 @@ class Step:
     @classmethod
     def pack(cls, array):
         """The rows in packed form: nothing is in it but them."""
-        return cls._of(12, array=integer("array", array))
+        return cls._of(PACK, array=integer("array", array))
 
     @classmethod
     def field(cls, array, name):
@@ -156,7 +157,8 @@ def run(columns, steps, wanted=None):
         raise run_refusal(fault, *told)
     try:
         formats = formats_after(tables, [column._formats for column in columns], given, places, made) if made.count else []
-        results = [Column._made(of.copied(made.columns[i]), b"", formats[i], True) for i in range(made.count)]
+        packed = [place >= len(columns) and steps[place - len(columns)]._kind == PACK for place in wanted]
+        results = [Column._made(of.copied(made.columns[i]), b"", formats[i], True, packed[i]) for i in range(made.count)]
     finally:
         load().codrask_columns_free(ctypes.byref(made))
     for column, nodes in zip(columns, private):
