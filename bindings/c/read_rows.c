@@ -329,7 +329,7 @@ static const struct {
     {UINT32_MAX, 0},
 };
 
-/* The view of a value of whichever size, after whose first byte the heap goes on for twelve; a long one lies in the first heap. */
+/* The view of a value of whichever size, from whose first byte on the heap has twelve bytes; a long one lies in the first heap. */
 static inline void put_any(struct codrask_view *view, const uint8_t *value, uint32_t size, uint32_t place) {
     uint64_t first;
     uint32_t last, kind = size < 13 ? size : 13;
@@ -340,8 +340,8 @@ static inline void put_any(struct codrask_view *view, const uint8_t *value, uint
     put_fields(view, size, (uint32_t)first, (uint32_t)(first >> 32), kind == 13 ? place : last);
 }
 
-/* The same of values that lie one after another in the first heap: how many, up to the first one that does not, or that begins with the
- * heap's last twelve bytes. No branch depends on the size of a value. */
+/* The same of values that lie one after another in the first heap: how many, up to the first one that does not, or from whose first byte on
+ * the heap has fewer than twelve. No branch depends on the size of a value. */
 static inline size_t put_ordered(struct cut *cut, const struct task *task, size_t width, struct codrask_view *views, size_t length) {
     int64_t base = task->base, start = base, end = task->end - base > INT32_MAX ? base + INT32_MAX : task->end, most = base;
     size_t row = 0;
