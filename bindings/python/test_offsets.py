@@ -70,6 +70,7 @@ def test_lists():
     whole = Column.lists(lists, array("i", [0, 2, 3])).check()
     assert whole.to_pylist() == [[["b"], []], [["", LONG]]] and whole.filter([False, True]).pack().to_pylist() == [[["", LONG]]]
     assert whole.to_arrow(by_offsets=True, packed=False).schema.format == b"+l" and Column.from_arrow(whole) == whole
+    assert [column.to_arrow().schema.format for column in (whole, texts)] == [b"+vL", b"vu"]
 
 
 def test_faults_of_texts():
