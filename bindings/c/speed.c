@@ -1,5 +1,5 @@
 /* What foreign columns cost, a million rows of each layout: their check, beside a loop that trusts them and beside one copy of their
- * bytes; and their way from Arrow through a filter to Arrow, with all memory that was taken for it. Milliseconds of the processor,
+ * bytes; and their way from Arrow through a filter and a pack to Arrow, with all memory that was taken for it. Milliseconds of the processor,
  * the least of five runs by turns. Linked with --wrap of malloc, calloc and realloc. No test: tools/foreign --speed runs it. */
 #include "codrask.h"
 
@@ -235,21 +235,23 @@ static void copy_half(const struct column *c) {
     copy_rows(c, ROWS / 2);
 }
 
-/* The rows of a table at every other place. */
+/* The rows of a table at every other place, packed. */
 static void keep_half(const struct codrask_table *table, struct codrask_columns *kept) {
-    static const size_t none[2], wanted = 2;
+    static const size_t none[2], wanted = 3;
     static uint8_t bits[ROWS / 8];
     const void *nothing = none;
     struct codrask_node mask = {
         .length = ROWS, .bytes = memset(bits, 0x55, sizeof bits), .byte_count = sizeof bits, .views = nothing, .buffers = nothing};
-    struct codrask_step filter = {.kind = CODRASK_FILTER, .other = 1, .arrays = none, .names = nothing, .name = nothing};
+    struct codrask_step steps[] = {
+        {.kind = CODRASK_FILTER, .other = 1, .arrays = none, .names = nothing, .name = nothing},
+        {.kind = CODRASK_PACK, .array = 2, .arrays = none, .names = nothing, .name = nothing}};
     struct codrask_column both[] = {{table->nodes, table->count}, {&mask, 1}};
     struct codrask_run_fault fault;
-    if (codrask_run(both, 2, &filter, 1, &wanted, 1, kept, &fault))
+    if (codrask_run(both, 2, steps, 2, &wanted, 1, kept, &fault))
         abort();
 }
 
-/* From Arrow, filtered, and out to Arrow. */
+/* From Arrow, filtered and packed, and out to Arrow. */
 static void there_and_back(const struct column *c) {
     struct codrask_table table;
     struct codrask_columns kept = CODRASK_NO_COLUMNS;
@@ -260,7 +262,8 @@ static void there_and_back(const struct column *c) {
         abort();
     keep_half(&table, &kept);
     codrask_table_free(&table);
-    if (codrask_to_arrow(kept.columns[0].nodes, kept.columns[0].count, CODRASK_BY_VIEWS, &schema, &array, &fault))
+    const struct codrask_column *column = &kept.columns[0];
+    if (codrask_write_passed(column->nodes, column->count, NULL, CODRASK_BY_VIEWS, NULL, NULL, &schema, &array, &fault))
         abort();
     codrask_columns_free(&kept);
     array.release(&array);
