@@ -1,6 +1,6 @@
 /* What foreign columns cost, a million rows of each layout: their check, beside a loop that trusts them and beside one copy of their
- * bytes; and their way from Arrow through a filter and a pack to Arrow, with all memory that was taken for it. Milliseconds of the processor,
- * the least of five runs by turns. Linked with --wrap of malloc, calloc and realloc. No test: tools/foreign --speed runs it. */
+ * bytes; and their way from Arrow through a filter and a pack to Arrow, with all memory that was taken for it. Milliseconds of the
+ * processor, the least of five runs by turns. Linked with --wrap of malloc, calloc and realloc. No test: tools/foreign --speed runs it. */
 #include "codrask.h"
 
 #include <stdio.h>
