@@ -84,11 +84,7 @@ impl Leaf {
 
 impl Gathered {
     // No rows, and room for so many.
-    pub fn with_capacity(
-        alloc: Global,
-        dtype: &DType,
-        len: usize,
-    ) -> Result<Gathered, VortexError>
+    pub fn with_capacity(alloc: Global, dtype: &DType, len: usize) -> Result<Gathered, VortexError>
         requires { is_leaf (dtype_meaning dtype.now) ≡ true }
         ensures { Gives result (AreGathered (dtype_meaning dtype.now) []) }
     {

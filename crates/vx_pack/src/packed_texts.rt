@@ -70,7 +70,9 @@ fn filled_with(
         ArePushed (filling [] [] []) (map bytes_or_empty (pieces_rows (dtype_meaning dtype.now) pieces.now)) (filled f)) }
 {
     let mut texts = Filling::with_capacity(alloc, len, 0)?;
-    texts.last.reserve(heap_len(dtype, pieces).min(MAX_BUFFER_LEN))?;
+    texts
+        .last
+        .reserve(heap_len(dtype, pieces).min(MAX_BUFFER_LEN))?;
     for piece in pieces {
         push_texts(alloc, &mut texts, dtype, *piece)?;
     }

@@ -15,6 +15,6 @@ returns-clause-ok c =
     let few : least_count (kind_of c.in_ok-array.array.now) ≤ MAX_NODES = search rules in
     let short : node_count c.in_ok-plain.plain ≤ MAX_NODES = search rules in
     let made = made_plain c.in_ok-array.array.now c.in_ok-plain.plain c.in_ok-plain.ensures.canonical c.in_ok-plain.ensures.within
-        c.in_ok-plain.ensures.shared c.known.ensures in
+    c.in_ok-plain.ensures.shared c.known.ensures in
     table_made c.args.results.now c.args.position c.in_ok-array.array.now c.in_ok-plain.plain nodes c.in_ok-of.field-0.nodes.items is few
     c.in_ok-plain.ensures.refuses made (subst none c.new-nodes.ensures.items c.in_ok-write.ensures.written) short c.in_ok-of.ensures
