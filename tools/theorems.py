@@ -11,13 +11,13 @@ CALL = re.compile(r'- `(vx_\w+)`, `([\w:]+)`((?:, `\w+`)*)')
 
 HEAD = """# The theorems
 
-`tools/api` writes this page: the words from docs/api/WORDS.md, and all else from the sources as they stand. A theorem is what clauses
-of public calls promise; the gate proves each of them, for all arguments. What a clause says depends on definitions, and on nothing
-else: those that a reader has to agree with are named under it, down to the words of `std`. Where `std` stands alone as a file, that is
-`Rattle.std.specs` of the kit, with `Prelude` at its ground; types that stand in code are named with their file of code.
+A theorem is what clauses of public calls promise; the gate (`rt ci`) proves each of them, for all arguments. Under its clauses stand the
+definitions on which they rest, and they alone: those that a reader has to agree with, down to the words of `std`. Where `std` stands alone
+as a file, that is `Rattle.std.specs` of the kit, with `Prelude` at its ground; types that stand in code are named with their file of code.
 
 In clauses an array of any type stands for its `Tree`, which [LAYOUTS](LAYOUTS.md) draws. [USING](USING.md#how-to-read-a-contract) explains
-the signs, and [PROVED](PROVED.md) has every fact."""
+the signs, and [PROVED](PROVED.md) has every fact. `tools/api` writes this page: the words from docs/api/WORDS.md, and all else from the
+sources as they stand."""
 
 
 class Theorem(NamedTuple):
@@ -104,7 +104,14 @@ def section(number, theorem, library):
     return '\n\n'.join([f'## {number}. {theorem.title}', theorem.words, *shown, count, '\n'.join(grounds(under))])
 
 
+def linked(number, title):
+    """A theorem's line in the list at the head, with a link to its section."""
+    anchor = re.sub(r'[^\w -]', '', f'{number}. {title}'.lower()).replace(' ', '-')
+    return f'{number}. [{title}](#{anchor})'
+
+
 def page(text, library):
     """The page of the theorems that a part of WORDS.md has."""
-    found = [section(i, it, library) for i, it in enumerate(theorems(text), 1)]
-    return '\n\n'.join([HEAD, *found]) + '\n'
+    found = list(enumerate(theorems(text), 1))
+    listed = '\n'.join(linked(number, it.title) for number, it in found)
+    return '\n\n'.join([HEAD, listed, *(section(number, it, library) for number, it in found)]) + '\n'
