@@ -31,3 +31,4 @@ pub mod Concatenated
 pub mod PlainTests
 pub mod ConcatenatedTwice
 pub mod Leaves
+pub mod FewValues

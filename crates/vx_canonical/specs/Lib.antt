@@ -7,3 +7,4 @@ pub mod Joinable
 pub mod Counted
 pub mod PlainTests
 pub mod Composed
+pub mod LeafKinds

@@ -3,6 +3,7 @@
 
 ghost use Rattle.std.specs.Prelude.{◌≡◌, true, false, length, None, IfOk};
 ghost use Rattle.std.specs.List.{All};
+ghost use Rattle.vx_base.specs.DTypes.{dtype_meaning};
 ghost use Rattle.vx_base.specs.Refusals.{Gives, Refuses};
 ghost use Rattle.vx_tree.specs.Tree.{dictionary};
 ghost use Rattle.vx_tree.specs.Layouts.{is_dictionary, is_fixed_list, is_list_view, is_struct};
@@ -14,13 +15,14 @@ ghost use Rattle.vx_tree.specs.Columns.{AllHave};
 ghost use Rattle.vx_tree.specs.Operations.{AreBelow, IsNulled};
 ghost use Rattle.vx_canonical.specs.Canonical.{IsCanonical, IsCanonicalAt, IsCanonicalValid, AreCanonical, AreCanonicalAt};
 ghost use Rattle.vx_canonical.specs.Canonical.{IsCanonicalWithin, AreCanonicalWithin, IsPickedWithin, ArePickedWithin, HasPartsOf};
+ghost use Rattle.vx_canonical.specs.LeafKinds.{is_leaf_kind};
 ghost use Rattle.vx_tree.specs.CanonicalFaults.{canonical_fault, columns_fault, plain_overflow};
 
 use crate::canonical_zeroes::{is_countable, plain_nulls};
 use crate::layouts::constant::{canonical_constant, canonical_constant_at};
 use crate::layouts::leaf::{canonical_leaf, canonical_leaf_at};
 use std::alloc::Global;
-use vx_base::{Selection, VortexError};
+use vx_base::{DType, Selection, VortexError};
 use vx_tree::{ArrayRef, Layout, Validity, told_by};
 
 // The same rows in the plain layout of the data type, in the parts too.
@@ -108,7 +110,9 @@ fn canonical_dictionary_at(
     Ok(named)
 }
 
-// The values that codes name, in plain layout: those that no code names are not made.
+// The values that codes name, in plain layout. Values with no rows in them that are no more than the
+// codes are all made plain first, so that of dictionaries within dictionaries each is read by its own
+// codes alone. Of others, those that no code names are not made.
 #[cycle(canonical)]
 fn canonical_named(
     alloc: Global,
@@ -129,8 +133,23 @@ fn canonical_named(
     }
     let nulls = canonical_validity(alloc, &codes.validity(alloc)?, codes.len())?;
     let positions = codes.code_positions(alloc, values.len())?;
+    if values.len() <= codes.len() && is_leaf_type(values.dtype()) {
+        let plain = canonical(alloc, values)?;
+        let few = canonical_leaf_at(alloc, &plain, &positions.selection())?;
+        return Ok(nulled_parts(alloc, &few, &nulls)?);
+    }
     let picked = canonical_at(alloc, values, &positions.selection())?;
     Ok(nulled_parts(alloc, &picked, &nulls)?)
+}
+
+// Whether rows of a data type have no rows in them.
+fn is_leaf_type(dtype: &DType) -> bool
+    ensures { result ≡ is_leaf_kind (dtype_meaning dtype.now) }
+{
+    match dtype {
+        DType::Bool(_) | DType::Primitive(_, _) | DType::Utf8(_) | DType::Binary(_) => true,
+        DType::List(_, _) | DType::FixedSizeList(_, _, _) | DType::Struct(_, _) => false,
+    }
 }
 
 // A row of null for each code, in plain layout like these values, of which there are none. Asks

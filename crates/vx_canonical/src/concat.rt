@@ -25,7 +25,7 @@ use crate::join::{all_formed, join_like};
 use crate::pieces::checked_sum;
 use std::alloc::Global;
 use vx_base::{DType, VortexError};
-use vx_tree::ArrayRef;
+use vx_tree::{ArrayRef, Layout};
 
 /// What can be joined, one after another.
 pub trait Concatenate: Sized {
@@ -67,7 +67,9 @@ impl Concatenate for ArrayRef {
         }
         let len = row_count(arrays)?;
         if let DType::Primitive(ptype, nullability) = first.dtype() {
-            return Ok(concat_numbers(alloc, *ptype, *nullability, arrays, len)?);
+            if !have_listed_codes(arrays) {
+                return Ok(concat_numbers(alloc, *ptype, *nullability, arrays, len)?);
+            }
         }
         if !have_countable_rows(arrays) {
             return Err(VortexError::Overflow);
@@ -89,6 +91,19 @@ fn are_alike(dtype: &DType, arrays: &[ArrayRef]) -> bool
         }
     }
     true
+}
+
+// Whether an array is a dictionary whose codes are one too. Their positions are listed, so that array
+// is made plain first: else they would be listed for its validity and once more for its numbers.
+fn have_listed_codes(arrays: &[ArrayRef]) -> bool {
+    for array in arrays {
+        if let Layout::Dict { codes, .. } = array.layout() {
+            if let Layout::Dict { .. } = codes.layout() {
+                return true;
+            }
+        }
+    }
+    false
 }
 
 // How many rows the arrays have.

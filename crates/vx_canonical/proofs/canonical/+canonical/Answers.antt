@@ -1,4 +1,4 @@
-use Rattle.std.proofs.Common.{ℕ, ◌≡◌, ◌<◌, List, length, false, None, ap, sym, subst, refl, rules, ◌∙◌, inr, arith}
+use Rattle.std.proofs.Common.{ℕ, ◌≡◌, ◌<◌, List, length, true, false, None, ap, sym, subst, refl, rules, ◌∙◌, inr, arith}
 use denote.Param.Weighed.{at_most}
 use Rattle.vx_tree.specs.declared.array.ArrayRef.TheDeep.{size-ArrayRef}
 use Rattle.std.proofs.lemmas.Result.{err_from_is_err_and}
@@ -17,6 +17,8 @@ use Rattle.vx_tree.proofs.Dictionaries.{not_empty}
 use Rattle.vx_tree.proofs.Columns.{AllZip-next, AllZip-all, AllHave-at, AllHave-from_len, columns_below}
 use Rattle.vx_canonical.proofs.CanonicalArrays.{fixed_lists_canonical, lists_canonical, AreCanonical-from_each, columns_fault-next, columns_fault-all, columns_refused}
 use Rattle.vx_canonical.proofs.CanonicalWithin.{fixed_lists_within, lists_within, records_within, dictionary_within, fixed_lists_picked, lists_picked, records_picked, dictionary_picked, same_parts_picked, AreCanonicalWithin-from_each, ArePickedWithin-from_each}
+use Rattle.vx_canonical.specs.LeafKinds.{is_leaf_kind}
+use Rattle.vx_canonical.proofs.FewValues.{plain_leaf, plain_leaf_picked, plain_picked}
 use Rattle.vx_canonical.proofs.CanonicalDictionaries.{dictionary_canonical, dictionary_unflagged, named_at}
 use Rattle.vx_canonical.proofs.CanonicalAt.{AreCanonicalAt-from_each, dictionary_at, elements_at, fixed_lists_at, lists_at}
 use Rattle.vx_canonical.proofs.CanonicalFaults.{dictionary_uncounted, dictionary_fault-counted}
@@ -186,7 +188,7 @@ canonical_named-canonical_at-requires t c =
     let are : AreIndices codes (tree_len v) ps = rw c.len-3.ensures at c.in_ok-positions.ensures in
     let some : 0 < tree_len v = not_empty c.is_empty.result (tree_len v) c.is_empty.ensures c.if-is_empty.false in
     let all : plain_overflow (kind_of v) (tree_len codes) ≡ None = sym (λ i. plain_overflow (c.dtype.ensures i) (c.len.ensures i)) ∙ (rw c.if-not-is_countable.false at c.is_countable.ensures) in
-    (search rules, rw c.selection.ensures (positions_below codes (tree_len v) ps are some, ap (plain_overflow (kind_of v)) are.len ∙ all))
+    (search rules, rw c.selection-2.ensures (positions_below codes (tree_len v) ps are some, ap (plain_overflow (kind_of v)) are.len ∙ all))
 
 pub canonical_named-returns-clause-ok : goal.canonical_named-returns-clause-ok
 canonical_named-returns-clause-ok t c =
@@ -194,13 +196,36 @@ canonical_named-returns-clause-ok t c =
     let codes = c.args.codes.now in
     let ps = c.in_ok-positions.positions in
     let are : AreIndices codes (tree_len v) ps = rw c.len-3.ensures at c.in_ok-positions.ensures in
-    let made : IsCanonicalAt v ps c.in_ok-picked.picked = rw c.selection.ensures at c.in_ok-picked.ensures.ok in
+    let made : IsCanonicalAt v ps c.in_ok-picked.picked = rw c.selection-2.ensures at c.in_ok-picked.ensures.ok in
     let valid : IsCanonicalValid (valid_of c.in_ok-validity.field-0) (tree_len codes) (valid_of c.in_ok-nulls.nulls) = rw c.len-2.ensures at c.in_ok-nulls.ensures in
-    named_at codes v c.in_ok-picked.picked c.in_ok-nulled_parts.field-0 ps (valid_of c.in_ok-validity.field-0) (valid_of c.in_ok-nulls.nulls) c.in_ok-validity.ensures valid are made c.in_ok-nulled_parts.ensures.rows
+    named_at codes v c.in_ok-picked.picked c.in_ok-nulled_parts-2.field-0 ps (valid_of c.in_ok-validity.field-0) (valid_of c.in_ok-nulls.nulls) c.in_ok-validity.ensures valid are made c.in_ok-nulled_parts-2.ensures.rows
 
 pub canonical_named-returns-clause-within : goal.canonical_named-returns-clause-within
 canonical_named-returns-clause-within t c = λ some.
-    same_parts_picked c.args.values.now c.in_ok-picked.picked c.in_ok-nulled_parts.field-0 c.in_ok-picked.ensures.within c.in_ok-nulled_parts.ensures.parts
+    same_parts_picked c.args.values.now c.in_ok-picked.picked c.in_ok-nulled_parts-2.field-0 c.in_ok-picked.ensures.within c.in_ok-nulled_parts-2.ensures.parts
+
+-- values that are made plain first
+pub canonical_named-returns-then-is_leaf_type-clause-ok : goal.canonical_named-returns-then-is_leaf_type-clause-ok
+canonical_named-returns-then-is_leaf_type-clause-ok t c =
+    let v = c.args.values.now in
+    let codes = c.args.codes.now in
+    let ps = c.in_ok-positions.positions in
+    let are : AreIndices codes (tree_len v) ps = rw c.len-3.ensures at c.in_ok-positions.ensures in
+    let some : 0 < tree_len v = not_empty c.is_empty.result (tree_len v) c.is_empty.ensures c.if-is_empty.false in
+    let few : IsCanonicalAt c.in_ok-plain.plain ps c.in_ok-few.few = rw c.selection.ensures at c.in_ok-few.ensures.rows in
+    let made = plain_picked v c.in_ok-plain.plain c.in_ok-few.few ps (positions_below codes (tree_len v) ps are some) c.in_ok-plain.ensures.ok few in
+    let valid : IsCanonicalValid (valid_of c.in_ok-validity.field-0) (tree_len codes) (valid_of c.in_ok-nulls.nulls) = rw c.len-2.ensures at c.in_ok-nulls.ensures in
+    named_at codes v c.in_ok-few.few c.in_ok-nulled_parts.field-0 ps (valid_of c.in_ok-validity.field-0) (valid_of c.in_ok-nulls.nulls) c.in_ok-validity.ensures valid are made c.in_ok-nulled_parts.ensures.rows
+
+pub canonical_named-returns-then-is_leaf_type-clause-within : goal.canonical_named-returns-then-is_leaf_type-clause-within
+canonical_named-returns-then-is_leaf_type-clause-within t c = λ some.
+    let v = c.args.values.now in
+    let plain = c.in_ok-plain.plain in
+    let kind : is_leaf_kind (kind_of plain) ≡ true =
+    ap is_leaf_kind (c.in_ok-plain.ensures.ok.same.kind ∙ sym c.dtype-then-len.ensures) ∙ sym c.is_leaf_type.ensures ∙ c.if-is_leaf_type.true in
+    same_parts_picked v c.in_ok-few.few c.in_ok-nulled_parts.field-0
+    (plain_leaf_picked v plain c.in_ok-few.few (plain_leaf plain c.in_ok-plain.ensures.ok.plain kind) c.in_ok-plain.ensures.ok c.in_ok-plain.ensures.within c.in_ok-few.ensures.within)
+    c.in_ok-nulled_parts.ensures.parts
 
 -- ---- lists
 

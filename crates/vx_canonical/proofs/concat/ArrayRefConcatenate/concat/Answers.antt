@@ -89,33 +89,33 @@ concat_numbers-requires-clause-kind c =
     let kind : kind_of t ≡ integers c.in-Primitive.ptype (is_nullable c.in-Primitive.nullability) = sym c.dtype-2.ensures ∙ ap dtype_meaning c.in-Primitive.is in
     subst (λ k. All (λ u. kind_of u ≡ k) ts) kind (alike_kinds (kind_of t) ts alike)
 
-pub returns-in-Primitive-clause-rows : goal.returns-in-Primitive-clause-rows
-returns-in-Primitive-clause-rows c =
+pub returns-then-not-have_listed_codes-clause-rows : goal.returns-then-not-have_listed_codes-clause-rows
+returns-then-not-have_listed_codes-clause-rows c =
     rows_joined (integers c.in-Primitive.ptype (is_nullable c.in-Primitive.nullability)) c.args.arrays.now c.in_ok-concat_numbers.field-0 c.in_ok-concat_numbers.ensures.joined
 
-pub returns-in-Primitive-clause-kind : goal.returns-in-Primitive-clause-kind
-returns-in-Primitive-clause-kind c =
+pub returns-then-not-have_listed_codes-clause-kind : goal.returns-then-not-have_listed_codes-clause-kind
+returns-then-not-have_listed_codes-clause-kind c =
     let ts = c.args.arrays.now in
     let t = c.in-Some.first.now in
     let alike : are_alike (kind_of t) ts ≡ true = sym (ap (λ k. are_alike k ts) c.dtype.ensures) ∙ sym c.are_alike.ensures ∙ c.if-not-are_alike.false in
     let kind : kind_of t ≡ integers c.in-Primitive.ptype (is_nullable c.in-Primitive.nullability) = sym c.dtype-2.ensures ∙ ap dtype_meaning c.in-Primitive.is in
     λ i d l. alike_kinds (kind_of t) ts alike i d l ∙ kind ∙ sym c.in_ok-concat_numbers.ensures.joined.kind
 
-pub returns-in-Primitive-clause-plain : goal.returns-in-Primitive-clause-plain
-returns-in-Primitive-clause-plain c = c.in_ok-concat_numbers.ensures.joined.plain
+pub returns-then-not-have_listed_codes-clause-plain : goal.returns-then-not-have_listed_codes-clause-plain
+returns-then-not-have_listed_codes-clause-plain c = c.in_ok-concat_numbers.ensures.joined.plain
 
-pub returns-in-Primitive-clause-state : goal.returns-in-Primitive-clause-state
-returns-in-Primitive-clause-state c = c.in_ok-concat_numbers.ensures.joined.state c.in-Some.ensures.item.3.0
+pub returns-then-not-have_listed_codes-clause-state : goal.returns-then-not-have_listed_codes-clause-state
+returns-then-not-have_listed_codes-clause-state c = c.in_ok-concat_numbers.ensures.joined.state c.in-Some.ensures.item.3.0
 
-pub returns-in-Primitive-clause-extent : goal.returns-in-Primitive-clause-extent
-returns-in-Primitive-clause-extent c =
+pub returns-then-not-have_listed_codes-clause-extent : goal.returns-then-not-have_listed_codes-clause-extent
+returns-then-not-have_listed_codes-clause-extent c =
     c.in_ok-concat_numbers.ensures.joined.extent ∙ ap (λ k. joined_extent k (map extent_of c.args.arrays.now)) (sym c.in_ok-concat_numbers.ensures.joined.kind)
 
-pub returns-in-Primitive-clause-flag : goal.returns-in-Primitive-clause-flag
-returns-in-Primitive-clause-flag c = c.in_ok-concat_numbers.ensures.joined.flag
+pub returns-then-not-have_listed_codes-clause-flag : goal.returns-then-not-have_listed_codes-clause-flag
+returns-then-not-have_listed_codes-clause-flag c = c.in_ok-concat_numbers.ensures.joined.flag
 
-pub returns-in-Primitive-clause-refuses : goal.returns-in-Primitive-clause-refuses
-returns-in-Primitive-clause-refuses c =
+pub returns-then-not-have_listed_codes-clause-refuses : goal.returns-then-not-have_listed_codes-clause-refuses
+returns-then-not-have_listed_codes-clause-refuses c =
     let ts = c.args.arrays.now in
     let t = c.in-Some.first.now in
     let item = c.in-Some.ensures.item in
@@ -157,5 +157,5 @@ pub returns-clause-numbers : goal.returns-clause-numbers
 returns-clause-numbers c =
     ok_numbers c.join_like.result c.args.arrays.now c.in_ok-plain.plain.items c.in_ok-plain.ensures.ok c.in_ok-plain.ensures.within (rw c.deref-2.ensures.value at c.join_like.ensures.numbers)
 
-pub returns-in-Primitive-clause-numbers : goal.returns-in-Primitive-clause-numbers
-returns-in-Primitive-clause-numbers c = primitive_numbers c.args.arrays.now c.in_ok-concat_numbers.field-0 c.in_ok-concat_numbers.ensures.layout
+pub returns-then-not-have_listed_codes-clause-numbers : goal.returns-then-not-have_listed_codes-clause-numbers
+returns-then-not-have_listed_codes-clause-numbers c = primitive_numbers c.args.arrays.now c.in_ok-concat_numbers.field-0 c.in_ok-concat_numbers.ensures.layout
