@@ -1,6 +1,7 @@
 -- Codes that are read one after another, and what is known where none of them is faulty.
 use Rattle.std.proofs.Common.{ℕ, zero, suc, ◌+◌, ◌-◌, ◌<◌, ◌≤◌, ◌≡◌, Bool, true, false, List, Option, Some, None, inl, inr, refl, sym, ◌∙◌, ap, subst, arith}
 use Rattle.std.specs.Prelude.{pos, negsuc, ◌==◌, nat_lt, if◌then◌else◌, IsSome, Result, Ok, Err}
+use Rattle.std.specs.Result.{is_ok}
 use Rattle.std.specs.Int.{bit_at}
 use Rattle.std.proofs.lemmas.Bool.{cases_lt, cases_Bool, ltb-true}
 use Rattle.std.proofs.lemmas.Bool.Decides.{Decides-eqb}
@@ -10,18 +11,23 @@ use Rattle.vx_base.specs.Bits.{bool_at}
 use Rattle.vx_base.specs.Integers.{numbers, number_nth}
 use Rattle.vx_base.specs.Kinds.{Kind, booleans, integers, texts, binaries, lists, fixed_lists, records, is_integers, Fits}
 use Rattle.vx_base.specs.Refusals.{Refusal, out_of_bounds, Refuses, Tests, Names, first_fault}
-use Rattle.vx_base.specs.Rows.{Row, null, boolean, whole, bytes, text, items, record_of}
+use Rattle.vx_base.specs.Rows.{Row, null, boolean, whole, bytes, text, items, record_of, position_in}
 use Rattle.vx_base.proofs.FirstFaults.{first_fault-of_none, first_fault-found, first_fault-none_at}
 use Rattle.vx_tree.specs.Faults.{index_fault, indices_fault}
 use Rattle.vx_tree.specs.Formed.{IsCode, IsDictionary}
-use Rattle.vx_tree.specs.Meaning.{tree_len, kind_of, row_at}
+use Rattle.vx_tree.specs.Meaning.{tree_len, kind_of, picked, row_at}
 use Rattle.vx_tree.specs.Operations.{masked_numbers}
-use Rattle.vx_tree.specs.Tree.{Tree, constant}
+use Rattle.vx_tree.specs.Tree.{Tree, constant, dictionary}
 
 -- a call that tests refuses, also a fault that is the same
 pub Refuses-tests : {A : Type 0} (r : Result A VortexError) (fault other : Option Refusal) → other ≡ fault → Tests r fault → Refuses r other
 Refuses-tests (Ok x) fault other same none = same ∙ none
 Refuses-tests (Err e) fault other same names = inr (same ∙ names.1)
+
+-- where a call is Ok there is no fault
+pub ok_has_no_fault : {A : Type 0} (r : Result A VortexError) (fault : Option Refusal) → is_ok r ≡ true → Refuses r fault → fault ≡ None
+ok_has_no_fault (Ok x) fault ok h = h
+ok_has_no_fault (Err e) fault ok h = absurd (cc)
 
 -- a fault after rows without one is the first
 pub Names-met : (fault : ℕ → Option Refusal) (n row : ℕ) (e : VortexError) → first_fault fault row ≡ None → Names (fault row) e → row < n → Names (first_fault fault n) e
@@ -83,6 +89,25 @@ fault_of_some len (suc n) m r fewer some =
 -- of a constant the first rows tell, where there are any
 pub constant_fault : (t : Tree) (k : Kind) (r : Row) (n m len : ℕ) → t ≡ constant k r n → m ≤ n → (0 < n → 0 < m) → indices_fault len t ≡ first_fault (λ i. index_fault len i (row_at t i)) m
 constant_fault t k r n m len e fewer some = rw e (fault_of_some len n m r fewer some)
+
+-- ---- rows of a dictionary
+
+named_without_fault : (len n i : ℕ) (f : ℕ → Row) (r : Row) → ((j : ℕ) → j < n → index_fault len j (f j) ≡ None) → IsCode n r → index_fault len i (picked f (position_in r)) ≡ None
+named_without_fault len n i f null none code = refl
+named_without_fault len n i f (whole (pos k)) none code = faultless_anywhere len k i (f k) (none k code)
+named_without_fault len n i f (whole (negsuc k)) none code = absurd code
+named_without_fault len n i f (boolean b) none code = absurd code
+named_without_fault len n i f (bytes bs) none code = absurd code
+named_without_fault len n i f (text bs) none code = absurd code
+named_without_fault len n i f (items rs) none code = absurd code
+named_without_fault len n i f (record_of fs) none code = absurd code
+
+-- where no value has a fault, no row has one
+pub dictionary_without_fault : (t c v : Tree) (b : Bool) (len : ℕ) → t ≡ dictionary c v b → IsDictionary c v b → indices_fault len v ≡ None → indices_fault len t ≡ None
+dictionary_without_fault t c v b len same formed none = rw same (
+    first_fault-of_none (λ i. index_fault len i (row_at (dictionary c v b) i)) (tree_len c) (λ i inside.
+    named_without_fault len (tree_len v) i (row_at v) (row_at c i) (λ j below. first_fault-none_at (λ k. index_fault len k (row_at v k)) (tree_len v) j none below)
+    (formed.within i inside)))
 
 -- ---- rows without a fault
 

@@ -1,10 +1,14 @@
 -- Values that codes name, marked one after another.
-use Rattle.std.proofs.Common.{ℕ, ◌+◌, ◌-◌, ◌<◌, ◌≤◌, ◌≡◌, Bool, true, false, not, List, [], ◌∷◌, length, replicate, Some, None, inl, inr, refl, sym, ◌∙◌, ap, subst, suc, arith}
+use Rattle.std.proofs.Common.{ℕ, ◌+◌, ◌-◌, ◌<◌, ◌≤◌, ◌≡◌, Bool, true, false, not, List, [], ◌∷◌, length, map, get_or, eqb, replicate, Some, None, inl, inr, refl, sym, ◌∙◌, ap, subst, suc, zero-add, arith}
 use Rattle.std.specs.Prelude.{ℤ, pos, negsuc, ◌↔◌, ◌⊎◌, ◌≢◌, ◌==◌, IsTrue, count_by, slice_index, slice_set, unsigned_abs, unwrap_or, if◌then◌else◌}
 use Rattle.std.specs.Int.{bit_at}
+use Rattle.std.specs.List.{range_with_len}
 use Rattle.std.proofs.lemmas.Bool.{false≢true, cases_lt, cases_Bool, cases_eq}
 use Rattle.std.proofs.lemmas.Bool.Decides.{Decides-eqb}
 use Rattle.std.proofs.lemmas.Grind.{get_or-set_at}
+use Rattle.std.proofs.lemmas.List.Folds.{list_any_at}
+use Rattle.std.proofs.lemmas.List.FromFn.{get_or-map-range_with_len, length-map-range_with_len}
+use Rattle.std.proofs.lemmas.Map.Steps.{le-length_from_below}
 use Rattle.std.proofs.lemmas.List.{get_or-map, get_or-replicate, get_or-set_other, length-replicate, length-set}
 use Rattle.vx_base.specs.Bits.{bool_at}
 use Rattle.vx_base.specs.Integers.{numbers, number_nth}
@@ -242,6 +246,39 @@ pub all_referenced_is : (t : Tree) (bits : List Bool) (count len : ℕ) → Mark
 all_referenced_is t bits count len marks count_is len_is = (
   (λ same. all_referenced t bits marks (sym count_is ∙ (Decides-eqb count len).0 same ∙ len_is)),
   (λ all. (Decides-eqb count len).1 (count_is ∙ all_marked t bits marks all ∙ sym len_is)),
+)
+
+-- fewer codes do not reference all values
+abbrev code_or_zero : Row → ℕ
+code_or_zero (whole (pos n)) = n
+code_or_zero _ = 0
+
+code_is_named : (r : Row) (j : ℕ) → position_in r ≡ Some j → code_or_zero r ≡ j
+code_is_named (whole (pos n)) j h = cc
+code_is_named (whole (negsuc n)) j h = absurd (cc)
+code_is_named null j h = absurd (cc)
+code_is_named (boolean b) j h = absurd (cc)
+code_is_named (bytes bs) j h = absurd (cc)
+code_is_named (text bs) j h = absurd (cc)
+code_is_named (items rs) j h = absurd (cc)
+code_is_named (record_of fs) j h = absurd (cc)
+
+references_few : (c v : Tree) → ReferencesAll c v → tree_len v ≤ tree_len c
+references_few c v all =
+    let f : ℕ → ℕ = λ i. code_or_zero (row_at c i) in
+    let codes = map f (range_with_len 0 (tree_len c)) in
+    let count : length codes ≡ tree_len c = length-map-range_with_len f 0 (tree_len c) in
+    let few : tree_len v ≤ length codes = le-length_from_below codes (tree_len v) (λ j inside.
+    let found = all j inside in
+    let here : get_or codes found.0 0 ≡ f found.0 = get_or-map-range_with_len f 0 (tree_len c) found.0 found.0 0 found.1 (zero-add found.0) in
+    let same : j ≡ get_or codes found.0 0 = sym (here ∙ code_is_named (row_at c found.0) j found.2) in
+    list_any_at (eqb j) codes found.0 0 (omega (arith, count, found.1)) ((Decides-eqb j (get_or codes found.0 0)).1 same)) in
+    omega (arith, few, count)
+
+pub few_codes_reference_few : (c v : Tree) (n m : ℕ) → n ≡ tree_len c → m ≡ tree_len v → n < m → IsTrue false ↔ ReferencesAll c v
+few_codes_reference_few c v n m n_is m_is fewer = (
+  (λ no. absurd (cc)),
+  (λ all. let few : tree_len v ≤ tree_len c = references_few c v all in absurd (omega (arith, n_is, m_is, fewer, few))),
 )
 
 -- ---- flags

@@ -17,7 +17,8 @@ use vx_base::{NativePType, PType, VortexError, call_native, int_at};
 use vx_tree::{ArrayRef, Layout};
 
 // Refuses the first valid code that is no position below `len`. Numbers are tested a word of rows
-// at a time up to the first word with a fault. Of a constant one row is read.
+// at a time up to the first word with a fault. Of a constant one row is read, and of a dictionary
+// none where no value has a fault.
 pub(crate) fn check_codes(alloc: Global, codes: &ArrayRef, len: usize) -> Result<(), VortexError>
     requires { is_integers (kind_of codes.now) ≡ true }
     ensures { Refuses result (indices_fault len codes.now) }
@@ -33,6 +34,12 @@ pub(crate) fn check_codes(alloc: Global, codes: &ArrayRef, len: usize) -> Result
             check_rows(codes, faultless..codes.len(), len)
         }
         Layout::Constant { .. } => check_rows(codes, 0..codes.len().min(1), len),
+        Layout::Dict { values, .. } => {
+            if check_codes(alloc, values, len).is_ok() {
+                return Ok(());
+            }
+            check_rows(codes, 0..codes.len(), len)
+        }
         _ => check_rows(codes, 0..codes.len(), len),
     }
 }

@@ -112,10 +112,14 @@ impl DictArray {
     }
 
     /// Whether every value is referenced by some valid code. It reads the codes, also where the
-    /// flag is set. Fails only for want of memory.
+    /// flag is set, but where there are fewer of them than values. Fails only for want of memory.
     pub fn are_all_values_referenced(&self, alloc: Global) -> Result<bool, VortexError>
         ensures { Gives result (λ b. IsTrue b ↔ ReferencesAll (codes_in self.now) (values_in self.now)) }
     {
+        let parts = self.parts();
+        if parts.codes.len() < parts.values.len() {
+            return Ok(false);
+        }
         let referenced = self.compute_referenced_values_mask(alloc, true)?;
         Ok(referenced.true_count() == referenced.len())
     }
