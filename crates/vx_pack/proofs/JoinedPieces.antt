@@ -1,5 +1,5 @@
--- The rows of lists of one size, piece by piece.
-use Rattle.std.proofs.Common.{◌≡◌, ◌∙◌, ◌+◌, ◌*◌, ◌<◌, ◌≤◌, ℕ, Bool, true, List, [], ◌∷◌, ◌++◌, length, map, take, get_or, refl, sym, ap, subst}
+-- The rows of lists, piece by piece.
+use Rattle.std.proofs.Common.{◌≡◌, ◌∙◌, ◌+◌, ◌*◌, ◌^◌, ◌<◌, ◌≤◌, ℕ, Bool, true, List, [], ◌∷◌, ◌++◌, length, map, take, get_or, refl, sym, ap, subst}
 use Rattle.std.proofs.Common.{arith, zero-add}
 use Rattle.std.specs.List.{flat_map, range_with_len}
 use Rattle.std.specs.Prelude.{if◌then◌else◌}
@@ -20,9 +20,10 @@ use Rattle.vx_pack.proofs.PieceRows.{length-pieces_rows, pieces_rows-append, pie
 use Rattle.vx_pack.specs.declared.parts.Part.{Part}
 use Rattle.vx_pack.specs.declared.pieces.Piece.{Piece}
 use Rattle.vx_pack.specs.declared.pieces.Piece.TheVariants as piece
+use Rattle.vx_pack.specs.Lists.{IsItemOf}
 use Rattle.vx_pack.specs.Packed.{items_or_blank}
 use Rattle.vx_pack.specs.Parts.{IsPart, IsPartOf, part_len, part_row}
-use Rattle.vx_pack.specs.Pieces.{AreAllItems, AreElements, AreJoined, AreListPieces, ArePieces, IsPiece, piece_rows, pieces_rows}
+use Rattle.vx_pack.specs.Pieces.{AreAllItems, AreElements, AreJoined, AreListPieces, ArePieces, IsPiece, blank_of, piece_rows, pieces_rows}
 
 -- ---- one after another
 
@@ -66,11 +67,20 @@ elements_of_joined k item size n ps qs len kind pieces h = record {
   rows = h.rows;
 }
 
+-- so many rows
+pub ArePieces-joined : (item : Kind) (rs : List Row) (ps : List Piece) (total : ℕ) → AreJoined item rs ps → total ≡ length rs → total < 2 ^ 64
+    → ArePieces item ps total
+ArePieces-joined item rs ps total h counted small = record {
+  each = h.each;
+  count = sym (length-pieces_rows item ps) ∙ ap length h.rows ∙ sym counted;
+  fits = small;
+}
+
 -- ---- the elements of a part
 
-pub joined_of_part : (item : Kind) (size : ℕ) (n : Bool) (p q : Part) → AreAllItems item size (fixed_lists item size n) p q
-    → AreJoined item (flat_map (items_or_blank item size) (piece_rows (fixed_lists item size n) (piece.Rows p))) (piece.Rows q ∷ [])
-joined_of_part item size n p q h = record {
+pub joined_of_part : (item k : Kind) (blank : ℕ) (p q : Part) → AreAllItems item blank k p q
+    → AreJoined item (flat_map (items_or_blank item blank) (piece_rows k (piece.Rows p))) (piece.Rows q ∷ [])
+joined_of_part item k blank p q h = record {
   each = All-cons (IsPiece item) (piece.Rows q) [] h.part (All-nil (IsPiece item));
   rows = pieces_rows-one item (piece.Rows q) ∙ h.rows;
 }
@@ -117,3 +127,16 @@ all_items_of a e s v m start n item size b p q same full kind len rows h =
           ∙ sym (flat_map_same (λ i. f (part_row k p i)) (λ i. map (row_at e) (list_positions s i)) 0 start n one)
           ∙ sym (ap (λ x. flat_map f (map (part_row k p) (range_with_len 0 x))) len ∙ flat_map-map f (part_row k p) (range_with_len 0 n));
     }
+
+-- the same by the kind that the array has
+pub all_items_of_kind : (a e : Tree) (s : ℕ) (v : Valid) (m start n : ℕ) (item k : Kind) (blank : ℕ) (p q : Part) → a ≡ fixed_list e s v m
+    → ((i : ℕ) → is_valid_at v i ≡ true) → kind_of a ≡ k → IsItemOf item k → blank_of k ≡ blank → part_len p ≡ n
+    → ((x : Kind) (i : ℕ) → part_row x p i ≡ row_at a (start + i)) → IsPartOf e (start * s) (n * s) q
+    → AreAllItems item blank k p q
+all_items_of_kind a e s v m start n item k blank p q same full kind of_item blanks len rows h =
+    let kinds : k ≡ fixed_lists (kind_of e) s (nullable v) = sym kind ∙ ap kind_of same in
+    let of_e : kind_of e ≡ item = subst (IsItemOf item) kinds of_item in
+    let sized : s ≡ blank = sym (ap blank_of kinds) ∙ blanks in
+    let is : k ≡ fixed_lists item blank (nullable v) = kinds ∙ (λ i. fixed_lists (of_e i) (sized i) (nullable v)) in
+    subst (λ x. AreAllItems item blank x p q) (sym is)
+    (all_items_of a e s v m start n item blank (nullable v) p q same full (kind ∙ is) len (rows (fixed_lists item blank (nullable v))) h)

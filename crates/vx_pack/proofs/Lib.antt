@@ -41,6 +41,8 @@ pub mod StoredCounts
 pub mod ReadCounts
 pub mod NarrowCounts
 pub mod StoredLists
+pub mod JoinedRuns
+pub mod SameJoined
 pub mod ListItems
 pub mod ListCounts
 pub mod GatheredRows

@@ -112,16 +112,6 @@ ArePushedLists-more item k blank i p list before now after h one e =
       e ∙ ap (λ ps. ps ++ list ∷ []) h.2 ∙ append_assoc before h.0 (list ∷ []),
     )
 
--- those of one more piece
-pub AreListPieces-more : (item k : Kind) (blank i : ℕ) (ps : List Piece) (p : Piece) (before after : List Piece) → i < length ps
-    → p ≡ get_or ps i p
-    → AreListPieces item blank (pieces_rows k (take i ps)) before → ArePushedLists item blank (piece_rows k p) before after
-    → AreListPieces item blank (pieces_rows k (take (i + 1) ps)) after
-AreListPieces-more item k blank i ps p before after l at first more =
-    subst (λ rs. AreListPieces item blank rs after) (sym (pieces_rows_more k ps i p l at))
-    (subst (AreListPieces item blank (pieces_rows k (take i ps) ++ piece_rows k p)) (sym more.2)
-    (AreListPieces-append item blank (pieces_rows k (take i ps)) (piece_rows k p) before more.0 first more.1))
-
 -- ---- their rows
 
 lists_are : (item : Kind) (ps : List Piece) → pieces_rows item ps ≡ flat_map (λ rs. rs) (map (piece_rows item) ps)
@@ -131,15 +121,6 @@ pub rows_of_lists : (item : Kind) (blank : ℕ) (rs : List Row) (ps : List Piece
     → pieces_rows item ps ≡ flat_map (items_or_blank item blank) rs
 rows_of_lists item blank rs ps h =
     lists_are item ps ∙ ap (flat_map (λ ss. ss)) h.lists ∙ flat_map-map (λ (ss : List Row). ss) (items_or_blank item blank) rs
-
--- they are the pieces of the elements
-pub ArePieces-lists : (item : Kind) (rs : List Row) (ps : List Piece) (total : ℕ) → AreListPieces item 0 rs ps
-    → total ≡ length (flat_map (items_or_blank item 0) rs) → total < 2 ^ 64 → ArePieces item ps total
-ArePieces-lists item rs ps total h counted small = record {
-  each = h.each;
-  count = sym (length-pieces_rows item ps) ∙ ap length (rows_of_lists item 0 rs ps h) ∙ sym counted;
-  fits = small;
-}
 
 pub ArePieces-elements : (item : Kind) (n : ℕ) (rs : List Row) (ps : List Piece) → AreElements item n rs ps → n < 2 ^ 64
     → ArePieces item ps n
@@ -163,17 +144,6 @@ elements_counted k item size n ps len kind pieces =
     length-flat_map-same (items_or_blank item size) size (pieces_rows k ps)
     (λ i d l. (fixed_lists_items_blank item size n (get_or (pieces_rows k ps) i d) (blank i d l)).len)
     ∙ ap (λ m. m * size) (length-pieces_rows k ps ∙ pieces.count)
-
-pub AreElements-fixed_lists : (k item : Kind) (size : ℕ) (n : Bool) (ps qs : List Piece) (len : ℕ) → k ≡ fixed_lists item size n
-    → ArePieces k ps len → AreListPieces item size (pieces_rows k ps) qs
-    → AreElements item (len * size) (flat_map (items_or_blank item size) (pieces_rows k ps)) qs
-AreElements-fixed_lists k item size n ps qs len kind pieces h = record {
-  each = h.each;
-  count =
-      sym (length-pieces_rows item qs) ∙ ap length (rows_of_lists item size (pieces_rows k ps) qs h)
-      ∙ elements_counted k item size n ps len kind pieces;
-  rows = rows_of_lists item size (pieces_rows k ps) qs h;
-}
 
 -- lists of size 0 have none
 pub AreElements-none : (k item : Kind) (size : ℕ) (n : Bool) (ps qs : List Piece) (len : ℕ) → size ≡ 0 → qs ≡ []

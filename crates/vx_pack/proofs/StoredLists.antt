@@ -31,7 +31,8 @@ use Rattle.vx_pack.proofs.StoredCounts.{stored_count_is}
 use Rattle.vx_pack.proofs.StoredNumbers.{flat_map_range, number_bytes_at}
 use Rattle.vx_pack.specs.CountBytes.{counts_of}
 use Rattle.vx_pack.specs.Gathered.{AreThere}
-use Rattle.vx_pack.specs.Lists.{IsItemOf}
+use Rattle.vx_pack.proofs.PieceRows.{All-range_with_len}
+use Rattle.vx_pack.specs.Lists.{IsItemOf, is_list}
 use Rattle.vx_pack.specs.Numbers.{AreNumberBytes}
 use Rattle.vx_pack.specs.Packed.{bytes_of_numbers, items_or_blank, list_sizes, number_or_zero}
 use Rattle.vx_pack.specs.Parts.{HasKind, HasType, IsPartOf, part_len, part_row}
@@ -60,15 +61,54 @@ stored_counts_of t a bs part v start n same counts within cut =
 
 -- ---- the lists of an array
 
+list_row : (a e o z : Tree) (v : Valid) (f : Bool) (i : ℕ) (r : Row) → a ≡ list_view e o z v f → is_valid_at v i ≡ true
+    → r ≡ row_at a i
+    → r ≡ items (rows_range (row_at e) (count_in (row_at o i)) (count_in (row_at z i)))
+list_row a e o z v f i r same valid is =
+    let start = count_in (row_at o i) in
+    let n = count_in (row_at z i) in
+    is ∙ ap (λ (t : Tree). row_at t i) same ∙ ap (λ c. if c then items (rows_range (row_at e) start n) else null) valid
+
 list_here : (a e o z : Tree) (v : Valid) (f : Bool) (i : ℕ) (item : Kind) (r : Row) → a ≡ list_view e o z v f → is_valid_at v i ≡ true
     → r ≡ row_at a i
     → items_or_blank item 0 r ≡ map (row_at e) (range_with_len (count_in (row_at o i)) (count_in (row_at z i)))
 list_here a e o z v f i item r same valid is =
-    let start = count_in (row_at o i) in
-    let n = count_in (row_at z i) in
-    let here : r ≡ items (rows_range (row_at e) start n) =
-    is ∙ ap (λ (t : Tree). row_at t i) same ∙ ap (λ c. if c then items (rows_range (row_at e) start n) else null) valid in
-    ap (items_or_blank item 0) here ∙ list_from-rows_range (row_at e) start n
+    ap (items_or_blank item 0) (list_row a e o z v f i r same valid is)
+    ∙ list_from-rows_range (row_at e) (count_in (row_at o i)) (count_in (row_at z i))
+
+-- offsets and sizes are counts, and each list ends among the elements
+pub list_bytes_of : (a e o z : Tree) (v : Valid) (f : Bool) (start n : ℕ) (p q : PType) (os ss : List ℕ)
+    → a ≡ list_view e o z v f
+    → IsListView e o z f → start + n ≤ tree_len a
+    → numbers p os ≡ map (λ i. pos (count_in (row_at o (start + i)))) (range_with_len 0 n)
+    → numbers q ss ≡ map (λ i. pos (count_in (row_at z (start + i)))) (range_with_len 0 n)
+    → AreListBytes p os q ss (tree_len e)
+list_bytes_of a e o z v f start n p q os ss same formed within offsets sizes =
+    let all = range_with_len 0 n in
+    let begin : ℕ → ℕ = λ i. count_in (row_at o (start + i)) in
+    let size : ℕ → ℕ = λ i. count_in (row_at z (start + i)) in
+    let inner : start + n ≤ tree_len o = rw same at within in
+    let offsets_held : numbers p os ≡ map pos (map begin all) = offsets ∙ sym (map-map pos begin all) in
+    let sizes_held : numbers q ss ≡ map pos (map size all) = sizes ∙ sym (map-map pos size all) in
+    let starts_are : counts_of p os ≡ map begin all = counts_of-held p os (map begin all) offsets_held in
+    let sizes_are : counts_of q ss ≡ map size all = counts_of-held q ss (map size all) sizes_held in
+    let start_at : (i : ℕ) → i < n → get_or (counts_of p os) i 0 ≡ begin i =
+    λ i l. ap (λ xs. get_or xs i 0) starts_are ∙ get_or-map-range_with_len begin 0 n i i 0 l (zero-add i) in
+    let size_at : (i : ℕ) → i < n → get_or (counts_of q ss) i 0 ≡ size i =
+    λ i l. ap (λ xs. get_or xs i 0) sizes_are ∙ get_or-map-range_with_len size 0 n i i 0 l (zero-add i) in
+    let count : length (counts_of q ss) ≡ n = ap length sizes_are ∙ length-map-range_with_len size 0 n in
+    let size_count : length (numbers q ss) ≡ n = sym (length-counts_of q ss) ∙ count in
+    let offset_count : length (numbers p os) ≡ n =
+    sym (length-counts_of p os) ∙ ap length starts_are ∙ length-map-range_with_len begin 0 n in
+    record {
+      offsets = held_are_counts p os (map begin all) offsets_held;
+      sizes = held_are_counts q ss (map size all) sizes_held;
+      same_len = size_count ∙ sym offset_count;
+      within = λ i l.
+          let inside : i < n = omega (arith, size_count, l) in
+          let place : start + i < tree_len o = omega (arith, inside, inner) in
+          omega (arith, start_at i inside, size_at i inside, formed.within (start + i) place);
+    }
 
 pub stored_lists_of : (a e o z : Tree) (v : Valid) (f : Bool) (start n : ℕ) (item : Kind) (row : ℕ → Row) (s : StoredLists)
     → a ≡ list_view e o z v f
@@ -82,7 +122,6 @@ stored_lists_of a e o z v f start n item row s same formed valid within of_item 
     let begin : ℕ → ℕ = λ i. count_in (row_at o (start + i)) in
     let size : ℕ → ℕ = λ i. count_in (row_at z (start + i)) in
     let kind : kind_of e ≡ item = rw same at of_item in
-    let inner : start + n ≤ tree_len o = rw same at within in
     let offsets_held : numbers s.offset_type s.offsets.now ≡ map pos (map begin all) = offsets ∙ sym (map-map pos begin all) in
     let sizes_held : numbers s.size_type s.sizes.now ≡ map pos (map size all) = sizes ∙ sym (map-map pos size all) in
     let starts_are : stored_starts s ≡ map begin all = counts_of-held s.offset_type s.offsets.now (map begin all) offsets_held in
@@ -92,22 +131,14 @@ stored_lists_of a e o z v f start n item row s same formed valid within of_item 
     let size_at : (i : ℕ) → i < n → get_or (stored_sizes s) i 0 ≡ size i =
     λ i l. ap (λ xs. get_or xs i 0) sizes_are ∙ get_or-map-range_with_len size 0 n i i 0 l (zero-add i) in
     let count : length (stored_sizes s) ≡ n = ap length sizes_are ∙ length-map-range_with_len size 0 n in
-    let size_count : length (numbers s.size_type s.sizes.now) ≡ n = sym (length-counts_of s.size_type s.sizes.now) ∙ count in
-    let offset_count : length (numbers s.offset_type s.offsets.now) ≡ n =
-    sym (length-counts_of s.offset_type s.offsets.now) ∙ ap length starts_are ∙ length-map-range_with_len begin 0 n in
     let one : (i : ℕ) → items_or_blank item 0 (row i) ≡ map (row_at e) (range_with_len (begin i) (size i)) =
     λ i. list_here a e o z v f (start + i) item (row i) same (valid (start + i)) (rows i) in
     record {
       kind = ap kind_of is_e ∙ kind;
-      lists = record {
-        offsets = held_are_counts s.offset_type s.offsets.now (map begin all) offsets_held;
-        sizes = held_are_counts s.size_type s.sizes.now (map size all) sizes_held;
-        same_len = size_count ∙ sym offset_count;
-        within = λ i l.
-            let inside : i < n = omega (arith, size_count, l) in
-            let place : start + i < tree_len o = omega (arith, inside, inner) in
-            omega (arith, start_at i inside, size_at i inside, formed.within (start + i) place, ap tree_len is_e);
-      };
+      lists = subst (AreListBytes s.offset_type s.offsets.now s.size_type s.sizes.now) (sym (ap tree_len is_e))
+          (list_bytes_of a e o z v f start n s.offset_type s.size_type s.offsets.now s.sizes.now same formed within offsets sizes);
+      there = All-range_with_len (λ r. is_list r ≡ true) row n
+          (λ i l. ap is_list (list_row a e o z v f (start + i) (row i) same (valid (start + i)) (rows i)));
       sizes =
           sizes_are
           ∙ map_range_same size (λ i. length (items_or_blank item 0 (row i))) 0 0 n

@@ -6,6 +6,11 @@ use Rattle.vx_tree.specs.Meaning.{rows_range}
 use Rattle.vx_pack.specs.Parts.{IsPart, part_len, part_row}
 use Rattle.vx_pack.specs.declared.parts.Part.{Part}
 
+-- a row that is a list
+abbrev pub is_list : Row → Bool
+is_list (items rs) = true
+is_list _ = false
+
 -- a kind of lists
 abbrev pub is_lists : Kind → Bool
 is_lists (lists k n) = true

@@ -1,6 +1,6 @@
 -- Lists that stand by offsets and sizes, numbers one after another, with no null among them.
-use Rattle.std.specs.Prelude.{◌≡◌, ◌<◌, ◌≤◌, ◌+◌, ◌*◌, ℕ, List, length, map, slice_index}
-use Rattle.std.specs.List.{flat_map, range_with_len}
+use Rattle.std.specs.Prelude.{◌≡◌, ◌<◌, ◌≤◌, ◌+◌, ◌*◌, ℕ, true, List, length, map, slice_index}
+use Rattle.std.specs.List.{All, flat_map, range_with_len}
 use Rattle.vx_base.specs.Bytes.{AreBytes}
 use Rattle.vx_base.specs.Integers.{byte_width, number_nth, numbers}
 use Rattle.vx_base.specs.Kinds.{Kind, Fits}
@@ -9,7 +9,10 @@ use Rattle.vx_base.specs.declared.ptypes.PType.{PType}
 use Rattle.vx_tree.specs.Meaning.{kind_of, row_at, tree_len}
 use Rattle.vx_tree.specs.Tree.{Tree}
 use Rattle.vx_pack.specs.CountBytes.{AreCountBytes, counts_of}
+use Rattle.vx_pack.specs.Lists.{is_list}
 use Rattle.vx_pack.specs.Packed.{items_or_blank, list_sizes}
+use Rattle.vx_pack.specs.Parts.{IsPart, part_len, part_row}
+use Rattle.vx_pack.specs.declared.parts.Part.{Part}
 use Rattle.vx_pack.specs.declared.stored_lists.StoredLists.{StoredLists}
 
 -- where each list begins among the elements
@@ -39,8 +42,14 @@ pub record AreListBytes (t : PType) (os : List ℕ) (u : PType) (ss : List ℕ) 
 pub record AreStoredLists (item : Kind) (rs : List Row) (s : StoredLists) : Type 0 where
   pub kind : kind_of s.elements.now ≡ item
   pub lists : AreListBytes s.offset_type s.offsets.now s.size_type s.sizes.now (tree_len s.elements.now)
+  pub there : All (λ r. is_list r ≡ true) rs
   pub sizes : stored_sizes s ≡ list_sizes item rs
   pub rows : flat_map (items_or_blank item 0) rs ≡ map (row_at s.elements.now) (all_positions (stored_starts s) (stored_sizes s))
+
+-- the items of all lists, one list after another
+pub record AreStoredItems (s : StoredLists) (p : Part) : Type 0 where
+  pub part : IsPart (kind_of s.elements.now) p
+  pub rows : (k : Kind) → map (part_row k p) (range_with_len 0 (part_len p)) ≡ map (row_at s.elements.now) (all_positions (stored_starts s) (stored_sizes s))
 
 -- the rows of an array are numbers of a type, none of them null, and these are their bytes
 pub record AreElementBytes (t : PType) (e : Tree) (bs : List ℕ) : Type 0 where

@@ -1,11 +1,11 @@
 // The rows of lists.
 
-ghost use Rattle.std.specs.Prelude.{◌≡◌, ◌<◌, ℕ, Bool, true, IfSome};
-ghost use Rattle.vx_base.specs.Kinds.{Kind, fixed_lists};
+ghost use Rattle.std.specs.Prelude.{◌≡◌, ◌<◌, ℕ, true, IfSome};
+ghost use Rattle.vx_base.specs.Kinds.{Kind};
 ghost use Rattle.vx_tree.specs.Layouts.{is_fixed_list, is_list_view};
 ghost use Rattle.vx_tree.specs.Meaning.{kind_of, row_at, tree_len};
 ghost use Rattle.vx_pack.specs.Lists.{IsItemOf, IsListIn};
-ghost use Rattle.vx_pack.specs.Pieces.{AreAllItems};
+ghost use Rattle.vx_pack.specs.Pieces.{AreAllItems, blank_of};
 ghost use Rattle.vx_pack.specs.Parts.{IsPart, IsWithin, part_len, part_row};
 
 use crate::codes::count_at;
@@ -34,8 +34,8 @@ impl<'a> Part<'a> {
     // none is null.
     pub fn elements(self) -> Option<Part<'a>>
         requires { IsWithin self }
-        ensures { IfSome result (λ p. (item : Kind) (size : ℕ) (n : Bool) → IsPart (fixed_lists item size n) self.entry →
-            AreAllItems item size (fixed_lists item size n) self.entry p) }
+        ensures { IfSome result (λ p. (item k : Kind) (blank : ℕ) → IsItemOf item k → blank_of k ≡ blank → IsPart k self.entry →
+            AreAllItems item blank k self.entry p) }
     {
         let Part::Array(array, start, len) = self else {
             return None;

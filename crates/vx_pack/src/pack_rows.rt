@@ -1,19 +1,20 @@
 // The packed form of rows: one recursion through data types.
 
 ghost use Rattle.std.specs.Prelude.{◌≡◌, ◌<◌, Bool, IfErr, IfOk, length, map};
+ghost use Rattle.std.specs.List.{All};
 ghost use Rattle.vx_base.specs.DTypes.{dtype_meaning, field_kinds, field_names};
 ghost use Rattle.vx_base.specs.Kinds.{booleans, fixed_lists, integers, lists, records};
 ghost use Rattle.vx_pack.specs.ListItems.{list_items};
 ghost use Rattle.vx_pack.specs.Packed.{ArePacked, IsPackRefused, IsPacked, field_or_default};
 ghost use Rattle.vx_tree.specs.Meaning.{trees_from};
-ghost use Rattle.vx_pack.specs.Pieces.{ArePieces, pieces_rows};
+ghost use Rattle.vx_pack.specs.Pieces.{ArePieces, IsPiece, pieces_rows};
 ghost use Rattle.vx_pack.specs.Records.{kind_at};
 
 use crate::list_counts::{ListCounts, check_same_lists, total_of_lists};
 use crate::packed_bits::{truth_bits, validity_of};
 use crate::packed_fields::field_pieces;
 use crate::packed_items::pack_items;
-use crate::packed_lists::{fixed_list_pieces, list_pieces};
+use crate::packed_lists::{fixed_list_pieces, joined_pieces};
 use crate::packed_numbers::number_bytes;
 use crate::packed_texts::pack_texts;
 use crate::pieces::Piece;
@@ -109,7 +110,7 @@ fn pack_lists(
     check_same_lists(dtype, pieces, MAX_ELEMENTS)?;
     let counts = ListCounts::with_capacity(alloc, len)?;
     let total = total_of_lists(dtype, pieces, MAX_ELEMENTS)?;
-    let elements = pack_elements(alloc, dtype, items, pieces, len, total)?;
+    let elements = pack_elements(alloc, dtype, items, pieces, total)?;
     let (offsets, sizes) = counts.of_lists(alloc, dtype, pieces, total)?;
     let validity = validity_of(alloc, dtype, pieces, len)?;
     ArrayRef::list_view(alloc, elements, offsets, sizes, validity, true)
@@ -123,11 +124,10 @@ fn pack_elements(
     dtype: &DType,
     items: &DType,
     pieces: &[Piece],
-    len: usize,
     total: usize,
 ) -> Result<ArrayRef, VortexError>
     requires kind { (n : Bool) × (dtype_meaning dtype.now ≡ lists (dtype_meaning items.now) n) }
-    requires pieces { ArePieces (dtype_meaning dtype.now) pieces.now len }
+    requires pieces { All (IsPiece (dtype_meaning dtype.now)) pieces.now }
     requires total { let kind = dtype_meaning dtype.now in
         length (list_items kind (pieces_rows kind pieces.now)) ≡ total }
     ensures ok { let kind = dtype_meaning dtype.now in
@@ -140,7 +140,7 @@ fn pack_elements(
             pack_items(alloc, dtype, items, pieces, total)
         }
         DType::List(_, _) | DType::FixedSizeList(_, _, _) | DType::Struct(_, _) => {
-            let lists = list_pieces(alloc, dtype, pieces, 0, len)?;
+            let lists = joined_pieces(alloc, dtype, pieces, 0)?;
             pack_rows(alloc, items, &lists, total)
         }
     }

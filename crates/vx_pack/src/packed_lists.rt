@@ -14,28 +14,8 @@ use crate::pieces::Piece;
 use std::alloc::Global;
 use vx_base::{DType, VortexError};
 
-// The rows of each list, one piece a list; so many default rows where it is null.
-pub(crate) fn list_pieces<'a>(
-    alloc: Global,
-    dtype: &DType,
-    pieces: &[Piece<'a>],
-    blank: usize,
-    len: usize,
-) -> Result<Vec<Piece<'a>>, VortexError>
-    requires pieces { ArePieces (dtype_meaning dtype.now) pieces.now len }
-    requires blank { blank_of (dtype_meaning dtype.now) ≡ blank }
-    ensures { Gives result (λ lists. (item : Kind) → IsItemOf item (dtype_meaning dtype.now) →
-        AreListPieces item blank (pieces_rows (dtype_meaning dtype.now) pieces.now) lists.items) }
-{
-    let mut lists = Vec::with_capacity(alloc, len)?;
-    for piece in pieces {
-        push_lists(&mut lists, dtype, *piece, blank)?;
-    }
-    Ok(lists)
-}
-
-// The same of lists of one size, of which some may be in one piece: where they have no elements, no
-// list is looked at.
+// The rows of lists of one size, as `joined_pieces` has them: where they have no elements, no list
+// is looked at.
 pub(crate) fn fixed_list_pieces<'a>(
     alloc: Global,
     dtype: &DType,
@@ -55,49 +35,50 @@ pub(crate) fn fixed_list_pieces<'a>(
     joined_pieces(alloc, dtype, pieces, size as usize)
 }
 
-// The rows of lists of one size, piece by piece.
-fn joined_pieces<'a>(
+// The rows of lists, so many default rows where one is null: one piece for all lists of a piece
+// where they stand end to end, else one a list.
+pub(crate) fn joined_pieces<'a>(
     alloc: Global,
     dtype: &DType,
     pieces: &[Piece<'a>],
-    size: usize,
+    blank: usize,
 ) -> Result<Vec<Piece<'a>>, VortexError>
     requires pieces { All (IsPiece (dtype_meaning dtype.now)) pieces.now }
-    requires size { blank_of (dtype_meaning dtype.now) ≡ size }
-    ensures { Gives result (λ lists. (item : Kind) (n : Bool) → dtype_meaning dtype.now ≡ fixed_lists item size n →
-        AreJoined item (flat_map (items_or_blank item size) (pieces_rows (dtype_meaning dtype.now) pieces.now)) lists.items) }
+    requires blank { blank_of (dtype_meaning dtype.now) ≡ blank }
+    ensures { Gives result (λ lists. (item : Kind) → IsItemOf item (dtype_meaning dtype.now) →
+        AreJoined item (flat_map (items_or_blank item blank) (pieces_rows (dtype_meaning dtype.now) pieces.now)) lists.items) }
 {
     let mut lists = Vec::new(alloc);
     for piece in pieces {
-        push_joined(&mut lists, dtype, *piece, size)?;
+        push_joined(&mut lists, dtype, *piece, blank)?;
     }
     Ok(lists)
 }
 
-// Those of a piece, at the end of the others: as one, where they stand one after another.
+// Those of a piece, at the end of the others.
 fn push_joined<'a>(
     lists: &mut Vec<Piece<'a>>,
     dtype: &DType,
     piece: Piece<'a>,
-    size: usize,
+    blank: usize,
 ) -> Result<(), VortexError>
     requires piece { IsPiece (dtype_meaning dtype.now) piece }
-    requires size { blank_of (dtype_meaning dtype.now) ≡ size }
-    ensures { Gives result (λ _. (item : Kind) (n : Bool) → dtype_meaning dtype.now ≡ fixed_lists item size n → (more : List Pieces)
-        × AreJoined item (flat_map (items_or_blank item size) (piece_rows (dtype_meaning dtype.now) piece.entry)) more
+    requires blank { blank_of (dtype_meaning dtype.now) ≡ blank }
+    ensures { Gives result (λ _. (item : Kind) → IsItemOf item (dtype_meaning dtype.now) → (more : List Pieces)
+        × AreJoined item (flat_map (items_or_blank item blank) (piece_rows (dtype_meaning dtype.now) piece.entry)) more
         × (lists.new.items ≡ lists.old.items ++ more)) }
 {
-    match piece.elements() {
-        Some(elements) => lists.push(elements)?,
+    match piece.joined_items() {
+        Some(items) => lists.push(items)?,
         None => {
             lists.reserve(piece.len())?;
-            push_lists(lists, dtype, piece, size)?;
+            push_lists(lists, dtype, piece, blank)?;
         }
     }
     Ok(())
 }
 
-// Those of a piece, at the end of the lists.
+// Those of a piece, one a list.
 fn push_lists<'a>(
     lists: &mut Vec<Piece<'a>>,
     dtype: &DType,

@@ -4,7 +4,7 @@ ghost use Rattle.std.specs.Prelude.{◌≡◌, ◌<◌, ◌∷◌, [], ℕ, Bool
 ghost use Rattle.vx_base.specs.DTypes.{field_kinds, field_names};
 ghost use Rattle.std.specs.List.{flat_map};
 ghost use Rattle.vx_base.specs.Integers.{Holds};
-ghost use Rattle.vx_base.specs.Kinds.{Kind, fixed_lists, integers, is_nullable_kind, records};
+ghost use Rattle.vx_base.specs.Kinds.{Kind, integers, is_nullable_kind, records};
 ghost use Rattle.vx_base.specs.Refusals.{Gives};
 ghost use Rattle.vx_base.specs.Rows.{is_present, truth_of};
 ghost use Rattle.vx_tree.specs.Values.{bytes_in};
@@ -160,15 +160,14 @@ impl<'a> Piece<'a> {
         }
     }
 
-    // The elements of all rows, where these are lists of one size that stand one after another and
-    // none is null.
-    pub fn elements(self) -> Option<Piece<'a>>
+    // The items of all rows, where these are lists that stand end to end and none is null.
+    pub fn joined_items(self) -> Option<Piece<'a>>
         requires { IsWithinPiece self }
-        ensures { IfSome result (λ p. (item : Kind) (size : ℕ) (n : Bool) → IsPiece (fixed_lists item size n) self.entry →
-            AreJoined item (flat_map (items_or_blank item size) (piece_rows (fixed_lists item size n) self.entry)) (p ∷ [])) }
+        ensures { IfSome result (λ p. (item k : Kind) (blank : ℕ) → IsItemOf item k → blank_of k ≡ blank → IsPiece k self.entry →
+            AreJoined item (flat_map (items_or_blank item blank) (piece_rows k self.entry)) (p ∷ [])) }
     {
         match self {
-            Piece::Rows(part) => Some(Piece::Rows(part.elements()?)),
+            Piece::Rows(part) => Some(Piece::Rows(part.joined_items()?)),
             Piece::Blank(_) => None,
         }
     }

@@ -11,6 +11,8 @@ use crate::fields::Records;
 use crate::parts::Part;
 use crate::same_leaves::{same_texts, same_truths};
 use crate::same_numbers::same_numbers;
+use crate::same_sizes::same_sizes;
+use crate::stored_lists::FEW;
 use vx_base::{DType, StructFields};
 
 // Whether rows of a data type are the same, one by one. Where the rows of each side are all one,
@@ -47,9 +49,35 @@ fn same_by_kind(dtype: &DType, a: Part, b: Part) -> bool
     }
 }
 
-// Whether lists are the same, one by one.
+// Whether lists are the same: by their sizes, and the items of all, where they stand end to end on
+// both sides and none is null.
 #[cycle(same)]
 fn same_lists(dtype: &DType, a: Part, b: Part) -> bool
+    requires lists { is_lists (dtype_meaning dtype.now) ≡ true }
+    requires first { IsPart (dtype_meaning dtype.now) a }
+    requires second { IsPart (dtype_meaning dtype.now) b }
+    requires same_len { part_len b ≡ part_len a }
+    ensures { IsTrue result ↔ AreSame (dtype_meaning dtype.now) a.entry b.entry }
+{
+    if a.len() < FEW {
+        return same_each_list(dtype, a, b);
+    }
+    let Some((first, first_items)) = a.joined_lists() else {
+        return same_each_list(dtype, a, b);
+    };
+    let Some((second, second_items)) = b.joined_lists() else {
+        return same_each_list(dtype, a, b);
+    };
+    let items = items_of(dtype);
+    if !same_sizes(first.size_type, first.sizes, second.size_type, second.sizes) {
+        return false;
+    }
+    same_rows(items, first_items, second_items)
+}
+
+// The same, one by one.
+#[cycle(same)]
+fn same_each_list(dtype: &DType, a: Part, b: Part) -> bool
     requires lists { is_lists (dtype_meaning dtype.now) ≡ true }
     requires first { IsPart (dtype_meaning dtype.now) a }
     requires second { IsPart (dtype_meaning dtype.now) b }

@@ -11,7 +11,7 @@ ghost use Rattle.vx_tree.specs.Formed.{IsCounts};
 ghost use Rattle.vx_tree.specs.Meaning.{kind_of, row_at, tree_len};
 ghost use Rattle.vx_pack.specs.Lists.{IsItemOf};
 ghost use Rattle.vx_pack.specs.Parts.{IsPart, IsWithin, part_len, part_row};
-ghost use Rattle.vx_pack.specs.StoredLists.{AreElementBytes, AreStoredLists};
+ghost use Rattle.vx_pack.specs.StoredLists.{AreElementBytes, AreListBytes, AreStoredLists};
 
 use crate::parts::{Part, part_of};
 use crate::truths::is_full;
@@ -38,7 +38,9 @@ impl<'a> Part<'a> {
     // The lists, where offsets and sizes stand so.
     pub fn stored_lists(self) -> Option<StoredLists<'a>>
         requires { IsWithin self }
-        ensures { IfSome result (λ s. (item k : Kind) → IsItemOf item k → IsPart k self.entry →
+        ensures bytes { IfSome result (λ s. AreListBytes s.offset_type s.offsets.now s.size_type s.sizes.now
+            (tree_len s.elements.now)) }
+        ensures lists { IfSome result (λ s. (item k : Kind) → IsItemOf item k → IsPart k self.entry →
             AreStoredLists item (map (part_row k self.entry) (range_with_len 0 (part_len self.entry))) s) }
     {
         let Part::Array(array, start, len) = self else {

@@ -15,6 +15,7 @@ mod default_rows;
 mod dictionaries;
 mod empty;
 mod fixed_lists;
+mod joined_lists;
 mod limits;
 mod lists;
 mod nests;

@@ -9,6 +9,7 @@ use vx_pack::laws::{
 use vx_test_help::samples::{dictionary, lists, records};
 use vx_tree::ArrayRef;
 
+mod joined_lists;
 mod lists;
 mod many_rows;
 mod numbers;

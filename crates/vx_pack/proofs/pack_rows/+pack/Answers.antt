@@ -1,4 +1,5 @@
 use Rattle.std.proofs.Common.{◌≡◌, ◌∙◌, ◌<◌, length, ap, subst, sym, refl, inr, arith}
+use Rattle.std.specs.List.{flat_map}
 use Rattle.std.specs.Result.{IfErr, IfOk}
 use Rattle.std.proofs.lemmas.List.{length_push}
 use Rattle.std.proofs.lemmas.Result.{MatchResult-weaker, err_from_is_err_and}
@@ -11,12 +12,13 @@ use Rattle.vx_base.specs.Kinds.{is_nullable_kind, records}
 use Rattle.vx_tree.specs.Meaning.{trees_from}
 use Rattle.vx_tree.specs.Parts.{valid_of}
 use Rattle.vx_tree.specs.Tree.{structure}
-use Rattle.vx_pack.specs.Packed.{ArePacked, IsPackRefused, IsPacked}
+use Rattle.vx_pack.specs.Packed.{ArePacked, IsPackRefused, IsPacked, items_or_blank}
 use Rattle.vx_pack.specs.Pieces.{ArePieces, pieces_rows}
 use Rattle.vx_pack.specs.Records.{kind_at}
 use Rattle.vx_pack.proofs.FieldPieces.{ArePieces-fields, fields_are_even}
 use Rattle.vx_pack.proofs.ListItems.{list_items-lists, lists_of_items}
-use Rattle.vx_pack.proofs.ListPieces.{ArePieces-elements, ArePieces-lists, rows_of_lists}
+use Rattle.vx_pack.proofs.JoinedPieces.{ArePieces-joined}
+use Rattle.vx_pack.proofs.ListPieces.{ArePieces-elements}
 use Rattle.vx_pack.proofs.PackedColumns.{all_packed, one_more_packed, packed_struct}
 use Rattle.vx_pack.proofs.PackedSteps.{field_refused, field_told, list_parts, lists_items, lists_packed, lists_refused, lists_too_many}
 use Rattle.vx_pack.proofs.PackedSteps.{parts_formed, records_packed, rows_counted, sized_formed, sized_packed, sized_refused}
@@ -63,7 +65,7 @@ pack_lists-returns-in_err-total-clause-err t c =
     ))
 
 pub pack_lists-pack_elements-requires : goal.pack_lists-pack_elements-requires
-pack_lists-pack_elements-requires t c = (omega (arith, c.decreases), (c.requires.kind, (c.requires.pieces, sym c.in_ok-total.ensures.0)))
+pack_lists-pack_elements-requires t c = (omega (arith, c.decreases), (c.requires.kind, (c.requires.pieces.each, sym c.in_ok-total.ensures.0)))
 
 pub pack_lists-of_lists-requires-clause-total : goal.pack_lists-of_lists-requires-clause-total
 pack_lists-of_lists-requires-clause-total t c = sym c.in_ok-total.ensures.0
@@ -121,7 +123,7 @@ pack_elements-pack_rows-requires t c =
     let n = c.requires.kind.0 in
     let kind = c.requires.kind.1 in
     let lists = c.in_ok-lists-in-List.ensures item (lists_items k item n kind) in
-    let pieces = ArePieces-lists item rs c.in_ok-lists-in-List.lists.items c.args.total lists
+    let pieces = ArePieces-joined item (flat_map (items_or_blank item 0) rs) c.in_ok-lists-in-List.lists.items c.args.total lists
     (sym c.requires.total ∙ ap length (list_items-lists k item n rs kind)) (omega (arith, c.ranges.total.fits)) in (
       omega (arith, ap kind_depth kind, c.decreases),
       subst (λ qs. ArePieces item qs c.args.total) (sym c.deref.ensures.value) pieces,
@@ -135,8 +137,7 @@ pack_elements-returns-in_ok-lists-in-List-clause-ok t c =
     let n = c.requires.kind.0 in
     let kind = c.requires.kind.1 in
     let lists = c.in_ok-lists-in-List.ensures item (lists_items k item n kind) in
-    let same = ap (pieces_rows item) c.deref.ensures.value ∙ rows_of_lists item 0 rs c.in_ok-lists-in-List.lists.items lists
-    ∙ sym (list_items-lists k item n rs kind) in
+    let same = ap (pieces_rows item) c.deref.ensures.value ∙ lists.rows ∙ sym (list_items-lists k item n rs kind) in
     subst (λ xs. IfOk c.pack_rows.result (IsPacked item xs)) same c.pack_rows.ensures.ok
 
 pub pack_elements-returns-in_ok-lists-in-List-clause-err : goal.pack_elements-returns-in_ok-lists-in-List-clause-err
@@ -147,8 +148,7 @@ pack_elements-returns-in_ok-lists-in-List-clause-err t c =
     let n = c.requires.kind.0 in
     let kind = c.requires.kind.1 in
     let lists = c.in_ok-lists-in-List.ensures item (lists_items k item n kind) in
-    let same = ap (pieces_rows item) c.deref.ensures.value ∙ rows_of_lists item 0 rs c.in_ok-lists-in-List.lists.items lists
-    ∙ sym (list_items-lists k item n rs kind) in
+    let same = ap (pieces_rows item) c.deref.ensures.value ∙ lists.rows ∙ sym (list_items-lists k item n rs kind) in
     subst (λ xs. IfErr c.pack_rows.result (IsPackRefused item xs)) same c.pack_rows.ensures.err
 
 -- ---- lists of one size

@@ -1,10 +1,9 @@
 use Rattle.std.proofs.Common.{◌∙◌, ◌+◌, ◌*◌, ◌≤◌, ap, arith, refl, subst, sym}
-use Rattle.vx_base.specs.Kinds.{fixed_lists}
 use Rattle.vx_tree.specs.Parts.{tree_of, valid_of}
 use Rattle.vx_tree.specs.Formed.{WellFormed}
 use Rattle.vx_tree.specs.Meaning.{tree_len}
 use Rattle.vx_tree.specs.Tree.{fixed_list}
-use Rattle.vx_pack.proofs.JoinedPieces.{all_items_of, elements_within}
+use Rattle.vx_pack.proofs.JoinedPieces.{all_items_of_kind, elements_within}
 use Rattle.vx_pack.specs.declared.parts.Part.TheVariants.{Array}
 use Rattle.vx_pack.specs.Parts.{IsPart, IsWithin}
 use Rattle.vx_pack.specs.Pieces.{AreAllItems}
@@ -53,14 +52,13 @@ part_of-requires c =
     omega (arith, inside, c.known_len.ensures)
 
 pub returns : goal.returns
-returns c = λ item size b whole.
-    let k = fixed_lists item size b in
+returns c = λ item k blank of_item blanks whole.
     let a = c.in-Array.array in
     let start = c.in-Array.start in
     let n = c.in-Array.len in
     let part = subst (IsPart k) c.in-Array.is whole in
-    subst (λ p. AreAllItems item size k p c.part_of.result) (sym c.in-Array.is)
-    (all_items_of a.now c.in-FixedSizeList.elements c.in-FixedSizeList.size (valid_of c.in-FixedSizeList.validity) c.in-FixedSizeList.len start n
-    item size b (Array a start n) c.part_of.result
-    (sym c.layout.ensures.parts ∙ ap tree_of c.in-FixedSizeList.is) (c.is_full.ensures c.if-not-is_full.false) part.kind refl (λ i. refl)
+    subst (λ p. AreAllItems item blank k p c.part_of.result) (sym c.in-Array.is)
+    (all_items_of_kind a.now c.in-FixedSizeList.elements c.in-FixedSizeList.size (valid_of c.in-FixedSizeList.validity) c.in-FixedSizeList.len start n
+    item k blank (Array a start n) c.part_of.result
+    (sym c.layout.ensures.parts ∙ ap tree_of c.in-FixedSizeList.is) (c.is_full.ensures c.if-not-is_full.false) part.kind of_item blanks refl (λ x i. refl)
     c.part_of.ensures)

@@ -4,15 +4,28 @@ use Rattle.vx_tree.specs.Formed.{WellFormed}
 use Rattle.vx_tree.specs.Meaning.{row_at}
 use Rattle.vx_tree.specs.Parts.{tree_of, valid_of}
 use Rattle.vx_tree.specs.Tree.{list_view}
-use Rattle.vx_pack.proofs.StoredLists.{stored_lists_of}
+use Rattle.vx_pack.proofs.StoredLists.{list_bytes_of, stored_lists_of}
 use Rattle.vx_pack.specs.declared.parts.Part.TheVariants.{Array}
 use Rattle.vx_pack.specs.Lists.{IsItemOf}
 use Rattle.vx_pack.specs.Parts.{IsPart, IsWithin, part_len, part_row}
 use Rattle.vx_pack.specs.StoredLists.{AreStoredLists}
 use Rattle.vx_pack.proofs.parts.Part.stored_lists.Goals as goal
 
-pub returns : goal.returns
-returns c = λ item k of_item whole.
+pub returns-clause-bytes : goal.returns-clause-bytes
+returns-clause-bytes c =
+    let a = c.in-Array.array.now in
+    let e = c.in-ListView.elements in
+    let o = c.in-ListView.offsets in
+    let z = c.in-ListView.sizes in
+    let v = valid_of c.in-ListView.validity in
+    let f = c.in-ListView.flag in
+    let formed : WellFormed (list_view e o z v f) = rw c.in-ListView.is at c.layout.ensures.formed in
+    let within = subst IsWithin c.in-Array.is c.requires in
+    list_bytes_of a e o z v f c.in-Array.start c.in-Array.len _ _ _ _ (sym c.layout.ensures.parts ∙ ap tree_of c.in-ListView.is)
+    formed.1 within.0 c.in_ok-offset_type.ensures c.in_ok-size_type.ensures
+
+pub returns-clause-lists : goal.returns-clause-lists
+returns-clause-lists c = λ item k of_item whole.
     let a = c.in-Array.array.now in
     let e = c.in-ListView.elements in
     let o = c.in-ListView.offsets in
