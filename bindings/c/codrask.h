@@ -77,7 +77,8 @@ struct codrask_fault {
     uint32_t number; /* 0 where there is none; 1 to 23 as codrask_fault_name tells; 32 to 36 of the table itself; from 64 on of Arrow */
     size_t node;     /* the node that has it, counted from 0 */
     size_t place;    /* the row that has it; of CODRASK_OUT_OF_BOUNDS the end of a list past its elements, or the code; of CODRASK_NOT_UTF8
-                      * of records the name that is no text, counted from 0; else 0 */
+                      * of records the name that is no text, and of CODRASK_BAD_ARROW of records the name with a byte 0, both counted
+                      * from 0; else 0 */
 };
 
 enum codrask_number {

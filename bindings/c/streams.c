@@ -298,7 +298,9 @@ static uint32_t write_batches(struct batches *batches, const struct codrask_colu
     struct codrask_fault found = {0, 0, 0};
     for (size_t i = 0; i < count; i++)
         if (write_batch(batches, &columns[i], flags, name, limits, &found)) {
-            *fault = (struct codrask_run_fault){found.number, CODRASK_IN_TABLE, i, found.node, found.place};
+            *fault = (struct codrask_run_fault){.number = found.number};
+            if (found.number != CODRASK_MEMORY)
+                *fault = (struct codrask_run_fault){found.number, CODRASK_IN_TABLE, i, found.node, found.place};
             return found.number;
         }
     return 0;

@@ -105,7 +105,7 @@ static uint32_t stream_out(struct codrask_fault *fault) {
     struct codrask_run_fault told;
     struct ArrowArrayStream stream;
     uint32_t number = codrask_write_stream(twice, 2, CODRASK_BY_VIEWS, "a column", NULL, &stream, &told);
-    *fault = (struct codrask_fault){told.number, told.node, told.place};
+    *fault = (struct codrask_fault){told.number, told.node, told.place + told.part + told.which};
     if (number)
         return number;
     number = take_all(&stream);
@@ -269,6 +269,7 @@ static uint32_t run_each_kind(struct codrask_fault *fault) {
 
 /* Makes a call with one request for memory refused, or with none. */
 static uint32_t try_call(call *made_call, long fail_at, struct codrask_fault *fault) {
+    *fault = (struct codrask_fault){0, 0, 0};
     left = fail_at, held = tried = 0, counting = true;
     uint32_t number = made_call(fault);
     counting = false, left = -1;
@@ -279,6 +280,11 @@ static bool is_same(const struct codrask_fault *one, const struct codrask_fault 
     return one->number == other->number && one->node == other->node && one->place == other->place;
 }
 
+/* Whether nothing is told beside a number. */
+static bool is_bare(const struct codrask_fault *fault) {
+    return fault->node == 0 && fault->place == 0;
+}
+
 /* Whether a call answers Memory where memory is refused, or as ever, and keeps nothing. */
 static bool gives_back(call *made_call, uint64_t seed) {
     struct codrask_fault fault, other;
@@ -287,7 +293,7 @@ static bool gives_back(call *made_call, uint64_t seed) {
     bool good = held == 0;
     for (long i = 0; i < calls; i++) {
         uint32_t number = try_call(made_call, i, &other);
-        good = good && held == 0 && (number == CODRASK_MEMORY || (number == wanted && is_same(&fault, &other)));
+        good = good && held == 0 && (number == CODRASK_MEMORY ? is_bare(&other) : number == wanted && is_same(&fault, &other));
     }
     if (!good)
         printf("seed %llu: %ld calls, %ld blocks held\n", (unsigned long long)seed, calls, held);

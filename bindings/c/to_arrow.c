@@ -540,7 +540,7 @@ static uint32_t make_records(struct maker *m, struct pair p, const struct codras
         return error;
     for (size_t i = 0; i < node->buffer_count; i++)
         if ((error = set_name(child_of(p, i), node->buffers[i])))
-            return refuse_row(m, error, i);
+            return error == CODRASK_MEMORY ? error : refuse_row(m, error, i);
     for (size_t i = node->buffer_count; i-- > 0;)
         wait_for(m, child_of(p, i));
     return 0;
