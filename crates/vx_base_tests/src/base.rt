@@ -6,7 +6,7 @@ ghost use Rattle.vx_base.specs.Fields.{kind_count};
 
 mod gathered;
 mod joined;
-mod masks;
+pub(crate) mod masks;
 mod plain;
 mod scalars;
 mod selections;

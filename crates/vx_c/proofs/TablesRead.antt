@@ -14,7 +14,7 @@ use Rattle.vx_lists.specs.FixedSizeLists.{element_count_fault, fixed_list_fault}
 use Rattle.vx_lists.specs.ListViews.Faults.{list_view_fault}
 use Rattle.vx_structs.specs.Structs.{column_list}
 use Rattle.vx_structs.specs.Structs.Faults.{struct_fault}
-use Rattle.vx_structs.proofs.Records.Parts.{trees_from-list}
+use Rattle.vx_structs.proofs.Structs.Parts.{trees_from-list}
 use Rattle.vx_tree.specs.Faults.{validity_fault}
 use Rattle.vx_tree.specs.Fitting.{AllFormed, AreViews, ColumnsFormed, ValidityFormed}
 use Rattle.vx_tree.specs.Formed.{WellFormed}

@@ -17,11 +17,11 @@ use Rattle.vx_base.proofs.Zeroes.{holds-zero}
 use Rattle.vx_tree.specs.Tree.{Tree, primitive, Valid}
 use Rattle.vx_tree.specs.Meaning.{tree_len, kind_of, row_at, rows, valid_mask, nullable}
 use Rattle.vx_tree.specs.Operations.{masked}
+use Rattle.vx_tree.proofs.RowLists.{length-valid_mask}
 use Rattle.vx_leaves.specs.Leaves.{type_in, validity_of, numbers_in}
 use Rattle.vx_leaves.specs.Narrow.{numbers_among, valid_numbers, kept, zeroed, narrowed_type, IsLeastWidth, IsNarrowed}
 use Rattle.vx_leaves.proofs.MaskedRows.{IsPrimitive-masked}
 use Rattle.vx_leaves.proofs.NarrowedTypes.{narrowed_held, narrowed_least, narrowed_width}
-use Rattle.vx_leaves.proofs.ValueRows.{length-valid_mask}
 
 -- ---- one row more
 

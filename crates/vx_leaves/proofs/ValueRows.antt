@@ -4,7 +4,6 @@ use Rattle.std.specs.Prelude.{ℤ, Some}
 use Rattle.std.specs.List.{range_with_len}
 use Rattle.std.proofs.Math.Nat.{mul-le-mul_right}
 use Rattle.std.proofs.lemmas.Bool.{lt-ltb}
-use Rattle.std.proofs.lemmas.List.FromFn.{length-map-range_with_len}
 use Rattle.std.proofs.lemmas.List.Sums.{count_by-le-length, sum_by-cons}
 use Rattle.vx_base.specs.Integers.{byte_width, numbers}
 use Rattle.vx_base.specs.Refusals.{length_mismatch}
@@ -15,6 +14,7 @@ use Rattle.vx_tree.specs.Formed.{ValidFits}
 use Rattle.vx_tree.specs.Meaning.{is_valid_at, valid_mask}
 use Rattle.vx_tree.specs.Validities.{valid_from}
 use Rattle.vx_tree.proofs.Masks.{bits_are_truths}
+use Rattle.vx_tree.proofs.RowLists.{length-valid_mask}
 use Rattle.vx_leaves.specs.Leaves.{IsPrimitive}
 use Rattle.vx_leaves.specs.Spread.{spread, never_null, count_fault}
 
@@ -24,9 +24,6 @@ is_primitive_of t u bs zs v w a e p q s = record { bytes = bs; tree = e ∙ ap (
 
 pub count_of : (t : PType) (bs : List ℕ) (n : ℕ) → length bs ≡ n * byte_width t → length (numbers t bs) ≡ n
 count_of t bs n e = length_numbers t bs ∙ ap (λ m. m / byte_width t) e ∙ whole t n
-
-pub length-valid_mask : (v : Valid) (n : ℕ) → length (valid_mask v n) ≡ n
-length-valid_mask v n = length-map-range_with_len (is_valid_at v) 0 n
 
 -- truth values that tell which rows are valid are its mask
 pub valid_mask-bools : {b : ℕ} (v : Valid) (t : Tree) (bits : List Bool) (w : Valid) (n : ℕ) → v ≡ by_array t → t ≡ bools b bits w → ValidFits v n → bits ≡ valid_mask v n

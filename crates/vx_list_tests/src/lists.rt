@@ -329,35 +329,6 @@ fn overlaps_are_not_compressed(rt: HostRuntime) {
     assert!(rt; matches!(refused, Err(VortexError::NotImplemented)));
 }
 
-// Whether both ways of rebuilding give these ranges and elements.
-fn rebuilds_both_ways_to(
-    alloc: Global,
-    lists: &ListViewArray,
-    ranges: &[(usize, usize)],
-    elements: &[i128],
-) -> Result<bool, VortexError> {
-    for rebuilt in [lists.rebuild_by_take(alloc)?, lists.rebuild_by_runs(alloc)?] {
-        if !has_ranges(&rebuilt, ranges) || !has_numbers(rebuilt.elements(), elements) {
-            return Ok(false);
-        }
-    }
-    Ok(true)
-}
-
-#[test]
-fn runs_give_the_same_layout(rt: HostRuntime) {
-    let alloc = rt.alloc();
-    let validity = valid_where(alloc, &[true, false, true]).expect(&rt, "made");
-    let lists = view::<u32>(alloc, &[1, 2, 3, 4], &[0, 1, 2], &[1, 2, 2], validity).expect(
-        &rt, "made",
-    );
-    assert!(rt;
-        rebuilds_both_ways_to(alloc, &lists, &[(0, 1), (1, 0), (1, 2)], &[1, 3, 4]).expect(
-            &rt, "made"
-        )
-    );
-}
-
 // One list of 2^60 zeroes.
 fn long_list(alloc: Global) -> Result<ListViewArray, VortexError> {
     let zero = Scalar::int(0, PType::U8, Nullability::NonNullable);

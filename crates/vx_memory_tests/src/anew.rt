@@ -1,12 +1,13 @@
 // Arrays made anew of the parts of an array, by layout.
 
 use crate::every_layout::{Calls, on_every_layout};
-use crate::samples::{bools, fives, ints};
+use crate::samples::fives;
 use std::alloc::Global;
 use vx_base::{
     BitBuffer, BitBufferMut, Buffer, BufferMut, FieldNames, Mask, VortexError, share_buffers,
 };
 use vx_memory_help::{Compare, End, deep, judged};
+use vx_test_help::{bools, ints};
 use vx_tree::{ArrayRef, IntoArray, Layout, Validity};
 
 // `ArrayRef::bools`.

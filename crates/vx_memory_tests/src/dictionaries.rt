@@ -1,12 +1,13 @@
 // Dictionaries and constants.
 
 use crate::rows::has_rows;
-use crate::samples::{dictionary, ints};
+use crate::samples::dictionary;
 use crate::typed::{is_same, typed};
 use std::alloc::Global;
 use vx_base::{Nullability, PType, Scalar, VortexError};
 use vx_leaves::{ConstantArray, DictArray, DictArrayExt, DictOwnedExt};
 use vx_memory_help::{End, judged};
+use vx_test_help::ints;
 use vx_tree::{Layout, TypedArray};
 
 // The values 9, null and 6, by codes.

@@ -1,11 +1,12 @@
 // Calls on an array of each layout.
 
 use crate::rows::has_rows;
-use crate::samples::{bools, ints, samples, some_ints};
+use crate::samples::{samples, some_ints};
 use std::alloc::Global;
 use vx_base::{BitBuffer, Mask, Selection, VortexError};
 use vx_canonical::{Concatenate, ToCanonical};
 use vx_memory_help::{Compare, End, are_alike, deep, judged};
+use vx_test_help::{bools, ints};
 use vx_tree::ArrayRef;
 
 // Calls on an array.

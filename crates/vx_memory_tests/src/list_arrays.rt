@@ -1,7 +1,7 @@
 // List views and lists of one size.
 
 use crate::rows::has_rows;
-use crate::samples::{first_and_last, ints, lists_of, lists_of_texts, mostly_empty_lists, pairs};
+use crate::samples::{first_and_last, lists_of, lists_of_texts, mostly_empty_lists, pairs};
 use crate::typed::{is_same, typed};
 use std::alloc::Global;
 use vx_base::VortexError;
@@ -10,6 +10,7 @@ use vx_lists::{
     ListViewData, ListViewRebuildMode,
 };
 use vx_memory_help::{Compare, End, deep, judged};
+use vx_test_help::ints;
 use vx_tree::{TypedArray, Validity};
 
 // The lists [3, 4], [1] and [2, 3].

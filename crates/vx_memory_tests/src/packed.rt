@@ -1,8 +1,8 @@
 // The packed form of an array of each layout. What is wanted was worked by hand.
 
 use crate::samples::{
-    LONG, dictionary, first_and_last, fives, ints, lists, lists_of_texts, pairs, some_bools,
-    some_ints, texts,
+    LONG, dictionary, first_and_last, fives, lists, lists_of_texts, pairs, some_bools, some_ints,
+    texts,
 };
 use std::alloc::Global;
 use vx_base::{BitBuffer, Buffer, VortexError};
@@ -11,6 +11,7 @@ use vx_lists::{FixedSizeListArray, ListViewArray, ListViewArrayExt};
 use vx_memory_help::{Compare, End, deep, judged};
 use vx_pack::Pack;
 use vx_structs::StructArray;
+use vx_test_help::ints;
 use vx_text::VarBinViewArray;
 use vx_tree::{ArrayRef, TypedArray, Validity};
 

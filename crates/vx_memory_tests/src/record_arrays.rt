@@ -1,16 +1,16 @@
 // Records.
 
-ghost use Rattle.std.specs.Prelude.{◌≡◌, [], ◌∷◌};
-ghost use Rattle.vx_base.specs.Refusals.{Gives};
+ghost use Rattle.std.specs.Prelude.{◌≡◌};
 ghost use Rattle.vx_tree.specs.Meaning.{tree_len};
 
 use crate::rows::has_rows;
-use crate::samples::{first_and_last, numbers, one_name, records};
+use crate::samples::{first_and_last, numbers, records};
 use crate::typed::{is_same, typed};
 use std::alloc::Global;
 use vx_base::{FieldNames, VortexError};
-use vx_memory_help::{Compare, End, are_alike, deep, judged};
+use vx_memory_help::{Compare, End, are_alike, deep, judged, one_name};
 use vx_structs::{StructArray, StructArrayExt};
+use vx_test_help::one_column;
 use vx_tree::{ArrayRef, TypedArray, Validity};
 
 // Records of numbers `a` and truth values `b`, the second null.
@@ -18,28 +18,19 @@ fn given(alloc: Global) -> Result<StructArray, VortexError> {
     typed(records(alloc)?)
 }
 
-// One column.
-fn one(alloc: Global, column: ArrayRef) -> Result<Vec<ArrayRef>, VortexError>
-    ensures { Gives result (λ columns. columns.items ≡ column ∷ []) }
-{
-    let mut columns = Vec::with_capacity(alloc, 1)?;
-    columns.push(column)?;
-    Ok(columns)
-}
-
 // Three records of one column, which is asked to have three rows.
 fn asked(alloc: Global, column: ArrayRef) -> Result<StructArray, VortexError>
     requires { tree_len column ≡ 3 }
 {
     let names = FieldNames::try_new(alloc, &["a"])?;
-    let columns = one(alloc, column)?;
+    let columns = one_column(alloc, column)?;
     StructArray::new(alloc, names, columns.into_iter(), 3, Validity::AllValid)
 }
 
 // Records of numbers `a`, tested.
 fn tested(alloc: Global) -> Result<StructArray, VortexError> {
     let names = FieldNames::try_new(alloc, &["a"])?;
-    let columns = one(alloc, numbers(alloc)?)?.into_iter();
+    let columns = one_column(alloc, numbers(alloc)?)?.into_iter();
     StructArray::try_new(alloc, names, columns, 3, Validity::AllValid)
 }
 
@@ -62,7 +53,7 @@ fn made_tested(alloc: Global, records: &StructArray) -> Result<bool, VortexError
 // `StructArray::try_new_with_dtype`.
 fn typed_alike(alloc: Global, records: &StructArray) -> Result<bool, VortexError> {
     let fields = records.struct_fields().try_clone(alloc)?;
-    let columns = one(alloc, numbers(alloc)?)?.into_iter();
+    let columns = one_column(alloc, numbers(alloc)?)?.into_iter();
     let valid = Validity::AllValid;
     let made = StructArray::try_new_with_dtype(alloc, columns, fields, 3, valid)?;
     Ok(is_same(&made, records))

@@ -1,20 +1,16 @@
 // An array of each layout, and records of a list view of texts: three rows each.
 
 use std::alloc::Global;
-use vx_base::{BitBuffer, Buffer, FieldName, NativePType, Nullability, PType, Scalar, VortexError};
+use vx_base::{NativePType, Nullability, PType, Scalar, VortexError};
 use vx_leaves::{BoolArray, DictArray, PrimitiveArray};
 use vx_lists::{FixedSizeListArray, ListViewArray};
 use vx_structs::StructArray;
+use vx_test_help::{ints, valid_where};
 use vx_text::VarBinViewArray;
-use vx_tree::{ArrayRef, IntoArray, TypedArray, Validity};
+use vx_tree::{ArrayRef, TypedArray, Validity};
 
 // A text that a view has no room for.
 pub(crate) const LONG: &str = "a text that no view has room for";
-
-// Numbers, none of them null.
-pub(crate) fn ints<T: NativePType>(alloc: Global, items: &[T]) -> Result<ArrayRef, VortexError> {
-    Buffer::copy_from(alloc, items)?.into_array(alloc)
-}
 
 // Numbers, null for `None`.
 pub(crate) fn some_ints<T: NativePType>(
@@ -23,11 +19,6 @@ pub(crate) fn some_ints<T: NativePType>(
 ) -> Result<ArrayRef, VortexError> {
     let items = items.iter().copied();
     Ok(PrimitiveArray::from_option_iter(alloc, items)?.into_array())
-}
-
-// Truth values, none of them null.
-pub(crate) fn bools(alloc: Global, items: &[bool]) -> Result<ArrayRef, VortexError> {
-    BitBuffer::from_bools(alloc, items)?.into_array(alloc)
 }
 
 // The truth values true, null, false.
@@ -39,7 +30,7 @@ pub(crate) fn some_bools(alloc: Global) -> Result<ArrayRef, VortexError> {
 
 // The first and the last of three rows.
 pub(crate) fn first_and_last(alloc: Global) -> Result<Validity, VortexError> {
-    Ok(Validity::Array(bools(alloc, &[true, false, true])?))
+    valid_where(alloc, &[true, false, true])
 }
 
 // The numbers 7, null and -9 of type i16.
@@ -85,13 +76,6 @@ pub(crate) fn texts(alloc: Global) -> Result<ArrayRef, VortexError> {
     let items = [Some("hi"), None, Some(LONG)];
     let items = items.iter().copied();
     Ok(VarBinViewArray::from_iter_nullable_str(alloc, items)?.into_array())
-}
-
-// A name.
-pub(crate) fn one_name(alloc: Global, name: &str) -> Result<Vec<FieldName>, VortexError> {
-    let mut names = Vec::with_capacity(alloc, 1)?;
-    names.push(FieldName::try_new(alloc, name)?)?;
-    Ok(names)
 }
 
 // Records of numbers and of truth values, the second null.

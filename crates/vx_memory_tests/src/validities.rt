@@ -4,10 +4,11 @@ ghost use Rattle.std.specs.Prelude.{IsTrue};
 ghost use Rattle.vx_tree.specs.Formed.{IsLenOf};
 ghost use Rattle.vx_tree.specs.Parts.{valid_of};
 
-use crate::samples::{bools, first_and_last, ints};
+use crate::samples::first_and_last;
 use std::alloc::Global;
 use vx_base::{BitBuffer, Mask, Nullability, VortexError};
 use vx_memory_help::{End, deep, judged};
+use vx_test_help::{bools, ints};
 use vx_tree::Validity;
 
 // Whether rows are valid where these are true.

@@ -1,7 +1,7 @@
 // Calls that take no memory: the sweep refuses every request once the arrays are made.
 
 use crate::samples::{
-    LONG, dictionary, first_and_last, ints, lists, numbers, pairs, records, samples, texts,
+    LONG, dictionary, first_and_last, lists, numbers, pairs, records, samples, texts,
 };
 use crate::typed::typed;
 use std::alloc::Global;
@@ -14,6 +14,7 @@ use vx_lists::{
 use vx_memory_help::{End, judged};
 use vx_pack::RowsEqual;
 use vx_structs::{StructArray, StructArrayExt};
+use vx_test_help::ints;
 use vx_text::{VarBinViewArray, VarBinViewArrayExt, VarBinViewData};
 use vx_tree::{ArrayRef, TypedArray, Validity};
 

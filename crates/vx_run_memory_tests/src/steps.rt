@@ -4,7 +4,7 @@ use std::alloc::Global;
 use std::io::Cursor;
 use vx_base::{FieldName, VortexError};
 use vx_lists::ListViewRebuildMode;
-use vx_memory_help::{End, are_alike, judged};
+use vx_memory_help::{End, are_alike, judged, one_name};
 use vx_run::{RunFault, Step, WriteFault, run, run_script, write_rows};
 use vx_test_help::samples::{lists, records};
 use vx_test_help::{bools, ints};
@@ -43,13 +43,6 @@ fn steps(alloc: Global) -> Result<Vec<Step>, VortexError> {
         Step::Rebuild { array: 3, mode },
         Step::Narrow { array: 0 },
     ]?)
-}
-
-// A name.
-fn one_name(alloc: Global, name: &str) -> Result<Vec<FieldName>, VortexError> {
-    let mut names = Vec::with_capacity(alloc, 1)?;
-    names.push(FieldName::try_new(alloc, name)?)?;
-    Ok(names)
 }
 
 // A step of each kind on records.

@@ -1,7 +1,6 @@
 // Records by columns: their columns, their parts and their faults.
 
-ghost use Rattle.std.specs.Prelude.{◌≡◌, [], ◌∷◌};
-ghost use Rattle.vx_base.specs.Refusals.{Gives};
+ghost use Rattle.std.specs.Prelude.{◌≡◌};
 ghost use Rattle.vx_tree.specs.Meaning.{tree_len};
 
 mod columns;
@@ -13,17 +12,8 @@ mod pushed;
 use std::alloc::Global;
 use vx_base::{DType, FieldNames, Nullability, PType, VortexError};
 use vx_structs::{StructArray, StructArrayExt, StructDataParts, StructSlots};
-use vx_test_help::{bools, has_numbers_or_nulls, ints, valid_where};
+use vx_test_help::{bools, has_numbers_or_nulls, ints, one_column, valid_where};
 use vx_tree::{ArrayRef, TypedArray, Validity};
-
-// One column.
-fn one(alloc: Global, column: ArrayRef) -> Result<Vec<ArrayRef>, VortexError>
-    ensures { Gives result (λ columns. columns.items ≡ column ∷ []) }
-{
-    let mut columns = Vec::with_capacity(alloc, 1)?;
-    columns.push(column)?;
-    Ok(columns)
-}
 
 // Two columns, in order.
 fn both(alloc: Global, first: ArrayRef, second: ArrayRef) -> Result<Vec<ArrayRef>, VortexError> {
@@ -47,7 +37,7 @@ fn asked(alloc: Global, column: ArrayRef) -> Result<StructArray, VortexError>
     requires { tree_len column ≡ 2 }
 {
     let names = FieldNames::try_new(alloc, &["a"])?;
-    let columns = one(alloc, column)?;
+    let columns = one_column(alloc, column)?;
     StructArray::new(alloc, names, columns.into_iter(), 2, Validity::AllValid)
 }
 

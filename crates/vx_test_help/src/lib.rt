@@ -2,7 +2,8 @@
 //! iterators whose hints promise too much.
 #![tactic(auto)]
 
-ghost use Rattle.std.specs.Prelude.{◌≡◌, length, IfOk};
+ghost use Rattle.std.specs.Prelude.{◌≡◌, [], ◌∷◌, length, IfOk};
+ghost use Rattle.vx_base.specs.Refusals.{Gives};
 ghost use Rattle.vx_tree.specs.Formed.{WellFormed, ValidFits};
 ghost use Rattle.vx_tree.specs.Meaning.{tree_len};
 ghost use Rattle.vx_tree.specs.Parts.{valid_of};
@@ -85,6 +86,15 @@ pub fn columns_of(
     columns.push(first)?;
     columns.push(second)?;
     ArrayRef::structure(alloc, names, columns, validity, len)
+}
+
+/// One column.
+pub fn one_column(alloc: Global, column: ArrayRef) -> Result<Vec<ArrayRef>, VortexError>
+    ensures { Gives result (λ columns. columns.items ≡ column ∷ []) }
+{
+    let mut columns = Vec::with_capacity(alloc, 1)?;
+    columns.push(column)?;
+    Ok(columns)
 }
 
 /// Whether an array has these numbers and no null.

@@ -10,7 +10,7 @@ use Rattle.std.proofs.lemmas.Str.{IsUtf8-from_is_utf8}
 use Rattle.vx_base.specs.Bits.{bool_at}
 use Rattle.vx_base.specs.Kinds.{Kind, is_nullable_kind}
 use Rattle.vx_base.specs.Rows.{null}
-use Rattle.vx_base.specs.Refusals.{Refusal, mismatched_types, not_utf8, value_too_long}
+use Rattle.vx_base.specs.Refusals.{mismatched_types, not_utf8, value_too_long}
 use Rattle.vx_base.specs.declared.errors.VortexError.{VortexError}
 use Rattle.vx_base.specs.declared.errors.VortexError.TheVariants.{Memory}
 use Rattle.vx_base.proofs.FirstFaults.{or_else-none, first_fault-none_at}
@@ -18,6 +18,7 @@ use Rattle.vx_views.specs.Faulty.{text_fault}
 use Rattle.vx_views.specs.Sound.{IsSoundView}
 use Rattle.vx_views.specs.Views.{view_of, view_value, view_size, view_prefix, padded, prefix_of}
 use Rattle.vx_views.specs.declared.view.TheConstants.{MAX_INLINED_SIZE, MAX_BUFFER_LEN}
+use Rattle.vx_views.proofs.FirstFaults.{if-none}
 use Rattle.vx_views.proofs.Places.{ReadsAs, view_of_short, size_of_inlined, prefix_of_view}
 use Rattle.vx_tree.specs.Tree.{Tree, bools, view_array, Valid, non_nullable, all_valid, all_invalid, by_array}
 use Rattle.vx_tree.specs.Meaning.{is_valid_at, is_texts, nullable, value_row, row_at}
@@ -38,10 +39,6 @@ pub record IsFaultless (u n : Bool) (item : Item) : Type 0 where
   pub short : length (value_of item) ≤ MAX_BUFFER_LEN
   pub text : IsTrue u → IsUtf8 (value_of item)
 
-pub no_fault : (b : Bool) (r : Refusal) → (if b then None else Some r) ≡ None → b ≡ true
-no_fault true r none = refl
-no_fault false r none = cc
-
 is_text : (u : Bool) (value : List ℕ) (row : ℕ) → text_fault u value row ≡ None → IsTrue u → IsUtf8 value
 is_text u value row none on = elim (cases_Bool (is_utf8 value)) [
   | inl e ↦ IsUtf8-from_is_utf8 value e
@@ -51,14 +48,14 @@ is_text u value row none on = elim (cases_Bool (is_utf8 value)) [
 pub faultless : (u n : Bool) (row : ℕ) (item : Item) → item_fault u n row item ≡ None → IsFaultless u n item
 unfolding are_below
 faultless u n row None none = record {
-  there = λ plain. let possible = no_fault n _ none in absurd (cc);
+  there = λ plain. let possible = if-none n _ none in absurd (cc);
   short = omega arith;
   text = λ on. are_text [] refl;
 }
 faultless u n row (Some value) none =
     let faults = or_else-none (if nat_le (length value) MAX_BUFFER_LEN then None else Some (value_too_long row)) (text_fault u value row) none in record {
       there = λ plain. refl;
-      short = leb-true (length value) MAX_BUFFER_LEN (no_fault (nat_le (length value) MAX_BUFFER_LEN) _ faults.0);
+      short = leb-true (length value) MAX_BUFFER_LEN (if-none (nat_le (length value) MAX_BUFFER_LEN) _ faults.0);
       text = is_text u value row faults.1;
     }
 

@@ -15,11 +15,11 @@ use Rattle.vx_views.specs.BuildFaults.{IsPieceCount, numbering_fault}
 use Rattle.vx_views.specs.Faulty.{text_fault}
 use Rattle.vx_views.specs.declared.view.TheConstants.{MAX_BUFFER_LEN}
 use Rattle.vx_views.proofs.FaultyViews.{text_fault_found, text_fault_none}
+use Rattle.vx_views.proofs.FirstFaults.{if-none}
 use Rattle.vx_tree.specs.Meaning.{is_texts}
 use Rattle.vx_tree.proofs.Dictionaries.{memory_only}
 use Rattle.vx_text.specs.Collected.{maybe_value, IsFirstFaulty, AreTooMany}
 use Rattle.vx_text.specs.Items.{Item, item_at, value_of, heap_lens, item_fault, items_fault, valid_items}
-use Rattle.vx_text.proofs.ItemArrays.{no_fault}
 
 pub faultless_more : (u n : Bool) (items : List Item) (x : Item) (row : ℕ) → row ≡ length items → items_fault u n items ≡ None → item_fault u n row x ≡ None → items_fault u n (items ++ x ∷ []) ≡ None
 faultless_more u n items x row at none here =
@@ -54,7 +54,7 @@ text_no_fault u n b row item value is short on tells =
 
 -- buffers that can be numbered
 pub few_buffers : (count : ℕ) → numbering_fault 0 count ≡ None → count ≤ 2 ^ 32
-few_buffers count none = omega (arith, leb-true (0 + count) (2 ^ 32) (no_fault (nat_le (0 + count) (2 ^ 32)) overflow none))
+few_buffers count none = omega (arith, leb-true (0 + count) (2 ^ 32) (if-none (nat_le (0 + count) (2 ^ 32)) overflow none))
 
 -- the value of an item, no bytes where there is none
 pub value_or : (o : Option (Bor (List ℕ))) (none value : Bor (List ℕ)) → value ≡ unwrap_or o none → none.now ≡ [] → value_of (maybe_value o) ≡ value.now

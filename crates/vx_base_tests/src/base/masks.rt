@@ -1,9 +1,14 @@
 // Each call of masks and of lent bits once, on values from outside.
 
+ghost use Rattle.std.specs.Prelude.{◌≡◌, length, IfOk};
+
 use std::alloc::Global;
 use vx_base::{BitBuffer, BitBufferMeta, BitBufferView, Mask, VortexError};
 
-fn mask_of(alloc: Global, bools: &[bool]) -> Result<Mask, VortexError> {
+// A mask of these booleans.
+pub(crate) fn mask_of(alloc: Global, bools: &[bool]) -> Result<Mask, VortexError>
+    ensures { IfOk result (λ mask. length mask ≡ length bools.now) }
+{
     Mask::from_buffer(alloc, BitBuffer::from_bools(alloc, bools)?)
 }
 

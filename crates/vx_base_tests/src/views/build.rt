@@ -5,9 +5,6 @@ use vx_views::{
     BinaryView, MAX_BUFFER_LEN, build_views, build_views_from_offsets, offsets_to_lengths,
 };
 
-// `0d000000 63636363 01000000 00000000`, a value of thirteen times `c` at the start of buffer 1.
-const THIRD: u128 = 0x00000000_00000001_63636363_0000000d;
-
 // Thirteen each of a, b, c and d.
 const LETTERS: &[u8] = b"aaaaaaaaaaaaabbbbbbbbbbbbbcccccccccccccddddddddddddd";
 
@@ -74,34 +71,6 @@ fn the_greatest_limit(rt: HostRuntime) {
     );
     assert!(rt; buffers.len() == 1 && views.len() == 1);
     assert_eq!(rt; buffers[0].len(), 3);
-}
-
-#[test]
-fn views_name_their_buffers(rt: HostRuntime) {
-    let heap = ByteBuffer::copy_from(rt.alloc(), LETTERS).expect(&rt, "made");
-    let (buffers, views) = build_views(rt.alloc(), 0, 26, heap, &[13u32, 13, 13, 13]).expect(
-        &rt, "made",
-    );
-    assert_eq!(rt; buffers.len(), 2);
-    assert_eq!(rt; buffers[0].len(), 26);
-    assert_eq!(rt; buffers[1].len(), 26);
-    assert_eq!(rt; views.len(), 4);
-    assert_eq!(rt; place_of(views.value(0)), Some((0, 0)));
-    assert_eq!(rt; place_of(views.value(1)), Some((0, 13)));
-    assert_eq!(rt; place_of(views.value(2)), Some((1, 0)));
-    assert_eq!(rt; place_of(views.value(3)), Some((1, 13)));
-    assert_eq!(rt; views.value(2).as_u128(), THIRD);
-}
-
-#[test]
-fn a_full_buffer_is_not_cut(rt: HostRuntime) {
-    let heap = ByteBuffer::copy_from(rt.alloc(), SENTENCES).expect(&rt, "made");
-    let (buffers, views) = build_views(rt.alloc(), 0, 52, heap, &[29u16, 23]).expect(&rt, "made");
-    assert_eq!(rt; buffers.len(), 1);
-    assert_eq!(rt; buffers[0].len(), 52);
-    assert_eq!(rt; views.len(), 2);
-    assert_eq!(rt; place_of(views.value(0)), Some((0, 0)));
-    assert_eq!(rt; place_of(views.value(1)), Some((0, 29)));
 }
 
 #[test]
@@ -187,29 +156,6 @@ fn a_negative_offset(rt: HostRuntime) {
     let heap = ByteBuffer::copy_from(rt.alloc(), TEXT).expect(&rt, "made");
     let made = build_views_from_offsets(rt.alloc(), 0, 100, heap, &[-1i32, 3]);
     assert_eq!(rt; refusal(made), Some(VortexError::Negative { row: 0 }));
-}
-
-#[test]
-fn the_part_between_the_offsets(rt: HostRuntime) {
-    let heap = ByteBuffer::copy_from(rt.alloc(), TEXT).expect(&rt, "made");
-    let (buffers, views) = build_views_from_offsets(
-        rt.alloc(),
-        5,
-        40,
-        heap,
-        &[2u32, 34, 38],
-    ).expect(&rt, "made");
-    assert_eq!(rt; buffers.len(), 1);
-    assert_eq!(rt; buffers[0].len(), 36);
-    assert_eq!(rt; buffers[0].as_slice(), &TEXT[2..38]);
-    assert_eq!(rt; views.len(), 2);
-    assert_eq!(rt; views.value(0).len(), 32);
-    assert_eq!(rt; place_of(views.value(0)), Some((5, 0)));
-    assert_eq!(rt;
-        views.value(0).as_u128(),
-        0x00000000_00000005_6f6c2061_00000020
-    );
-    assert_eq!(rt; views.value(1), BinaryView::make_view(b"tiny", 0, 0));
 }
 
 #[test]

@@ -1,10 +1,9 @@
 // Views that are checked, at every budget.
 
-ghost use Rattle.std.specs.Prelude.{◌≡◌, length, IfOk};
-
+use crate::base::masks::mask_of;
 use std::alloc::Global;
 use std::test::Fail;
-use vx_base::{BitBuffer, ByteBuffer, Mask, VortexError};
+use vx_base::{ByteBuffer, Mask, VortexError};
 use vx_views::{BinaryView, check_and_empty_views, check_views, check_views_counted};
 
 // What is answered of one view over one buffer, in which text is asked.
@@ -137,13 +136,6 @@ fn padding_is_not_counted(rt: HostRuntime) {
     ];
     let counted = check_views_counted(rt.alloc(), &views, &Mask::new_true(2), &[], true, 0);
     assert_eq!(rt; counted, Ok(1));
-}
-
-// A mask of these booleans.
-fn mask_of(alloc: Global, bools: &[bool]) -> Result<Mask, VortexError>
-    ensures { IfOk result (λ mask. length mask ≡ length bools.now) }
-{
-    Mask::from_buffer(alloc, BitBuffer::from_bools(alloc, bools)?)
 }
 
 // Views of a text, of bytes that are no text, of bytes past the buffer's end, and of the text `b`.

@@ -1,14 +1,13 @@
 // Columns of records, and records to be joined.
 
-ghost use Rattle.std.specs.Prelude.{◌≡◌, [], ◌∷◌};
-ghost use Rattle.vx_base.specs.Refusals.{Gives};
+ghost use Rattle.std.specs.Prelude.{◌≡◌};
 ghost use Rattle.vx_tree.specs.Meaning.{tree_len};
 
 use std::alloc::Global;
 use std::test::Fail;
 use vx_base::{FieldNames, VortexError};
 use vx_structs::{StructArray, StructArrayExt};
-use vx_test_help::{Boasting, has_numbers, ints};
+use vx_test_help::{Boasting, has_numbers, ints, one_column};
 use vx_tree::{ArrayRef, TypedArray, Validity};
 
 // Three columns of three rows each.
@@ -25,21 +24,12 @@ fn named_columns(alloc: Global) -> Result<Vec<(&'static str, ArrayRef)>, VortexE
     Ok(vec![in alloc; ("a", first), ("b", second), ("c", third)]?)
 }
 
-// One column.
-fn one(alloc: Global, column: ArrayRef) -> Result<Vec<ArrayRef>, VortexError>
-    ensures { Gives result (λ columns. columns.items ≡ column ∷ []) }
-{
-    let mut columns = Vec::with_capacity(alloc, 1)?;
-    columns.push(column)?;
-    Ok(columns)
-}
-
 // Three records of one column, which is asked to have three rows.
 fn asked(alloc: Global, column: ArrayRef) -> Result<StructArray, VortexError>
     requires { tree_len column ≡ 3 }
 {
     let names = FieldNames::try_new(alloc, &["a"])?;
-    let columns = one(alloc, column)?;
+    let columns = one_column(alloc, column)?;
     let items = Boasting {
         items: columns.into_iter(),
     };

@@ -1,5 +1,4 @@
-// Two lists of 280 elements in all, laid end to end in each way, over elements that are copied in
-// ranges and over such that are not.
+// Two lists of 280 elements in all, laid end to end in each way, over texts and over records.
 
 use super::has_ranges;
 use std::alloc::Global;
@@ -95,14 +94,6 @@ fn are_texts(alloc: Global, array: &ArrayRef) -> Result<bool, VortexError> {
         }
     }
     Ok(true)
-}
-
-#[test]
-fn numbers_are_copied(rt: HostRuntime) {
-    for made in laid_out(rt.alloc(), numbers(rt.alloc()).expect(&rt, "made")).expect(&rt, "made") {
-        assert!(rt; made.is_zero_copy_to_list() && has_ranges(&made, &[(0, 150), (150, 130)]));
-        assert!(rt; are_numbers(made.elements()));
-    }
 }
 
 #[test]

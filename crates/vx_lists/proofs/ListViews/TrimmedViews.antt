@@ -1,5 +1,5 @@
 -- A list view over a part of its elements.
-use Rattle.std.proofs.Common.{◌≡◌, ℕ, zero, suc, ◌+◌, ◌-◌, ◌<◌, ◌≤◌, Bool, true, false, cond, List, [], ◌∷◌, length, map, get_or, refl, sym, ◌∙◌, ap, subst, add-zero, arith}
+use Rattle.std.proofs.Common.{◌≡◌, ℕ, ◌+◌, ◌-◌, ◌<◌, ◌≤◌, Bool, true, false, cond, List, [], ◌∷◌, length, map, get_or, refl, sym, ◌∙◌, ap, subst, arith}
 use Rattle.std.specs.Prelude.{pos, slice_range}
 use Rattle.std.specs.List.{All, range_with_len}
 use Rattle.std.proofs.lemmas.List.{length-map, get_or-map}
@@ -14,25 +14,12 @@ use Rattle.vx_tree.specs.Layouts.{is_constant}
 use Rattle.vx_tree.specs.Meaning.{tree_len, kind_of, row_at, rows, rows_range, is_valid_at, nullable}
 use Rattle.vx_tree.specs.Formed.{IsCounts, IsListView, ValidFits, WellFormed}
 use Rattle.vx_tree.specs.Operations.{IsSlice}
+use Rattle.vx_tree.proofs.FixedLists.{rows_range-same}
 use Rattle.vx_lists.specs.ListViews.References.{start_of, end_of, IsTrimmed}
 use Rattle.vx_lists.specs.ListViews.{counts_in, IsCountArray}
 use Rattle.vx_lists.proofs.ListViews.PlannedNumbers.{Holds-below}
 use Rattle.vx_lists.proofs.ListViews.RebuiltViews.{plain_kind}
 use Rattle.vx_lists.proofs.ListViews.ViewLayouts.{length-counts_in, get_or-counts_in}
-
--- the same rows from another place on
-rows_range-moved : (f g : ℕ → Row) (a b n : ℕ) → ((j : ℕ) → j < n → f (a + j) ≡ g (b + j)) → rows_range f a n ≡ rows_range g b n
-rows_range-moved f g a b zero same = refl
-rows_range-moved f g a b (suc n) same =
-    let first : f a ≡ g b = rw (← add-zero a, ← add-zero b) (same 0 (omega arith)) in
-    let rest : rows_range f (suc a) n ≡ rows_range g (suc b) n = rows_range-moved f g (suc a) (suc b) n step in
-    cc
-  where
-    step : (j : ℕ) → j < n → f (suc a + j) ≡ g (suc b + j)
-    step j inside =
-        let left : suc a + j ≡ a + (j + 1) = omega arith in
-        let right : suc b + j ≡ b + (j + 1) = omega arith in
-        rw (left, right) (same (j + 1) (omega arith))
 
 module _ (t e o s : Tree) (v : Valid) (f : Bool) (same : t ≡ list_view e o s v f) (formed : WellFormed (list_view e o s v f)) (start end : ℕ) (starts : (i : ℕ) → i < tree_len t → start ≤ start_of t i) (ends : (i : ℕ) → i < tree_len t → end_of t i ≤ end) (e' o' : Tree) (p : PType) (sliced : IsSlice e start (end - start) e') (o_is : IsCountArray p (map (λ n. n - start) (counts_in o)) o') where
   good : IsListView e o s f
@@ -75,7 +62,7 @@ module _ (t e o s : Tree) (v : Valid) (f : Bool) (same : t ≡ list_view e o s v
       let low : start ≤ count_in (row_at o i) = below i inside in
       let high : count_in (row_at o i) + count_in (row_at s i) ≤ end = above i inside in
       ap (λ a. rows_range (row_at e') a (count_in (row_at s i))) (lowered_at i inside)
-      ∙ rows_range-moved (row_at e') (row_at e) (count_in (row_at o i) - start) (count_in (row_at o i)) (count_in (row_at s i)) (λ j within.
+      ∙ rows_range-same (row_at e') (row_at e) (count_in (row_at o i) - start) (count_in (row_at o i)) (count_in (row_at s i)) (λ j within.
       let place : start + (count_in (row_at o i) - start + j) ≡ count_in (row_at o i) + j = omega arith in
       sliced.rows (count_in (row_at o i) - start + j) (omega arith) ∙ ap (row_at e) place)
 

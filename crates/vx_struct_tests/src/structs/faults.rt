@@ -1,10 +1,10 @@
 // Parts of records that are refused.
 
-use super::{both, one, two_records};
+use super::{both, two_records};
 use std::alloc::Global;
 use vx_base::{FieldNames, VortexError};
 use vx_structs::{StructArray, StructArrayExt};
-use vx_test_help::{bools, ints, valid_where};
+use vx_test_help::{bools, ints, one_column, valid_where};
 use vx_tree::{ArrayRef, Validity};
 
 // How two records of these names and of one column of these numbers are refused.
@@ -15,7 +15,7 @@ fn fault_of(
     validity: Validity,
 ) -> Result<Option<VortexError>, VortexError> {
     let names = FieldNames::try_new(alloc, names)?;
-    let columns = one(alloc, ints(alloc, numbers)?)?;
+    let columns = one_column(alloc, ints(alloc, numbers)?)?;
     match StructArray::try_new(alloc, names, columns.into_iter(), 2, validity) {
         Ok(_) => Ok(None),
         Err(fault) => Ok(Some(fault)),
@@ -106,7 +106,7 @@ fn columns_of_data_types(rt: HostRuntime) {
 #[test]
 fn columns_of_data_types_are_counted(rt: HostRuntime) {
     let numbers = Validity::Array(ints::<u8>(rt.alloc(), &[1]).expect(&rt, "made"));
-    let columns = one(rt.alloc(), ints::<i8>(rt.alloc(), &[1]).expect(&rt, "made")).expect(
+    let columns = one_column(rt.alloc(), ints::<i8>(rt.alloc(), &[1]).expect(&rt, "made")).expect(
         &rt, "made",
     );
     let fault = typed_fault_of(rt.alloc(), columns, numbers).expect(&rt, "made");

@@ -1,30 +1,8 @@
 // Validities that are made of others, on values worked out by hand.
 
-ghost use Rattle.std.specs.Prelude.{◌≡◌, IfOk};
-ghost use Rattle.vx_tree.specs.Formed.{IsLenOf};
-ghost use Rattle.vx_tree.specs.Parts.{valid_of};
-ghost use Rattle.vx_tree.specs.Tree.{bools, by_array, non_nullable};
-
-use super::validities::expect_valid;
-use std::alloc::Global;
-use vx_base::{BitBuffer, Mask, Nullability, PType, Scalar, VortexError};
+use super::validities::{expect_valid, not_of_booleans, valid};
+use vx_base::{Mask, Nullability, Scalar, VortexError};
 use vx_tree::{ArrayRef, Layout, Validity};
-
-// Valid where the boolean is true.
-fn valid(alloc: Global, values: &[bool]) -> Result<Validity, VortexError>
-    ensures { IfOk result (λ v. valid_of v ≡ by_array (bools 0 values.now non_nullable)) }
-{
-    let bits = BitBuffer::from_bools(alloc, values)?;
-    Ok(Validity::Array(ArrayRef::bools(alloc, bits, Validity::NonNullable)?))
-}
-
-// A validity array of two rows of another data type.
-fn not_of_booleans(alloc: Global) -> Result<Validity, VortexError>
-    ensures { IfOk result (λ v. IsLenOf (valid_of v) 2) }
-{
-    let scalar = Scalar::int(1, PType::U8, Nullability::NonNullable);
-    Ok(Validity::Array(ArrayRef::constant(alloc, scalar, 2)?))
-}
 
 // ---- joined
 

@@ -17,14 +17,14 @@ use vx_tree::{
 // ---- validities and indices
 
 // Valid where the boolean is true.
-fn valid(alloc: Global, values: &[bool]) -> Result<Validity, VortexError>
+pub(crate) fn valid(alloc: Global, values: &[bool]) -> Result<Validity, VortexError>
     ensures { IfOk result (λ v. valid_of v ≡ by_array (bools 0 values.now non_nullable)) }
 {
     Ok(Validity::Array(bools(alloc, values)?))
 }
 
 // A validity array of two rows of another data type.
-fn not_of_booleans(alloc: Global) -> Result<Validity, VortexError>
+pub(crate) fn not_of_booleans(alloc: Global) -> Result<Validity, VortexError>
     ensures { IfOk result (λ v. IsLenOf (valid_of v) 2) }
 {
     let scalar = Scalar::int(1, PType::U8, Nullability::NonNullable);

@@ -158,8 +158,11 @@ fn fast_path_large_offsets(rt: HostRuntime) {
 fn fast_path_taken_at_exact_boundary(rt: HostRuntime) {
     let values: [&[u8]; 2] = [b"this value is definitely long", b"and so is this one here"];
     let made = built(rt.alloc(), &values, 0, 52).expect(&rt, "made");
-    assert_eq!(rt; made.0.len(), 1);
+    assert!(rt; made.0.len() == 1 && made.1.len() == 2);
+    assert_eq!(rt; made.0[0].len(), 52);
     assert!(rt; stand_for(&made, 0, &values));
+    assert!(rt; made.1.value(0) == BinaryView::make_view(values[0], 0, 0));
+    assert!(rt; made.1.value(1) == BinaryView::make_view(values[1], 0, 29));
 }
 
 // Four values, the longest of thirty bytes.
@@ -195,21 +198,32 @@ fn fast_path_matches_make_view(rt: HostRuntime) {
     assert!(rt; views.value(2) == BinaryView::make_view(values[2], 0, 36));
 }
 
-// That a buffer shares the heap cannot be asked here; the buffer is the part of the heap that the
-// offsets name.
+// The view of the first 32 bytes of buffer 5, which begin with `a lo`:
+// `20000000 61206c6f 05000000 00000000`.
+const FIRST: u128 = 0x00000000_00000005_6f6c2061_00000020;
+
+// The views of the values between these offsets into a heap, in buffers of at most `limit` bytes.
+fn built_by_offsets(alloc: Global, limit: usize) -> Result<Built, VortexError> {
+    let heap = ByteBuffer::copy_from(alloc, b"..a long value that is referenced!tiny..")?;
+    build_views_from_offsets(alloc, 5, limit, heap, &[2u32, 34, 38])
+}
+
+// Upstream's limit is the greatest; one of 40 bytes gives the same. That a buffer shares the heap
+// cannot be asked here; the buffer is the part of the heap that the offsets name.
 #[test]
 fn from_offsets_matches_lengths_and_is_zero_copy(rt: HostRuntime) {
-    let heap = ByteBuffer::copy_from(
-        rt.alloc(),
-        b"..a long value that is referenced!tiny..",
-    ).expect(&rt, "made");
-    let offsets = [2u32, 34, 38];
-    let made = build_views_from_offsets(rt.alloc(), 5, MAX_BUFFER_LEN, heap, &offsets).expect(
-        &rt, "made",
-    );
-    assert!(rt; made.0.len() == 1 && made.0[0].len() == 36);
     let values: [&[u8]; 2] = [b"a long value that is referenced!", b"tiny"];
-    assert!(rt; stand_for(&made, 5, &values));
+    for limit in [MAX_BUFFER_LEN, 40] {
+        let made = built_by_offsets(rt.alloc(), limit).expect(&rt, "made");
+        assert!(rt; made.0.len() == 1 && made.1.len() == 2);
+        assert_eq!(rt;
+            made.0[0].as_slice(),
+            b"a long value that is referenced!tiny".as_slice()
+        );
+        assert!(rt; stand_for(&made, 5, &values));
+        assert_eq!(rt; made.1.value(0).as_u128(), FIRST);
+        assert!(rt; made.1.value(1) == BinaryView::make_view(values[1], 0, 0));
+    }
 }
 
 // Upstream panics.
@@ -221,6 +235,9 @@ fn short_lengths_panic(rt: HostRuntime) {
     let made = build_views(rt.alloc(), 0, MAX_BUFFER_LEN, heap, &[31u32]);
     assert!(rt; matches!(made, Err(VortexError::LengthsNotExact)));
 }
+
+// The view of thirteen times `c` at the start of buffer 1: `0d000000 63636363 01000000 00000000`.
+const THIRD: u128 = 0x00000000_00000001_63636363_0000000d;
 
 #[test]
 fn test_to_canonical_large(rt: HostRuntime) {
@@ -237,6 +254,7 @@ fn test_to_canonical_large(rt: HostRuntime) {
     assert!(rt; views.value(1) == BinaryView::make_view(values[1], 0, 13));
     assert!(rt; views.value(2) == BinaryView::make_view(values[2], 1, 0));
     assert!(rt; views.value(3) == BinaryView::make_view(values[3], 1, 13));
+    assert_eq!(rt; views.value(2).as_u128(), THIRD);
 }
 
 // Upstream panics past 2147483647; here the greatest limit is 4294967295.

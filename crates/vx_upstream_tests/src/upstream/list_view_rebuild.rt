@@ -77,6 +77,15 @@ fn test_rebuild_flatten_with_nullable(rt: HostRuntime) {
     );
 }
 
+// Lists laid end to end by `rebuild`, as upstream does it, and by each of its two ways.
+fn laid_out(alloc: Global, lists: &ListViewArray) -> Result<[ListViewArray; 3], VortexError> {
+    Ok([
+        lists.rebuild(alloc, ListViewRebuildMode::MakeZeroCopyToList)?,
+        lists.rebuild_by_take(alloc)?,
+        lists.rebuild_by_runs(alloc)?,
+    ])
+}
+
 #[test]
 fn test_rebuild_flatten_null_row_uses_valid_empty_range(rt: HostRuntime) {
     let alloc = rt.alloc();
@@ -84,19 +93,19 @@ fn test_rebuild_flatten_null_row_uses_valid_empty_range(rt: HostRuntime) {
     let lists = view::<u32, u32>(alloc, &[1, 2, 3, 4], &[0, 1, 2], &[1, 2, 2], validity).expect(
         &rt, "made",
     );
-    let flat = lists
-        .rebuild(alloc, ListViewRebuildMode::MakeZeroCopyToList)
-        .expect(&rt, "made");
-    assert!(rt;
-        is_list(alloc, &flat, 0, 0, &[1]).expect(&rt, "made")
-            && is_list(alloc, &flat, 1, 1, &[]).expect(&rt, "made")
-    );
-    assert!(rt; is_list(alloc, &flat, 2, 1, &[3, 4]).expect(&rt, "made"));
-    assert!(rt;
-        is_valid(alloc, &flat, 0).expect(&rt, "made")
-            && !is_valid(alloc, &flat, 1).expect(&rt, "made")
-    );
-    assert!(rt; is_valid(alloc, &flat, 2).expect(&rt, "made"));
+    for flat in laid_out(alloc, &lists).expect(&rt, "made") {
+        assert!(rt; flat.len() == 3 && has_numbers(flat.elements(), &[1, 3, 4]));
+        assert!(rt;
+            is_list(alloc, &flat, 0, 0, &[1]).expect(&rt, "made")
+                && is_list(alloc, &flat, 1, 1, &[]).expect(&rt, "made")
+        );
+        assert!(rt; is_list(alloc, &flat, 2, 1, &[3, 4]).expect(&rt, "made"));
+        assert!(rt;
+            is_valid(alloc, &flat, 0).expect(&rt, "made")
+                && !is_valid(alloc, &flat, 1).expect(&rt, "made")
+        );
+        assert!(rt; is_valid(alloc, &flat, 2).expect(&rt, "made"));
+    }
 }
 
 #[test]
@@ -123,41 +132,28 @@ fn counted(alloc: Global, start: i32, end: i32) -> Result<Vec<i128>, VortexError
     Ok(numbers)
 }
 
+// The elements 10 to 160, and 0 to 130, of the numbers from 0 up to 300.
+fn two_large_lists(alloc: Global) -> Result<ListViewArray, VortexError> {
+    let mut elements = Vec::new(alloc);
+    for number in 0i32..300 {
+        elements.push(number)?;
+    }
+    let validity = Validity::NonNullable;
+    view::<u32, u32>(alloc, &elements, &[10, 0], &[150, 130], validity)
+}
+
 #[test]
 fn test_rebuild_flatten_large_lists_with_piecewise_indices(rt: HostRuntime) {
     let alloc = rt.alloc();
-    let mut elements = Vec::new(alloc);
-    for number in 0i32..300 {
-        elements.push(number).expect(&rt, "made");
+    let lists = two_large_lists(alloc).expect(&rt, "made");
+    let first = counted(alloc, 10, 160).expect(&rt, "made");
+    let second = counted(alloc, 0, 130).expect(&rt, "made");
+    for flat in laid_out(alloc, &lists).expect(&rt, "made") {
+        assert!(rt; flat.len() == 2 && flat.is_zero_copy_to_list());
+        assert_eq!(rt; flat.elements().len(), 280);
+        assert!(rt; is_list(alloc, &flat, 0, 0, &first).expect(&rt, "made"));
+        assert!(rt; is_list(alloc, &flat, 1, 150, &second).expect(&rt, "made"));
     }
-    let validity = Validity::NonNullable;
-    let lists = view::<u32, u32>(alloc, &elements, &[10, 0], &[150, 130], validity).expect(
-        &rt, "made",
-    );
-    let flat = lists
-        .rebuild(alloc, ListViewRebuildMode::MakeZeroCopyToList)
-        .expect(&rt, "made");
-    assert_eq!(rt; flat.elements().len(), 280);
-    assert!(rt;
-        is_list(
-            alloc,
-            &flat,
-            0,
-            0,
-            &counted(alloc, 10, 160).expect(&rt, "made")
-        )
-        .expect(&rt, "made")
-    );
-    assert!(rt;
-        is_list(
-            alloc,
-            &flat,
-            1,
-            150,
-            &counted(alloc, 0, 130).expect(&rt, "made")
-        )
-        .expect(&rt, "made")
-    );
 }
 
 #[test]

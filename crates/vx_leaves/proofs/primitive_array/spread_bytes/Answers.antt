@@ -3,7 +3,8 @@ use Rattle.std.specs.Prelude.{IfOk}
 use Rattle.vx_base.specs.Integers.{byte_width}
 use Rattle.vx_tree.specs.Meaning.{valid_mask}
 use Rattle.vx_tree.specs.Parts.{valid_of}
-use Rattle.vx_leaves.proofs.ValueRows.{count_room, length-valid_mask, short_is}
+use Rattle.vx_tree.proofs.RowLists.{length-valid_mask}
+use Rattle.vx_leaves.proofs.ValueRows.{count_room, short_is}
 use Rattle.vx_leaves.proofs.primitive_array.spread_bytes.Goals as goal
 
 pub overflow_mul-needed : goal.overflow_mul-needed

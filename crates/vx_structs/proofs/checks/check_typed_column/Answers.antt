@@ -1,7 +1,7 @@
 use Rattle.std.proofs.Common.{refl, sym, subst}
 use Rattle.vx_base.specs.DTypes.{dtype_meaning}
 use Rattle.vx_base.specs.Refusals.{Tests}
-use Rattle.vx_structs.proofs.Records.Faults.{typed_column_fault-same, typed_column_fault-other}
+use Rattle.vx_structs.proofs.Structs.Faults.{typed_column_fault-same, typed_column_fault-other}
 use Rattle.vx_structs.proofs.checks.check_typed_column.Goals as goal
 
 pub returns-then-ne : goal.returns-then-ne

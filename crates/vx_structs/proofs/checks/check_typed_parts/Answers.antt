@@ -7,7 +7,7 @@ use Rattle.vx_tree.specs.Parts.{valid_of}
 use Rattle.vx_tree.specs.Formed.{WellFormed}
 use Rattle.vx_structs.specs.Structs.Faults.{typed_columns_fault, typed_struct_fault}
 use Rattle.vx_structs.specs.Structs.{records_by}
-use Rattle.vx_structs.proofs.Records.Faults.{where_faultless, typed_parts_formed, typed_parts_tested, dtypes_counted, length_fault-none}
+use Rattle.vx_structs.proofs.Structs.Faults.{where_faultless, typed_parts_formed, typed_parts_tested, dtypes_counted, length_fault-none}
 use Rattle.vx_structs.proofs.checks.check_typed_parts.Goals as goal
 
 pub check_typed_columns-requires : goal.check_typed_columns-requires

@@ -11,7 +11,7 @@ use Rattle.vx_base.specs.declared.errors.VortexError.{VortexError}
 use Rattle.vx_base.specs.declared.errors.VortexError.TheVariants.{UnknownField}
 use Rattle.vx_structs.specs.Structs.Faults.{names_fault}
 use Rattle.vx_structs.specs.Structs.{column_at_place}
-use Rattle.vx_structs.proofs.Records.Columns.{AreFound-more, names_fault-at, names_fault-more}
+use Rattle.vx_structs.proofs.Structs.Columns.{AreFound-more, names_fault-at, names_fault-more}
 use Rattle.vx_structs.proofs.columns.columns_named.Goals as goal
 
 missing_place : (place : Option ℕ) (e : VortexError) → ok_or place UnknownField ≡ Err e → (place ≡ None) × (e ≡ UnknownField)

@@ -4,7 +4,7 @@ use Rattle.std.proofs.lemmas.Result.{err_from_is_err_and}
 use Rattle.vx_base.specs.Refusals.{IsMemoryOr}
 use Rattle.vx_canonical.specs.Concatenated.{concat_fault}
 use Rattle.vx_structs.specs.Structs.{arrays_of, is_struct, AreConcatenated}
-use Rattle.vx_structs.proofs.Records.JoinedColumns.{records_made, columns_concatenated}
+use Rattle.vx_structs.proofs.Structs.JoinedColumns.{records_made, columns_concatenated}
 use Rattle.vx_structs.proofs.concat.concat_all.Goals as goal
 
 pub returns-in_err-joined-clause-refuses : goal.returns-in_err-joined-clause-refuses

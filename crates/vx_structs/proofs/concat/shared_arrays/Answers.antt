@@ -2,7 +2,7 @@ use Rattle.std.proofs.Common.{◌≡◌, true, ap, ◌∙◌}
 use Rattle.std.proofs.lemmas.List.{take_all}
 use Rattle.std.proofs.lemmas.List.Elements.{All-push}
 use Rattle.vx_structs.specs.Structs.{arrays_of, is_struct}
-use Rattle.vx_structs.proofs.Records.JoinedColumns.{shared-more}
+use Rattle.vx_structs.proofs.Structs.JoinedColumns.{shared-more}
 use Rattle.vx_structs.proofs.concat.shared_arrays.Goals as goal
 
 pub loop-array-preserved : goal.loop-array-preserved

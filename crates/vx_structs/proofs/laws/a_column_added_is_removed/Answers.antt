@@ -1,4 +1,4 @@
-use Rattle.vx_structs.proofs.Records.ColumnRows.{added_is_removed}
+use Rattle.vx_structs.proofs.Structs.ColumnRows.{added_is_removed}
 use Rattle.vx_structs.proofs.laws.a_column_added_is_removed.Goals as goal
 
 pub returns : goal.returns

@@ -1,6 +1,6 @@
 use Rattle.std.proofs.Common.{length, sym, ap, ◌∙◌}
 use Rattle.vx_tree.specs.Parts.{valid_of}
-use Rattle.vx_leaves.proofs.ValueRows.{length-valid_mask}
+use Rattle.vx_tree.proofs.RowLists.{length-valid_mask}
 use Rattle.vx_leaves.proofs.bool_ext.BoolArrayBoolArrayExt.to_mask_fill_null_false.Goals as goal
 
 pub and-requires : goal.and-requires

@@ -2,7 +2,7 @@ use Rattle.std.proofs.Common.{sym, ap, ◌∙◌, subst}
 use Rattle.vx_tree.specs.Formed.{WellFormed}
 use Rattle.vx_tree.specs.Parts.{valid_of}
 use Rattle.vx_structs.specs.Structs.{is_struct}
-use Rattle.vx_structs.proofs.Records.FieldsOfRecords.{IsField-found, shared_is_pushed, nulled_is_pushed, rows-field, kind_of-field, field_fits}
+use Rattle.vx_structs.proofs.Structs.FieldsOfRecords.{IsField-found, shared_is_pushed, nulled_is_pushed, rows-field, kind_of-field, field_fits}
 use Rattle.vx_structs.proofs.array.StructArray.field.Goals as goal
 
 pub returns-then-definitely_no_nulls-clause-rows : goal.returns-then-definitely_no_nulls-clause-rows

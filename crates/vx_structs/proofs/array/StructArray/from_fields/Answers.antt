@@ -2,7 +2,7 @@ use Rattle.std.proofs.Common.{◌≡◌, map, take, ap, ◌∙◌}
 use Rattle.std.proofs.lemmas.List.{take_all}
 use Rattle.std.proofs.lemmas.Result.{IfOk-weaker}
 use Rattle.vx_tree.specs.Tree.{non_nullable}
-use Rattle.vx_structs.proofs.Records.NamedColumns.{records_of_fields}
+use Rattle.vx_structs.proofs.Structs.NamedColumns.{records_of_fields}
 use Rattle.vx_structs.proofs.array.StructArray.from_fields.Goals as goal
 
 pub returns-clause-parts : goal.returns-clause-parts

@@ -1,6 +1,6 @@
 use Rattle.std.proofs.Common.{sym, ap, ◌∙◌}
 use Rattle.vx_structs.specs.Structs.Faults.{column_lens_fault}
-use Rattle.vx_structs.proofs.Records.Faults.{columns_fit}
+use Rattle.vx_structs.proofs.Structs.Faults.{columns_fit}
 use Rattle.vx_structs.proofs.array.StructArray.of_columns.Goals as goal
 
 pub structure-requires-clause-columns : goal.structure-requires-clause-columns

@@ -2,7 +2,7 @@ use Rattle.std.proofs.Common.{◌≡◌, rules}
 use Rattle.vx_tree.specs.Meaning.{trees_from}
 use Rattle.vx_tree.specs.Parts.{valid_of}
 use Rattle.vx_tree.specs.Tree.{structure}
-use Rattle.vx_structs.proofs.Records.Parts.{columns_of-parts}
+use Rattle.vx_structs.proofs.Structs.Parts.{columns_of-parts}
 use Rattle.vx_structs.proofs.array.StructArray.parts.Goals as goal
 
 pub returns-clause-columns : goal.returns-clause-columns

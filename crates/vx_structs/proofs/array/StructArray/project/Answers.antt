@@ -4,14 +4,14 @@ use Rattle.vx_base.proofs.Refused.{Gives-IfOk}
 use Rattle.vx_tree.specs.Formed.{IsStruct, WellFormed}
 use Rattle.vx_tree.specs.Meaning.{tree_len, trees_from}
 use Rattle.vx_tree.specs.Tree.{Tree}
+use Rattle.vx_tree.proofs.Columns.{column_count-trees_from}
 use Rattle.vx_structs.specs.Structs.Faults.{names_fault}
 use Rattle.vx_structs.specs.Structs.{is_struct, names_of, with_columns, AreNamed, IsProjected}
-use Rattle.vx_structs.proofs.Records.Parts.{column_count-from}
-use Rattle.vx_structs.proofs.Records.ColumnRows.{AreNamed-from_found, projected_fits, projected_rows, projected_kind_of}
+use Rattle.vx_structs.proofs.Structs.ColumnRows.{AreNamed-from_found, projected_fits, projected_rows, projected_kind_of}
 use Rattle.vx_structs.proofs.array.StructArray.project.Goals as goal
 
 pub columns_named-requires : goal.columns_named-requires
-columns_named-requires c = c.parts-parts.ensures.formed.1.named ∙ column_count-from c.parts-parts.result.columns.now
+columns_named-requires c = c.parts-parts.ensures.formed.1.named ∙ column_count-trees_from c.parts-parts.result.columns.now
 
 pub with_columns-requires : goal.with_columns-requires
 with_columns-requires c =

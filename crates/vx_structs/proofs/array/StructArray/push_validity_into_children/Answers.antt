@@ -1,6 +1,6 @@
 use Rattle.std.proofs.Common.{◌∙◌}
 use Rattle.vx_tree.specs.Parts.{valid_of}
-use Rattle.vx_structs.proofs.Records.PushedNulls.{pushed_validity_fits, pushed_columns_are_formed, pushed_records}
+use Rattle.vx_structs.proofs.Structs.PushedNulls.{pushed_validity_fits, pushed_columns_are_formed, pushed_records}
 use Rattle.vx_structs.proofs.array.StructArray.push_validity_into_children.Goals as goal
 
 pub structure-requires-clause-fits : goal.structure-requires-clause-fits

@@ -1,7 +1,7 @@
 use Rattle.std.proofs.Common.{sym, ◌∙◌}
 use Rattle.vx_base.proofs.Refused.{Gives-weaker}
 use Rattle.vx_tree.specs.Parts.{valid_of}
-use Rattle.vx_structs.proofs.Records.PushedNulls.{columns_fit, nulled_columns_are_pushed}
+use Rattle.vx_structs.proofs.Structs.PushedNulls.{columns_fit, nulled_columns_are_pushed}
 use Rattle.vx_structs.proofs.array.StructArray.pushed_columns.Goals as goal
 
 pub nulled_columns-requires : goal.nulled_columns-requires

@@ -5,8 +5,8 @@ use Rattle.vx_base.specs.Fields.{place_of_name}
 use Rattle.vx_tree.specs.Formed.{WellFormed}
 use Rattle.vx_tree.specs.Parts.{valid_of}
 use Rattle.vx_structs.specs.Structs.{is_struct, names_of, columns_of, with_columns}
-use Rattle.vx_structs.proofs.Records.Parts.{place_of_column}
-use Rattle.vx_structs.proofs.Records.ColumnRows.{names_of_columns, removed_fits, removed-found, removed_rows, removed_kind}
+use Rattle.vx_structs.proofs.Structs.Parts.{place_of_column}
+use Rattle.vx_structs.proofs.Structs.ColumnRows.{names_of_columns, removed_fits, removed-found, removed_rows, removed_kind}
 use Rattle.vx_structs.proofs.array.StructArray.remove_column.Goals as goal
 
 pub columns_without-requires : goal.columns_without-requires

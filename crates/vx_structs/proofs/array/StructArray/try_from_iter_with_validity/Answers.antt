@@ -5,8 +5,8 @@ use Rattle.vx_base.specs.Refusals.{Refuses}
 use Rattle.vx_tree.specs.Parts.{valid_of}
 use Rattle.vx_structs.specs.Structs.Faults.{first_fault_of}
 use Rattle.vx_structs.specs.Structs.{first_len, named_columns, records_by}
-use Rattle.vx_structs.proofs.Records.NamedColumns.{records_of_fields}
-use Rattle.vx_structs.proofs.Records.Faults.{made_of_items, faulty_items}
+use Rattle.vx_structs.proofs.Structs.NamedColumns.{records_of_fields}
+use Rattle.vx_structs.proofs.Structs.Faults.{made_of_items, faulty_items}
 use Rattle.vx_structs.proofs.array.StructArray.try_from_iter_with_validity.Goals as goal
 
 pub returns-clause-ok : goal.returns-clause-ok

@@ -6,7 +6,7 @@ use Rattle.vx_tree.specs.Faults.{length_fault}
 use Rattle.vx_tree.specs.Formed.{WellFormed}
 use Rattle.vx_tree.specs.Meaning.{tree_len}
 use Rattle.vx_structs.specs.Structs.{is_struct, names_of, columns_of}
-use Rattle.vx_structs.proofs.Records.ColumnRows.{names_of_columns, added_fits, added_rows, added_kind}
+use Rattle.vx_structs.proofs.Structs.ColumnRows.{names_of_columns, added_fits, added_rows, added_kind}
 use Rattle.vx_structs.proofs.array.StructArray.with_column.Goals as goal
 
 pub with_columns-requires : goal.with_columns-requires

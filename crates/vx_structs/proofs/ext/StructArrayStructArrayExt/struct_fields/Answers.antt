@@ -3,7 +3,7 @@ use Rattle.vx_base.specs.DTypes.{dtype_meaning, field_names, field_kinds}
 use Rattle.vx_base.specs.Kinds.{is_nullable_kind}
 use Rattle.vx_tree.specs.Layouts.{is_struct}
 use Rattle.vx_tree.specs.Meaning.{kind_of}
-use Rattle.vx_structs.proofs.Records.Parts.{field_kinds_are}
+use Rattle.vx_structs.proofs.Structs.Parts.{field_kinds_are}
 use Rattle.vx_structs.proofs.ext.StructArrayStructArrayExt.struct_fields.Goals as goal
 
 pub returns-clause-kinds : goal.returns-clause-kinds

@@ -1,6 +1,6 @@
 use Rattle.std.proofs.Common.{◌<◌, length, sym, subst, ◌∙◌}
 use Rattle.vx_tree.specs.Parts.{valid_of}
-use Rattle.vx_structs.proofs.Records.Parts.{place_of_column}
+use Rattle.vx_structs.proofs.Structs.Parts.{place_of_column}
 use Rattle.vx_structs.proofs.ext.StructArrayStructArrayExt.unmasked_field_by_name.Goals as goal
 
 pub unmasked_field-requires : goal.unmasked_field-requires

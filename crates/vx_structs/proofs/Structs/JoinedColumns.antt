@@ -15,7 +15,7 @@ use Rattle.vx_canonical.specs.Concatenated.{concat_fault, HasNumbersOf}
 use Rattle.vx_canonical.proofs.CanonicalArrays.{rows_canonical}
 use Rattle.vx_canonical.proofs.Concatenated.{rows_joined}
 use Rattle.vx_structs.specs.Structs.{arrays_of, columns_of, is_struct}
-use Rattle.vx_structs.proofs.Records.Parts.{length-list}
+use Rattle.vx_structs.proofs.Structs.Parts.{length-list}
 
 -- ---- arrays that are lent
 

@@ -10,6 +10,7 @@ use Rattle.vx_tree.specs.Tree.{Tree, Trees, no_trees, tree, structure, Valid}
 use Rattle.vx_tree.specs.Layouts.{is_struct}
 use Rattle.vx_tree.specs.Meaning.{tree_len, kind_of, kinds_of, trees_from}
 use Rattle.vx_tree.specs.Formed.{AllLen, WellFormed, column_count}
+use Rattle.vx_tree.proofs.Columns.{column_count-trees_from}
 use Rattle.vx_canonical.proofs.JoinedParts.{columns-kinds}
 use Rattle.vx_structs.specs.Structs.{column_list, columns_of}
 
@@ -21,12 +22,8 @@ pub trees_from-list : (columns : Trees) → trees_from (column_list columns) ≡
 trees_from-list no_trees = refl
 trees_from-list (tree t ts) = ap (tree t) (trees_from-list ts)
 
-pub column_count-from : (columns : List Tree) → column_count (trees_from columns) ≡ length columns
-column_count-from [] = refl
-column_count-from (t ∷ ts) = omega (arith, column_count-from ts)
-
 pub length-list : (columns : Trees) → length (column_list columns) ≡ column_count columns
-length-list columns = sym (column_count-from (column_list columns)) ∙ ap column_count (trees_from-list columns)
+length-list columns = sym (column_count-trees_from (column_list columns)) ∙ ap column_count (trees_from-list columns)
 
 pub each_len : (n : ℕ) (columns : List Tree) → AllLen n (trees_from columns) → All (λ t. tree_len t ≡ n) columns
 each_len n [] lens = All-nil (λ t. tree_len t ≡ n)
@@ -51,4 +48,4 @@ pub place_of_column : (names : List (List ℕ)) (columns : List Tree) (v : Valid
     → WellFormed (structure names (trees_from columns) v n) → place_of_name names name ≡ Some place → place < length columns
 place_of_column names columns v n name place formed found =
     let inside = (position-Some (λ other. bytes_eq other name) names place [] found).0 in
-    omega (arith, inside, formed.1.named, column_count-from columns)
+    omega (arith, inside, formed.1.named, column_count-trees_from columns)

@@ -19,7 +19,7 @@ use Rattle.vx_tree.proofs.RowLists.{rows_by_place}
 use Rattle.vx_tree.specs.Slots.{validity_of}
 use Rattle.vx_structs.specs.Structs.Records.{null_fields, or_nulls, pushed, nullable_kinds}
 use Rattle.vx_structs.specs.Structs.{column_list, columns_of, is_struct, ArePushed, IsPushed, pushed_validity}
-use Rattle.vx_structs.proofs.Records.Parts.{column_list-from, trees_from-list, length-list, each_len}
+use Rattle.vx_structs.proofs.Structs.Parts.{column_list-from, trees_from-list, length-list, each_len}
 
 -- ---- what a validity tells
 

@@ -12,9 +12,9 @@ use Rattle.vx_tree.specs.Tree.{Tree, structure, Valid, non_nullable, all_valid, 
 use Rattle.vx_tree.specs.Validities.{is_full_state}
 use Rattle.vx_structs.specs.Structs.Records.{field_named, field_of, field_rows, kind_named, field_kind}
 use Rattle.vx_structs.specs.Structs.{column_list, column_named, is_struct, IsField, IsPushedColumn}
-use Rattle.vx_structs.proofs.Records.Columns.{field_named-found, kind_named-found, len_named-found}
-use Rattle.vx_structs.proofs.Records.Parts.{trees_from-list}
-use Rattle.vx_structs.proofs.Records.PushedNulls.{rows-mapped}
+use Rattle.vx_structs.proofs.Structs.Columns.{field_named-found, kind_named-found, len_named-found}
+use Rattle.vx_structs.proofs.Structs.Parts.{trees_from-list}
+use Rattle.vx_structs.proofs.Structs.PushedNulls.{rows-mapped}
 
 -- ---- a column, null where the records are
 

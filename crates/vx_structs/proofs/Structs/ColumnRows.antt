@@ -14,10 +14,11 @@ use Rattle.vx_tree.specs.Tree.{Tree, bools, primitive, constant, dictionary, fix
 use Rattle.vx_tree.specs.Meaning.{tree_len, kind_of, kinds_of, row_at, rows, fields_at, is_valid_at, nullable, trees_from}
 use Rattle.vx_tree.specs.Formed.{WellFormed, IsStruct}
 use Rattle.vx_tree.specs.Slots.{validity_of}
+use Rattle.vx_tree.proofs.Columns.{column_count-trees_from}
 use Rattle.vx_structs.specs.Structs.Records.{fields_named, with_field, without_field, on_fields, projected, with_column, without_column, projected_kind, kind_with_column, kind_without, kind_without_column}
 use Rattle.vx_structs.specs.Structs.{is_struct, names_of, columns_of, records_by, with_columns, column_at_place, column_named, AreNamed, IsProjected, added, removed_at, removed}
-use Rattle.vx_structs.proofs.Records.Parts.{column_list-from, trees_from-list, column_count-from}
-use Rattle.vx_structs.proofs.Records.Columns.{fields_named-found, kinds_named-found, lens_named-found, AreFound, fields_at-added, kinds_of-added, AllLen-added, fields_at-removed, kinds_of-removed, AllLen-removed, place_of_name-added, remove-last, slice_get-last}
+use Rattle.vx_structs.proofs.Structs.Parts.{column_list-from, trees_from-list}
+use Rattle.vx_structs.proofs.Structs.Columns.{fields_named-found, kinds_named-found, lens_named-found, AreFound, fields_at-added, kinds_of-added, AllLen-added, fields_at-removed, kinds_of-removed, AllLen-removed, place_of_name-added, remove-last, slice_get-last}
 
 -- ---- records are made of their parts
 
@@ -36,7 +37,7 @@ parts_formed : (t : Tree) → is_struct t ≡ true → WellFormed t → IsStruct
 parts_formed t is formed = let all : WellFormed (with_columns t (names_of t) (columns_of t)) = subst WellFormed (by_parts t is) formed in all.1
 
 pub names_of_columns : (t : Tree) → is_struct t ≡ true → WellFormed t → length (names_of t) ≡ length (columns_of t)
-names_of_columns t is formed = (parts_formed t is formed).named ∙ column_count-from (columns_of t)
+names_of_columns t is formed = (parts_formed t is formed).named ∙ column_count-trees_from (columns_of t)
 
 kind_of_parts : (t : Tree) → is_struct t ≡ true → kind_of t ≡ records (names_of t) (kinds_of (trees_from (columns_of t))) (nullable (validity_of t))
 kind_of_parts t is = ap kind_of (by_parts t is)
@@ -79,7 +80,7 @@ pub projected_fits : (t : Tree) (names : List (List ℕ)) (columns : List Tree) 
 projected_fits t names columns is formed found =
     let many : length columns ≡ length names = sym (length-map columns Some) ∙ ap length found ∙ length-map names (column_named t) in
     record {
-      named = sym many ∙ sym (column_count-from columns);
+      named = sym many ∙ sym (column_count-trees_from columns);
       lens = lens_named-found (names_of t) (columns_of t) names columns (tree_len t) found (parts_formed t is formed).lens;
     }
 
@@ -87,7 +88,7 @@ projected_fits t names columns is formed found =
 
 pub added_fits : (t : Tree) (name : List ℕ) (c : Tree) → is_struct t ≡ true → WellFormed t → tree_len c ≡ tree_len t → IsStruct (names_of t ++ name ∷ []) (trees_from (columns_of t ++ c ∷ [])) (tree_len t)
 added_fits t name c is formed same = record {
-  named = let many = names_of_columns t is formed in let names = length_push (names_of t) name in let columns = length_push (columns_of t) c in let count = column_count-from (columns_of t ++ c ∷ []) in omega arith;
+  named = let many = names_of_columns t is formed in let names = length_push (names_of t) name in let columns = length_push (columns_of t) c in let count = column_count-trees_from (columns_of t ++ c ∷ []) in omega arith;
   lens = AllLen-added (tree_len t) (columns_of t) c (parts_formed t is formed).lens same;
 }
 
@@ -122,7 +123,7 @@ removed_fits t k is formed inside = record {
       let many = names_of_columns t is formed in
       let names = length-remove (names_of t) k (omega arith) in
       let columns = length-remove (columns_of t) k inside in
-      let count = column_count-from (remove (columns_of t) k) in
+      let count = column_count-trees_from (remove (columns_of t) k) in
       omega arith;
   lens = AllLen-removed (tree_len t) (columns_of t) k (parts_formed t is formed).lens;
 }
