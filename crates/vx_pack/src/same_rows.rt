@@ -1,6 +1,6 @@
 // Whether parts of columns have the same rows: one recursion through data types.
 
-ghost use Rattle.std.specs.Prelude.{◌≡◌, ◌↔◌, ◌<◌, ℕ, true, IsTrue};
+ghost use Rattle.std.specs.Prelude.{◌≡◌, ◌↔◌, ◌<◌, ℕ, true, IfSome, IsTrue};
 ghost use Rattle.vx_base.specs.DTypes.{dtype_meaning, field_kinds, field_names};
 ghost use Rattle.vx_base.specs.Kinds.{is_records};
 ghost use Rattle.vx_pack.specs.Lists.{IsItemOf, is_lists};
@@ -49,8 +49,7 @@ fn same_by_kind(dtype: &DType, a: Part, b: Part) -> bool
     }
 }
 
-// Whether lists are the same: by their sizes, and the items of all, where they stand end to end on
-// both sides and none is null.
+// Whether lists are the same, one by one where they are not compared at once.
 #[cycle(same)]
 fn same_lists(dtype: &DType, a: Part, b: Part) -> bool
     requires lists { is_lists (dtype_meaning dtype.now) ≡ true }
@@ -59,37 +58,38 @@ fn same_lists(dtype: &DType, a: Part, b: Part) -> bool
     requires same_len { part_len b ≡ part_len a }
     ensures { IsTrue result ↔ AreSame (dtype_meaning dtype.now) a.entry b.entry }
 {
-    if a.len() < FEW {
-        return same_each_list(dtype, a, b);
+    if let Some(same) = same_joined_lists(dtype, a, b) {
+        return same;
     }
-    let Some((first, first_items)) = a.joined_lists() else {
-        return same_each_list(dtype, a, b);
-    };
-    let Some((second, second_items)) = b.joined_lists() else {
-        return same_each_list(dtype, a, b);
-    };
-    let items = items_of(dtype);
-    if !same_sizes(first.size_type, first.sizes, second.size_type, second.sizes) {
-        return false;
-    }
-    same_rows(items, first_items, second_items)
-}
-
-// The same, one by one.
-#[cycle(same)]
-fn same_each_list(dtype: &DType, a: Part, b: Part) -> bool
-    requires lists { is_lists (dtype_meaning dtype.now) ≡ true }
-    requires first { IsPart (dtype_meaning dtype.now) a }
-    requires second { IsPart (dtype_meaning dtype.now) b }
-    requires same_len { part_len b ≡ part_len a }
-    ensures { IsTrue result ↔ AreSame (dtype_meaning dtype.now) a.entry b.entry }
-{
     for i in 0..a.len() {
         if !same_list(dtype, a, b, i) {
             return false;
         }
     }
     true
+}
+
+// The same by their sizes, and the items of all, where they stand end to end on both sides and none
+// is null. Not inlined, so that the frame of each level of lists stays small.
+#[cycle(same)]
+#[inline(never)]
+fn same_joined_lists(dtype: &DType, a: Part, b: Part) -> Option<bool>
+    requires lists { is_lists (dtype_meaning dtype.now) ≡ true }
+    requires first { IsPart (dtype_meaning dtype.now) a }
+    requires second { IsPart (dtype_meaning dtype.now) b }
+    requires same_len { part_len b ≡ part_len a }
+    ensures { IfSome result (λ same. IsTrue same ↔ AreSame (dtype_meaning dtype.now) a.entry b.entry) }
+{
+    if a.len() < FEW {
+        return None;
+    }
+    let (first, first_items) = a.joined_lists()?;
+    let (second, second_items) = b.joined_lists()?;
+    let items = items_of(dtype);
+    if !same_sizes(first.size_type, first.sizes, second.size_type, second.sizes) {
+        return Some(false);
+    }
+    Some(same_rows(items, first_items, second_items))
 }
 
 // Whether both rows `i` are lists of the same rows, or null.

@@ -151,61 +151,61 @@ same_record-returns-in_default t c =
     (null_beside_record names ks n (part_row (records names ks n) c.args.a c.args.i) (part_row (records names ks n) c.args.b c.args.i) c.record-in_default.result c.is_none.result
     (first.fits c.args.i c.requires.in_first) (second.fits c.args.i c.requires.in_second) (c.in_default.ensures names ks n first) (c.record-in_default.ensures names ks n second) c.is_none.ensures)
 
-pub same_lists-same_sizes-requires-clause-first : goal.same_lists-same_sizes-requires-clause-first
-same_lists-same_sizes-requires-clause-first t c =
-    (c.in-Some.ensures.lists (dtype_meaning c.items_of-items.result.now) (dtype_meaning c.args.dtype.now) c.items_of-items.ensures c.requires.first).lists.sizes
+pub same_joined_lists-same_sizes-requires-clause-first : goal.same_joined_lists-same_sizes-requires-clause-first
+same_joined_lists-same_sizes-requires-clause-first t c =
+    (c.in_ok-first.ensures.lists (dtype_meaning c.items_of-items.result.now) (dtype_meaning c.args.dtype.now) c.items_of-items.ensures c.requires.first).lists.sizes
 
-pub same_lists-same_sizes-requires-clause-second : goal.same_lists-same_sizes-requires-clause-second
-same_lists-same_sizes-requires-clause-second t c =
-    (c.in-Some-joined_lists.ensures.lists (dtype_meaning c.items_of-items.result.now) (dtype_meaning c.args.dtype.now) c.items_of-items.ensures c.requires.second).lists.sizes
+pub same_joined_lists-same_sizes-requires-clause-second : goal.same_joined_lists-same_sizes-requires-clause-second
+same_joined_lists-same_sizes-requires-clause-second t c =
+    (c.in_ok-second.ensures.lists (dtype_meaning c.items_of-items.result.now) (dtype_meaning c.args.dtype.now) c.items_of-items.ensures c.requires.second).lists.sizes
 
-pub same_lists-same_sizes-requires-clause-same_len : goal.same_lists-same_sizes-requires-clause-same_len
-same_lists-same_sizes-requires-clause-same_len t c =
+pub same_joined_lists-same_sizes-requires-clause-same_len : goal.same_joined_lists-same_sizes-requires-clause-same_len
+same_joined_lists-same_sizes-requires-clause-same_len t c =
     let k = dtype_meaning c.args.dtype.now in
     let item = dtype_meaning c.items_of-items.result.now in
-    let first = c.in-Some.ensures.lists item k c.items_of-items.ensures c.requires.first in
-    let second = c.in-Some-joined_lists.ensures.lists item k c.items_of-items.ensures c.requires.second in
-    sizes_counted item k c.args.b c.in-Some-joined_lists.second second ∙ c.requires.same_len
-    ∙ sym (sizes_counted item k c.args.a c.in-Some.first first)
+    let first = c.in_ok-first.ensures.lists item k c.items_of-items.ensures c.requires.first in
+    let second = c.in_ok-second.ensures.lists item k c.items_of-items.ensures c.requires.second in
+    sizes_counted item k c.args.b c.in_ok-second.second second ∙ c.requires.same_len
+    ∙ sym (sizes_counted item k c.args.a c.in_ok-first.first first)
 
-pub same_lists-returns-then-not-same_sizes : goal.same_lists-returns-then-not-same_sizes
-same_lists-returns-then-not-same_sizes t c =
+pub same_joined_lists-returns-then-not-same_sizes : goal.same_joined_lists-returns-then-not-same_sizes
+same_joined_lists-returns-then-not-same_sizes t c =
     let k = dtype_meaning c.args.dtype.now in
     let item = dtype_meaning c.items_of-items.result.now in
-    let first = c.in-Some.ensures.lists item k c.items_of-items.ensures c.requires.first in
-    let second = c.in-Some-joined_lists.ensures.lists item k c.items_of-items.ensures c.requires.second in (
+    let first = c.in_ok-first.ensures.lists item k c.items_of-items.ensures c.requires.first in
+    let second = c.in_ok-second.ensures.lists item k c.items_of-items.ensures c.requires.second in (
       (λ f. absurd (cc)),
-      (λ same. sym c.if-not-same_sizes.true ∙ c.same_sizes.ensures.1 (sizes_differ item k c.args.a c.args.b c.in-Some.first
-          c.in-Some-joined_lists.second first second c.requires.same_len same)),
+      (λ same. sym c.if-not-same_sizes.true ∙ c.same_sizes.ensures.1 (sizes_differ item k c.args.a c.args.b c.in_ok-first.first
+          c.in_ok-second.second first second c.requires.same_len same)),
     )
 
-pub same_lists-same_rows-requires : goal.same_lists-same_rows-requires
-same_lists-same_rows-requires t c =
+pub same_joined_lists-same_rows-requires : goal.same_joined_lists-same_rows-requires
+same_joined_lists-same_rows-requires t c =
     let k = dtype_meaning c.args.dtype.now in
     let item = dtype_meaning c.items_of-items.result.now in
-    let x = c.in-Some.first_items in
-    let y = c.in-Some-joined_lists.second_items in
-    let first = c.in-Some.ensures.lists item k c.items_of-items.ensures c.requires.first in
-    let second = c.in-Some-joined_lists.ensures.lists item k c.items_of-items.ensures c.requires.second in
+    let x = c.in_ok-first.first_items in
+    let y = c.in_ok-second.second_items in
+    let first = c.in_ok-first.ensures.lists item k c.items_of-items.ensures c.requires.first in
+    let second = c.in_ok-second.ensures.lists item k c.items_of-items.ensures c.requires.second in
     let sizes = c.same_sizes.ensures.0 c.if-not-same_sizes.false in
     let less = item_depth item k c.items_of-items.ensures in (
       omega (arith, less, c.decreases),
       (
-        subst (λ h. IsPart h x) first.kind c.in-Some.ensures.items.part,
+        subst (λ h. IsPart h x) first.kind c.in_ok-first.ensures.items.part,
         (
-          subst (λ h. IsPart h y) second.kind c.in-Some-joined_lists.ensures.items.part,
-          as_many_items item k c.args.a c.args.b x y c.in-Some.first c.in-Some-joined_lists.second first second
-              c.in-Some.ensures.items c.in-Some-joined_lists.ensures.items sizes,
+          subst (λ h. IsPart h y) second.kind c.in_ok-second.ensures.items.part,
+          as_many_items item k c.args.a c.args.b x y c.in_ok-first.first c.in_ok-second.second first second
+              c.in_ok-first.ensures.items c.in_ok-second.ensures.items sizes,
         ),
       ),
     )
 
-pub same_lists-returns : goal.same_lists-returns
-same_lists-returns t c =
+pub same_joined_lists-returns : goal.same_joined_lists-returns
+same_joined_lists-returns t c =
     let k = dtype_meaning c.args.dtype.now in
     let item = dtype_meaning c.items_of-items.result.now in
-    let first = c.in-Some.ensures.lists item k c.items_of-items.ensures c.requires.first in
-    let second = c.in-Some-joined_lists.ensures.lists item k c.items_of-items.ensures c.requires.second in
-    same_joined item k c.args.a c.args.b c.in-Some.first_items c.in-Some-joined_lists.second_items c.in-Some.first
-    c.in-Some-joined_lists.second c.same_rows.result first second c.in-Some.ensures.items c.in-Some-joined_lists.ensures.items
+    let first = c.in_ok-first.ensures.lists item k c.items_of-items.ensures c.requires.first in
+    let second = c.in_ok-second.ensures.lists item k c.items_of-items.ensures c.requires.second in
+    same_joined item k c.args.a c.args.b c.in_ok-first.first_items c.in_ok-second.second_items c.in_ok-first.first
+    c.in_ok-second.second c.same_rows.result first second c.in_ok-first.ensures.items c.in_ok-second.ensures.items
     (c.same_sizes.ensures.0 c.if-not-same_sizes.false) c.requires.same_len c.same_rows.ensures

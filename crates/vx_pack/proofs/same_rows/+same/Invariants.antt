@@ -15,8 +15,8 @@ decreases-same_by_kind l = 6 * kind_depth (dtype_meaning l.dtype.now) + 4
 abbrev pub decreases-same_lists : goal.decreases-same_lists
 decreases-same_lists l = 6 * kind_depth (dtype_meaning l.dtype.now) + 2
 
-abbrev pub decreases-same_each_list : goal.decreases-same_each_list
-decreases-same_each_list l = 6 * kind_depth (dtype_meaning l.dtype.now) + 1
+abbrev pub decreases-same_joined_lists : goal.decreases-same_joined_lists
+decreases-same_joined_lists l = 6 * kind_depth (dtype_meaning l.dtype.now) + 1
 
 abbrev pub decreases-same_list : goal.decreases-same_list
 decreases-same_list l = 6 * kind_depth (dtype_meaning l.dtype.now)
@@ -33,8 +33,8 @@ decreases-same_record l = 6 * kind_depth (dtype_meaning l.dtype.now) + 1
 abbrev pub decreases-same_fields : goal.decreases-same_fields
 decreases-same_fields l = 6 * kinds_depth (field_kinds l.fields.now) + 6
 
-abbrev pub invariant-same_each_list-loop-i : goal.invariant-same_each_list-loop-i
-invariant-same_each_list-loop-i l = (j : ℕ) → j < l.i → part_row (dtype_meaning l.dtype) l.a j ≡ part_row (dtype_meaning l.dtype) l.b j
+abbrev pub invariant-same_lists-loop-i : goal.invariant-same_lists-loop-i
+invariant-same_lists-loop-i l = (j : ℕ) → j < l.i → part_row (dtype_meaning l.dtype) l.a j ≡ part_row (dtype_meaning l.dtype) l.b j
 
 abbrev pub invariant-same_each_record-loop-i : goal.invariant-same_each_record-loop-i
 invariant-same_each_record-loop-i l = (j : ℕ) → j < l.i → part_row (dtype_meaning l.dtype) l.a j ≡ part_row (dtype_meaning l.dtype) l.b j
