@@ -135,7 +135,7 @@ fn canonical_named(
     let positions = codes.code_positions(alloc, values.len())?;
     if values.len() <= codes.len() && is_leaf_type(values.dtype()) {
         let plain = canonical(alloc, values)?;
-        let few = canonical_leaf_at(alloc, &plain, &Selection::repeated(0, codes.len()))?;
+        let few = canonical_leaf_at(alloc, &plain, &positions.selection())?;
         return Ok(nulled_parts(alloc, &few, &nulls)?);
     }
     let picked = canonical_at(alloc, values, &positions.selection())?;
