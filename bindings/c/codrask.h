@@ -270,8 +270,9 @@ struct ArrowArray {
  * An extension (ARROW:extension:name in the metadata of a schema) stands in the same name, behind the format: a byte 0 and its name; and
  * where it has metadata (ARROW:extension:metadata), a byte 0 and these. Where the layer has a type for the column, the name has no
  * format ("\0\0geoarrow.wkb\0{}"): the records are never null, and their column is what it is without the extension. So it is of a
- * dictionary whose codes are ordered, whose word is "ordered" in place of a format; made plain, it goes out as plain values. Such
- * records may carry others that carry; an array that is written has one extension at most. */
+ * dictionary whose codes are ordered, whose word is "ordered" in place of a format; made plain, it goes out as plain values, and as Arrow
+ * has an order of codes alone, without that flag. Such records may carry others that carry; an array that is written has one extension at
+ * most. */
 
 /* Whether a node is such a record. What its word says is not looked at. */
 bool codrask_is_carried(const struct codrask_node *node);

@@ -399,6 +399,46 @@ static void pushed(void) {
     free_column(&c);
 }
 
+/* Whether the array of a table goes out with these flags, in this format, and with a dictionary or without. */
+static bool goes_out(const struct codrask_column *column, const uint8_t *given, const char *format, int64_t flags, bool dictionary) {
+    struct ArrowSchema s;
+    struct ArrowArray a;
+    if (codrask_write_passed(column->nodes, column->count, given, 0, NULL, NULL, &s, &a, &fault))
+        return false;
+    bool good = !strcmp(s.format, format) && s.flags == flags && !s.metadata && !s.dictionary == !dictionary
+                && !a.dictionary == !dictionary;
+    s.release(&s);
+    a.release(&a);
+    return good;
+}
+
+/* That codes are ordered is said as long as there are codes: what a run gives has none, whatever its step is. */
+static void order_of_codes(void) {
+    static const uint8_t codes[] = {1, 0, 1};
+    static const int64_t ends[] = {0, 1, 20};
+    const void *coded[] = {NULL, codes}, *texts[] = {NULL, ends, "ba text that is kept"};
+    struct ArrowSchema values = schema("U", 0, NULL, 0), s = schema("C", ARROW_FLAG_DICTIONARY_ORDERED, NULL, 0);
+    struct ArrowArray of_values = array(2, 0, texts, 3, NULL, 0), a = array(3, 0, coded, 2, NULL, 0);
+    s.dictionary = &values, a.dictionary = &of_values;
+    struct columns all = {.count = 0};
+    add(&all, &s, &a);
+    const uint8_t *came = codrask_table_formats(&all.tables[0]);
+    tell("codes that are ordered stay so", goes_out(&all.columns[0], came, "C", ARROW_FLAG_DICTIONARY_ORDERED, true));
+    static const uint32_t kinds[] = {CODRASK_PACK, CODRASK_CANONICAL, CODRASK_SLICE};
+    for (size_t i = 0; i < COUNT(kinds); i++) {
+        struct codrask_step one = step(kinds[i], 0);
+        struct codrask_columns given = CODRASK_NO_COLUMNS;
+        const size_t wanted = 1;
+        uint8_t room[64], *formats_of = room;
+        one.end = 3;
+        bool good = !codrask_run(all.columns, 1, &one, 1, &wanted, 1, &given, &run_fault) && given.columns[0].count <= sizeof room
+                    && !codrask_run_formats(all.columns, &came, 1, &one, 1, &wanted, &given, &formats_of);
+        tell("values without codes have no order", good && goes_out(&given.columns[0], formats_of, "U", 0, false));
+        codrask_columns_free(&given);
+    }
+    free_columns(&all);
+}
+
 int main(void) {
     for (size_t i = 0; i < COUNT(formats); i++) {
         each_step(i, true);
@@ -413,6 +453,7 @@ int main(void) {
     refused();
     checked();
     pushed();
+    order_of_codes();
     printf("%d passed, %d failed\n", passed, failed);
     return failed != 0;
 }
