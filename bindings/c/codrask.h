@@ -49,6 +49,14 @@ enum codrask_kind {
     CODRASK_STRUCT = 14           /* buffers: a name for each column; parts: columns */
 };
 
+/* What offsets stand for in a node of a table that is given to codrask_passes. They have 32 bits and a sign, or by the next number 64. */
+enum codrask_offset_kind {
+    CODRASK_UTF8_OFFSETS = 15,   /* bytes: offsets, one more than there are rows; buffers: that of the texts, from the first one on */
+    CODRASK_BINARY_OFFSETS = 17, /* the same of byte lists */
+    CODRASK_STARTS = 19,         /* bytes: offsets, one for each number, which is how far it lies past the first one */
+    CODRASK_SIZES = 21           /* bytes: offsets, one more than there are numbers: each but the first, less the one before it */
+};
+
 /* Which rows are null. */
 enum codrask_validity {
     CODRASK_NON_NULLABLE = 0, /* none can be. A dictionary has this: its codes tell of nulls */
@@ -125,6 +133,13 @@ uint32_t codrask_version(void);
  * CODRASK_NOT_ONE_ARRAY where there is no node, and of CODRASK_UNKNOWN_KIND of the last node. With 0 and CODRASK_MEMORY node and place
  * are 0. Nothing is kept and nothing changed. */
 uint32_t codrask_check(const struct codrask_node *nodes, size_t node_count, struct codrask_fault *fault);
+
+/* Answers 1 where it is known that the nodes are a column, and 0 where codrask_check is to be asked, which names the fault if there is
+ * one. No row is copied. Here alone a node may have a kind of codrask_offset_kind: with 1, the offsets of values lie in order within
+ * their bytes, and whichever views are made of the values, and whichever integers of the numbers, codrask_check answers 0 to that
+ * table. 0 comes as well where memory is refused, where a null row has a view that is none or a code that names no value, and where
+ * lists have offsets and sizes of other types than int32_t or int64_t, both the same. */
+uint32_t codrask_passes(const struct codrask_node *nodes, size_t node_count);
 
 /* ---- steps ---- */
 

@@ -179,6 +179,8 @@ struct reader {
     const size_t *lengths;             /* none, or those of all buffers */
     size_t next_length;                /* the first one of the array that comes next */
     bool structs_alone;                /* of no array a row is looked at */
+    bool lends;                        /* offsets are lent for codrask_passes: no views and numbers are made of them */
+    bool cannot_lend;                  /* some of them cannot be */
 };
 
 extern const uint8_t codrask_nothing[64]; /* what an empty slice points at */
@@ -209,6 +211,10 @@ uint32_t codrask_keep_name(struct reader *reader, const char *name);
 uint32_t codrask_keep_formats(struct reader *reader);
 
 void codrask_free_memory(struct table_memory *memory);
+
+/* Reads an Arrow array and checks it, without views and numbers that are made of its offsets where it can be known so. */
+uint32_t codrask_check_read(const struct ArrowSchema *schema, const struct ArrowArray *array, const struct codrask_reading *how,
+                            struct codrask_fault *fault);
 
 /* ---- lengths.c ---- */
 

@@ -107,13 +107,5 @@ uint32_t codrask_table_from_arrow_sized(const struct ArrowSchema *schema, const 
 uint32_t codrask_check_arrow_sized(const struct ArrowSchema *schema, const struct ArrowArray *array, const size_t *lengths, size_t count,
                                    struct codrask_fault *fault) {
     struct codrask_reading how = with_lengths(lengths, count);
-    struct codrask_arrow_fault told;
-    struct codrask_table table;
-    uint32_t error = codrask_read_arrow_sized(schema, array, &how, &table, &told);
-    *fault = told.fault;
-    if (error)
-        return error;
-    error = codrask_check(table.nodes, table.count, fault);
-    codrask_table_free(&table);
-    return error;
+    return codrask_check_read(schema, array, &how, fault);
 }

@@ -645,12 +645,31 @@ uint32_t codrask_table_from_arrow(const struct ArrowSchema *schema, const struct
     return codrask_read_arrow(schema, array, NULL, table, &fault);
 }
 
-uint32_t codrask_check_arrow(const struct ArrowSchema *schema, const struct ArrowArray *array, struct codrask_fault *fault) {
-    struct codrask_table table;
-    uint32_t error = codrask_read_arrow(schema, array, NULL, &table, fault);
-    if (error)
-        return error;
-    error = codrask_check(table.nodes, table.count, fault);
+/* Whether it is known that an Arrow array is a column, without views and numbers that are made of its offsets. */
+static bool passes(const struct ArrowSchema *schema, const struct ArrowArray *array, const struct codrask_reading *how) {
+    struct reader r = {.lends = true};
+    bool known = !read_all(&r, schema, array, how) && !r.cannot_lend && codrask_passes(r.nodes, r.count);
+    struct codrask_table table = {r.nodes, r.count, r.memory};
+    free(r.tasks);
+    free(r.choice);
     codrask_table_free(&table);
+    return known;
+}
+
+uint32_t codrask_check_read(const struct ArrowSchema *schema, const struct ArrowArray *array, const struct codrask_reading *how,
+                            struct codrask_fault *fault) {
+    struct codrask_table table;
+    struct codrask_arrow_fault told = {.fault = {.number = 0}};
+    uint32_t error = 0;
+    if (!passes(schema, array, how) && !(error = codrask_read_arrow_sized(schema, array, how, &table, &told))) {
+        error = codrask_check(table.nodes, table.count, &told.fault);
+        codrask_table_free(&table);
+    }
+    *fault = told.fault;
     return error;
+}
+
+uint32_t codrask_check_arrow(const struct ArrowSchema *schema, const struct ArrowArray *array, struct codrask_fault *fault) {
+    static const struct codrask_reading plain;
+    return codrask_check_read(schema, array, &plain, fault);
 }

@@ -377,6 +377,39 @@ static uint32_t make_views(struct reader *r, size_t i, const struct task *task) 
     return 0;
 }
 
+/* ---- offsets that are lent ---- */
+
+/* Lends offsets of values, with the bytes from the first to the last one, where these are those that the node would refer to, and one
+ * buffer of views has them. */
+static uint32_t lend_values(struct reader *r, size_t i, const struct task *task) {
+    struct codrask_node *node = &r->nodes[i];
+    struct codrask_bytes *heap = block_of(r, 1, sizeof *heap);
+    if (!heap)
+        return no_memory(r);
+    if (codrask_offset_at(task->offsets, task->width, 0) != task->base
+        || codrask_offset_at(task->offsets, task->width, node->length) != task->end || task->end - task->base > INT32_MAX)
+        r->cannot_lend = true;
+    *heap = (struct codrask_bytes){task->heap ? task->heap + task->base : codrask_nothing, (size_t)(task->end - task->base)};
+    node->kind = (node->kind == CODRASK_UTF8_VIEW ? CODRASK_UTF8_OFFSETS : CODRASK_BINARY_OFFSETS) + (task->width == 8);
+    node->bytes = task->offsets;
+    node->byte_count = (node->length + 1) * task->width;
+    node->buffers = heap;
+    node->buffer_count = 1;
+    return 0;
+}
+
+/* Lends offsets of lists, or for sizes one more. The node before that of sizes has the offsets; where they begin with 0 and stand there
+ * as they are, they are lent as well. */
+static void lend_numbers(struct reader *r, size_t i, const struct task *task) {
+    struct codrask_node *node = &r->nodes[i], *before = node - 1;
+    bool sizes = task->work == MAKE_SIZES;
+    if (sizes && before->bytes == task->offsets && !codrask_offset_at(task->offsets, task->width, 0))
+        before->kind = CODRASK_STARTS + (task->width == 8);
+    node->kind = (sizes ? CODRASK_SIZES : CODRASK_STARTS) + (task->width == 8);
+    node->bytes = task->offsets;
+    node->byte_count = (node->length + sizes) * task->width;
+}
+
 /* ---- the rest ---- */
 
 /* The buffers of views. */
@@ -461,10 +494,13 @@ static uint32_t make_word(struct reader *r, size_t i, const struct task *task) {
 static uint32_t do_task(struct reader *r, size_t i) {
     const struct task *task = &r->tasks[i];
     switch (task->work) {
-    case MAKE_VIEWS: return make_views(r, i, task);
+    case MAKE_VIEWS: return r->lends ? lend_values(r, i, task) : make_views(r, i, task);
     case MAKE_HEAPS: return make_heaps(r, i, task);
     case MAKE_OFFSETS:
-    case MAKE_SIZES: return make_numbers(r, i, task);
+    case MAKE_SIZES:
+        if (r->lends)
+            lend_numbers(r, i, task);
+        return r->lends ? 0 : make_numbers(r, i, task);
     case MAKE_NAMES: return make_names(r, i, task);
     case MAKE_WORD: return make_word(r, i, task);
     default: return 0;

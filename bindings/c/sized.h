@@ -22,7 +22,7 @@ static struct codrask_fault read_sized(const struct ArrowSchema *schema, const s
     return told.fault;
 }
 
-static void expect_fault(const char *what, struct codrask_fault found, uint32_t number, size_t node, size_t place) {
+static inline void expect_fault(const char *what, struct codrask_fault found, uint32_t number, size_t node, size_t place) {
     bool good = is_same_fault(found, (struct codrask_fault){number, node, place});
     if (!good)
         printf("%u %s at node %zu, place %zu, wanted %u at node %zu, place %zu\n", found.number, codrask_fault_name(found.number),
@@ -43,7 +43,7 @@ static bool is_same_node(const struct codrask_node *one, const struct codrask_no
     return same;
 }
 
-static bool is_same_table(const struct codrask_table *one, const struct codrask_table *other) {
+static inline bool is_same_table(const struct codrask_table *one, const struct codrask_table *other) {
     bool same = one->count == other->count && !strcmp(codrask_table_name(one), codrask_table_name(other));
     for (size_t i = 0; same && i < one->count; i++)
         same = is_same_node(&one->nodes[i], &other->nodes[i]);
@@ -53,7 +53,7 @@ static bool is_same_table(const struct codrask_table *one, const struct codrask_
 typedef bool is_same(const struct codrask_table *one, const struct codrask_table *other);
 
 /* Whether an array, read so, has a fault, or if that is none, is the table that is wanted. */
-static bool is_told(const struct ArrowSchema *schema, const struct ArrowArray *array, struct codrask_reading how, is_same *is_wanted,
+static inline bool is_told(const struct ArrowSchema *schema, const struct ArrowArray *array, struct codrask_reading how, is_same *is_wanted,
                     const struct codrask_table *wanted, struct codrask_fault fault) {
     struct codrask_table table;
     if (!is_same_fault(read_sized(schema, array, how, &table), fault)) {

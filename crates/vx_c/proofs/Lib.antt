@@ -21,3 +21,10 @@ pub mod RunParts
 pub mod Meant
 pub mod RunFaults
 pub mod Counts
+pub mod Spans
+pub mod LentTexts
+pub mod LentViews
+pub mod PartLists
+pub mod PartsMade
+pub mod NodesPassed
+pub mod TablesPassed

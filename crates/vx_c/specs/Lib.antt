@@ -1,6 +1,10 @@
 pub mod NodeKinds
 pub mod StepKinds
 pub mod Tables
+pub mod Spans
+pub mod LentBuffers
+pub mod Told
+pub mod Parts
 pub mod Answers
 pub mod ColumnSteps
 pub mod Steps

@@ -10,8 +10,10 @@
 //! `least` (`counting`) down a data type. Reading a table does not.
 #![tactic(auto)]
 
-ghost use Rattle.std.specs.Prelude.{◌≡◌, ◌<◌};
+ghost use Rattle.std.specs.Prelude.{◌≡◌, ◌<◌, List, None};
 ghost use Rattle.vx_c.specs.Tables.{table_fault};
+ghost use Rattle.vx_c.specs.Told.{AreToldBy, HaveOrder};
+ghost use Rattle.vx_c.specs.declared.table.CodraskNode.{CodraskNode};
 ghost use Rattle.vx_c.specs.Answers.{IsAnswer, TakesMemory};
 ghost use Rattle.vx_c.specs.Runs.{IsMade, IsToldOf, no_run_fault};
 
@@ -21,6 +23,11 @@ mod faults;
 pub mod laws;
 mod layouts;
 mod lending;
+mod lent_offsets;
+mod lent_texts;
+mod lent_views;
+mod parts;
+mod passing;
 mod reading;
 mod running;
 mod stack;
@@ -31,6 +38,7 @@ mod written;
 
 use crate::faults::{told, told_of_run};
 pub use crate::faults::{CodraskFault, CodraskRunFault};
+use crate::passing::passes;
 use crate::reading::check;
 use crate::running::run_tables;
 pub use crate::steps::CodraskStep;
@@ -62,6 +70,18 @@ pub extern "C" fn codrask_check(
 {
     *fault = told(check(alloc, nodes));
     fault.number
+}
+
+/// Whether it is known that a table is a column, without a copy of what it holds: 1, or 0 where
+/// `codrask_check` has to be asked. In such a table offsets may stand for the views of values and for
+/// the numbers of lists, by kinds from 15 on: of 1 each table that they tell of is a column, and the
+/// offsets of values lie in order within their bytes. It is 0 too where memory was refused.
+#[unsafe(no_mangle)]
+pub extern "C" fn codrask_passes(alloc: Global, nodes: &[CodraskNode<'_>]) -> u32
+    ensures told { result ≡ 1 → (told : List CodraskNode) → AreToldBy nodes.now told → table_fault told ≡ None }
+    ensures in_order { result ≡ 1 → HaveOrder nodes.now }
+{
+    if passes(alloc, nodes) { 1 } else { 0 }
 }
 
 /// Runs steps on the columns of tables, and writes the tables of the arrays that are asked for, in

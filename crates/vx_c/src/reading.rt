@@ -9,6 +9,7 @@ ghost use Rattle.vx_c.specs.Tables.{node_made, valid_of_number, arrays_from, onl
 
 use crate::faults::NodeError;
 use crate::layouts::array_of;
+use crate::passing::{is_plain, passes};
 use crate::stack::Stack;
 use crate::table::{CodraskNode, NodeKind};
 use std::alloc::Global;
@@ -18,11 +19,14 @@ use vx_tree::{ArrayRef, Validity};
 // The most nodes of a table: of so many no nest is too deep for the stack.
 pub(crate) const MAX_NODES: usize = 4096;
 
-// Whether a table is a column.
+// Whether a table is a column: where that is not known without arrays, they are made.
 pub(crate) fn check(alloc: Global, nodes: &[CodraskNode<'_>]) -> Result<(), (usize, NodeError)>
     ensures read { IsRead result (table_fault nodes.now) }
     ensures early { IfErr result (λ fault. IsEarly fault.1 ⊎ TakesMemory nodes.now) }
 {
+    if is_plain(nodes) && passes(alloc, nodes) {
+        return Ok(());
+    }
     match column(alloc, nodes) {
         Ok(_) => Ok(()),
         Err(first) => Err(first),

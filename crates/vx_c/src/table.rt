@@ -1,7 +1,8 @@
 // A column as C hands it over: nodes, each before the nodes of its parts.
 
-ghost use Rattle.std.specs.Prelude.{◌≡◌};
+ghost use Rattle.std.specs.Prelude.{◌≡◌, slice_get};
 ghost use Rattle.vx_c.specs.NodeKinds.{kind_numbered, kind_number};
+ghost use Rattle.vx_c.specs.Told.{offset_kinds, offset_kind_numbered};
 
 use vx_base::PType;
 
@@ -124,5 +125,47 @@ impl NodeKind {
             NodeKind::ListView => 13,
             NodeKind::Struct => 14,
         }
+    }
+}
+
+// What offsets stand for in a node of a table that is only tested.
+#[derive(Clone, Copy, Debug, PartialEq, Eq)]
+pub(crate) enum OffsetKind {
+    // Texts between them.
+    Utf8(PType),
+    // Byte lists between them.
+    Binary(PType),
+    // Numbers: the offsets, counted from the first one.
+    Starts(PType),
+    // Numbers: each offset but the first, less the one before it.
+    Sizes(PType),
+}
+
+impl OffsetKind {
+    // What they stand for by this number.
+    pub(crate) fn numbered(number: u32) -> Option<OffsetKind>
+        ensures { result ≡ offset_kind_numbered number }
+    {
+        if number < 15 {
+            return None;
+        }
+        OffsetKind::at(number - 15)
+    }
+
+    // What they stand for by this place among all of them.
+    fn at(place: u32) -> Option<OffsetKind>
+        ensures { result ≡ slice_get offset_kinds place }
+    {
+        let kinds = [
+            OffsetKind::Utf8(PType::I32),
+            OffsetKind::Utf8(PType::I64),
+            OffsetKind::Binary(PType::I32),
+            OffsetKind::Binary(PType::I64),
+            OffsetKind::Starts(PType::I32),
+            OffsetKind::Starts(PType::I64),
+            OffsetKind::Sizes(PType::I32),
+            OffsetKind::Sizes(PType::I64),
+        ];
+        kinds.get(place as usize).copied()
     }
 }
