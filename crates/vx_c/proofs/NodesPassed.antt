@@ -17,7 +17,7 @@ use Rattle.vx_c.specs.declared.table.CodraskNode.{CodraskNode}
 use Rattle.vx_c.specs.declared.table.NodeKind.{NodeKind}
 use Rattle.vx_c.specs.declared.table.NodeKind.TheVariants.{Number, Utf8, Binary}
 use Rattle.vx_c.specs.NodeKinds.{kind_numbered, kind_number}
-use Rattle.vx_c.specs.Parts.{HasNumbers, Describes, AreDescribed, IsDescribed, IsValidOver, IsMade, Makes, AreValuesOver}
+use Rattle.vx_c.specs.Parts.{HasNumbers, Describes, AreDescribed, IsDescribed, IsValidOver, IsPartMade, Makes, AreValuesOver}
 use Rattle.vx_c.specs.Spans.{between}
 use Rattle.vx_c.specs.Tables.{NodeFault, put, layout_made, valid_of_number, valid_made, kind_made, node_made, view_bytes, views_in, buffers_in}
 use Rattle.vx_c.specs.Told.{heap_in, IsViewOf, ShowsValues, ShowsNumbers}
@@ -25,7 +25,7 @@ use Rattle.vx_c.proofs.PartsMade.{plain_numbers, numbers_made, texts_made, value
 
 -- ---- one node
 
-put_passed : (n : CodraskNode) (p : Part) (new : List Part) (r : Result (Tree × List Tree) NodeFault) → IsMade p new n.length r → IsDescribed (p ∷ new) (put n r)
+put_passed : (n : CodraskNode) (p : Part) (new : List Part) (r : Result (Tree × List Tree) NodeFault) → IsPartMade p new n.length r → IsDescribed (p ∷ new) (put n r)
 put_passed n p new (Ok (t, ts)) (holds, long, rest) = rw (eq-eqb (tree_len t) n.length long) (holds, rest)
 put_passed n p new (Err f) made = absurd made
 

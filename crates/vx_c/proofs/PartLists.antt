@@ -13,7 +13,7 @@ use Rattle.vx_tree.specs.Meaning.{tree_len}
 use Rattle.vx_tree.specs.Tree.{Tree, by_array}
 use Rattle.vx_c.specs.declared.parts.Part.{Part}
 use Rattle.vx_c.specs.declared.parts.Part.TheVariants.{Truths}
-use Rattle.vx_c.specs.Parts.{HasBytes, HasNumbers, Describes, AreDescribed, IsValidOver, AreColumns}
+use Rattle.vx_c.specs.Parts.{HasBytes, HasNumbers, Describes, AreDescribed, IsValidOver, AreTakenColumns}
 use Rattle.vx_c.specs.Spans.{starts_of}
 use Rattle.vx_structs.specs.Structs.Faults.{column_lens_fault}
 use Rattle.vx_c.specs.Tables.{valid_of_number}
@@ -44,16 +44,17 @@ valid_by_array found len ps (t ∷ ts) same (d, rest) = (faultless, refl, rest)
   where
     long : tree_len t ≡ len
     long = d.1 ∙ same
+
     faultless : validity_fault (by_array t) len ≡ None
     faultless = rw (d.0, eq-eqb (tree_len t) len long) refl
 
 -- ---- columns
 
-pub columns-none : (len : ℕ) (ps : List Part) (ts : List Tree) → AreDescribed ps ts → AreColumns 0 len ps ts
+pub columns-none : (len : ℕ) (ps : List Part) (ts : List Tree) → AreDescribed ps ts → AreTakenColumns 0 len ps ts
 columns-none len ps ts described = record { enough = omega arith; faultless = refl; left = described }
 
 pub columns-more : (count len : ℕ) (p : Part) (ps : List Part) (ts : List Tree) → ((t : Tree) → Describes p t → tree_len t ≡ len)
-    → AreColumns count len (p ∷ ps) ts → AreColumns (suc count) len ps ts
+    → AreTakenColumns count len (p ∷ ps) ts → AreTakenColumns (suc count) len ps ts
 columns-more zero len p ps [] long columns = absurd columns.left
 columns-more zero len p ps (t ∷ ts) long columns = record {
   enough = omega arith;

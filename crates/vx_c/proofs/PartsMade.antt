@@ -28,7 +28,7 @@ use Rattle.vx_c.specs.LentBuffers.{AreTextBuffers}
 use Rattle.vx_leaves.specs.Dictionaries.{dictionary_fault}
 use Rattle.vx_lists.specs.FixedSizeLists.{element_count_fault, fixed_list_fault}
 use Rattle.vx_lists.specs.ListViews.Faults.{list_view_fault, list_parts_fault, list_rows_fault, list_row_fault, whole_at, count_type_fault, sizes_len_fault}
-use Rattle.vx_c.specs.Parts.{HasBytes, HasNumbers, Describes, AreDescribed, IsMade, Makes, AreColumns, AreLists, AreCodes}
+use Rattle.vx_c.specs.Parts.{HasBytes, HasNumbers, Describes, AreDescribed, IsPartMade, Makes, AreTakenColumns, AreLists, AreCodes}
 use Rattle.vx_c.specs.Spans.{IsListRow, AreListRows, IsPlace, ArePlaces}
 use Rattle.vx_structs.specs.Structs.Faults.{struct_fault, columns_fault, column_lens_fault}
 use Rattle.vx_c.specs.Tables.{unless, views_in, buffers_in, bits_fault, names_fault, name_fault}
@@ -40,7 +40,7 @@ use Rattle.vx_c.proofs.PartLists.{numbers_len}
 -- ---- an array without a fault
 
 pub unless_made : (fault : Option Refusal) (t : Tree) (ts : List Tree) (p : Part) (ps : List Part) (len : ℕ) → fault ≡ None → Describes p t → tree_len t ≡ len
-    → AreDescribed ps ts → IsMade p ps len (unless fault t ts)
+    → AreDescribed ps ts → IsPartMade p ps len (unless fault t ts)
 unless_made None t ts p ps len none holds long rest = (holds, long, rest)
 unless_made (Some r) t ts p ps len none holds long rest = absurd (cc)
 
@@ -141,8 +141,8 @@ lists_are zs ws count len o s offsets sizes o_long s_long few rows =
       offsets_len = o_len;
       sizes_len = numbers_len ws s sizes ∙ s_long;
       rows = first_fault-of_none (λ i. list_row_fault count i (whole_at o i) (whole_at s i)) (tree_len o) (λ i inside.
-      ap (λ z. list_row_fault count i z (whole_at s i)) (o_at i) ∙ ap (λ z. list_row_fault count i (number_nth zs i) z) (s_at i)
-      ∙ row_none count i (number_nth zs i) (number_nth ws i) few (rows i (omega (arith, inside, o_len, o_long))));
+          ap (λ z. list_row_fault count i z (whole_at s i)) (o_at i) ∙ ap (λ z. list_row_fault count i (number_nth zs i) z) (s_at i)
+          ∙ row_none count i (number_nth zs i) (number_nth ws i) few (rows i (omega (arith, inside, o_len, o_long))));
     }
 
 list_view_none : (e o s : Tree) (v : Valid) (len : ℕ) → AreLists (tree_len e) len o s → validity_fault v len ≡ None → list_view_fault e o s v ≡ None
@@ -181,11 +181,11 @@ records_none names columns v len as_many valid long =
     both_none (length_fault (length names) (length columns)) (columns_fault columns v len) many_none (both_none (validity_fault v len) (column_lens_fault len columns) valid long)
 
 pub records_passed : (n : CodraskNode) (old left : List Part) → AreTextBuffers n.buffers.now
-    → ((ts : List Tree) → AreDescribed old ts → AreColumns (length n.buffers.now) n.length left ts) → (null : Bool) → Makes Struct n null old (Rows n.length) left
+    → ((ts : List Tree) → AreDescribed old ts → AreTakenColumns (length n.buffers.now) n.length left ts) → (null : Bool) → Makes Struct n null old (Rows n.length) left
 records_passed n old left are columns null v ts valid may described =
     let names = buffers_in n in
     let many : length names ≡ length n.buffers.now = length-map n.buffers.now _ in
-    let here : AreColumns (length names) n.length left ts = subst (λ k. AreColumns k n.length left ts) (sym many) (columns ts described) in
+    let here : AreTakenColumns (length names) n.length left ts = subst (λ k. AreTakenColumns k n.length left ts) (sym many) (columns ts described) in
     let taken : length (take (length names) ts) ≡ length names = omega (arith, length-take (length names) ts, here.enough) in
     let none = records_none names (take (length names) ts) v n.length taken valid here.faultless in
     rw (le-ltb (length ts) (length names) here.enough)

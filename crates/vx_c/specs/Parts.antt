@@ -52,18 +52,18 @@ IsValidOver null len ps (Ok (v, ts)) = (validity_fault v len ≡ None) × (nulla
 IsValidOver null len ps (Err f) = ⊥
 
 -- there is no fault in an array of so many rows, and it holds of that and of the arrays that are left
-abbrev pub IsMade : Part → List Part → ℕ → Result (Tree × List Tree) NodeFault → Type 0
-IsMade p ps len (Ok (t, ts)) = Describes p t × (tree_len t ≡ len) × AreDescribed ps ts
-IsMade p ps len (Err f) = ⊥
+abbrev pub IsPartMade : Part → List Part → ℕ → Result (Tree × List Tree) NodeFault → Type 0
+IsPartMade p ps len (Ok (t, ts)) = Describes p t × (tree_len t ≡ len) × AreDescribed ps ts
+IsPartMade p ps len (Err f) = ⊥
 
 -- so it is of the array of a node of a kind, whichever arrays follow and whichever its validity is
 abbrev pub Makes : NodeKind → CodraskNode → Bool → List Part → Part → List Part → Type 0
 Makes k n null old p new =
     (v : Valid) (ts : List Tree) → validity_fault v n.length ≡ None → nullable v ≡ null → AreDescribed old ts
-    → IsMade p new n.length (layout_made k n v ts)
+    → IsPartMade p new n.length (layout_made k n v ts)
 
 -- so many arrays are there, each of so many rows, and it holds of those that are left
-pub record AreColumns (count len : ℕ) (ps : List Part) (ts : List Tree) : Type 0 where
+pub record AreTakenColumns (count len : ℕ) (ps : List Part) (ts : List Tree) : Type 0 where
   pub enough : count ≤ length ts
   pub faultless : column_lens_fault len (take count ts) ≡ None
   pub left : AreDescribed ps (drop count ts)

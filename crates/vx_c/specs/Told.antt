@@ -81,6 +81,7 @@ has_order _ n = Unit {0}
 abbrev pub HasOrder : CodraskNode → Type 0
 HasOrder n = has_order (offset_kind_numbered n.kind) n
 
+-- of each node
 abbrev pub HaveOrder : List CodraskNode → Type 0
 HaveOrder [] = Unit {0}
 HaveOrder (n ∷ ns) = HasOrder n × HaveOrder ns

@@ -76,7 +76,11 @@ pub(crate) fn are_list_rows<O: NativePType, S: NativePType>(
     ensures { IsTrue result → AreListRows (numbers O.PTYPE offsets.now) (numbers S.PTYPE sizes.now) count }
 {
     for row in 0..number_count(offsets, O::PTYPE) {
-        if !is_within(count_at::<O>(offsets, row), count_at::<S>(sizes, row), count) {
+        if !is_within(
+            count_at::<O>(offsets, row),
+            count_at::<S>(sizes, row),
+            count,
+        ) {
             return false;
         }
     }

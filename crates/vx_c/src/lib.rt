@@ -2,7 +2,8 @@
 //! proved. A call copies what it is given, and keeps nothing.
 //!
 //! Read `table` first (what C sees), with specs/Tables; then `reading`, which keeps the arrays of a
-//! table on `stack` and makes each by `layouts`. A run is `running`: `steps` and `column_steps` are
+//! table on `stack` and makes each by `layouts`; and `passing`, which tells of most tables without
+//! arrays, by `parts` and the loops of `lent_*`. A run is `running`: `steps` and `column_steps` are
 //! what is done, `counting` tells how many nodes a result needs, `writing` makes its table
 //! (`written`), and `lending` hands the blocks over. `laws` are for callers.
 //!

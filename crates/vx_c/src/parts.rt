@@ -4,7 +4,7 @@ ghost use Rattle.std.specs.Prelude.{◌≡◌, ◌∷◌, List, length, reverse,
 ghost use Rattle.vx_base.specs.Integers.{numbers};
 ghost use Rattle.vx_tree.specs.Meaning.{tree_len};
 ghost use Rattle.vx_tree.specs.Tree.{Tree};
-ghost use Rattle.vx_c.specs.Parts.{Describes, AreDescribed, IsValidOver, AreColumns};
+ghost use Rattle.vx_c.specs.Parts.{Describes, AreDescribed, IsValidOver, AreTakenColumns};
 ghost use Rattle.vx_c.specs.Tables.{valid_of_number};
 
 use vx_base::{PType, number_count};
@@ -80,7 +80,7 @@ pub(crate) fn take_validity(number: u32, len: usize, parts: &mut Vec<Part<'_>>) 
 // Takes so many columns, and tells whether each has so many rows.
 pub(crate) fn take_columns(count: usize, len: usize, parts: &mut Vec<Part<'_>>) -> bool
     ensures { IsTrue result → (ts : List Tree) → AreDescribed (reverse parts.old.items) ts
-        → AreColumns count len (reverse parts.new.items) ts }
+        → AreTakenColumns count len (reverse parts.new.items) ts }
 {
     for taken in 0..count {
         match pop(parts) {

@@ -259,13 +259,7 @@ fn are_lists(offsets: &Part<'_>, sizes: &Part<'_>, count: usize, len: usize) -> 
 }
 
 // The same of offsets of a type, where the sizes are numbers of that type.
-fn are_by_type(
-    ptype: PType,
-    offsets: &[u8],
-    sizes: &Part<'_>,
-    count: usize,
-    len: usize,
-) -> bool
+fn are_by_type(ptype: PType, offsets: &[u8], sizes: &Part<'_>, count: usize, len: usize) -> bool
     ensures { IsTrue result → (o s : Tree) → HasBytes ptype offsets.now false o → Describes sizes.now s → AreLists count len o s }
 {
     match ptype {
@@ -277,13 +271,7 @@ fn are_by_type(
 
 // The same of offsets of a type, less the first one, where the sizes lie between offsets of that
 // type.
-fn are_told_by_type(
-    ptype: PType,
-    starts: &[u8],
-    sizes: &Part<'_>,
-    count: usize,
-    len: usize,
-) -> bool
+fn are_told_by_type(ptype: PType, starts: &[u8], sizes: &Part<'_>, count: usize, len: usize) -> bool
     ensures { IsTrue result → (o s : Tree) → HasNumbers (starts_of (numbers ptype starts.now)) o → Describes sizes.now s → AreLists count len o s }
 {
     match ptype {
@@ -294,12 +282,7 @@ fn are_told_by_type(
 }
 
 // The same of offsets of one type.
-fn are_views<P: NativePType>(
-    offsets: &[u8],
-    sizes: &Part<'_>,
-    count: usize,
-    len: usize,
-) -> bool
+fn are_views<P: NativePType>(offsets: &[u8], sizes: &Part<'_>, count: usize, len: usize) -> bool
     ensures { IsTrue result → (o s : Tree) → HasBytes P.PTYPE offsets.now false o → Describes sizes.now s → AreLists count len o s }
 {
     let Part::Numbers(ptype, sizes, null) = sizes else {
@@ -315,12 +298,7 @@ fn are_views<P: NativePType>(
 }
 
 // The same of offsets of one type.
-fn are_between<P: NativePType>(
-    starts: &[u8],
-    sizes: &Part<'_>,
-    count: usize,
-    len: usize,
-) -> bool
+fn are_between<P: NativePType>(starts: &[u8], sizes: &Part<'_>, count: usize, len: usize) -> bool
     ensures { IsTrue result → (o s : Tree) → HasNumbers (starts_of (numbers P.PTYPE starts.now)) o → Describes sizes.now s → AreLists count len o s }
 {
     let Part::Sizes(ptype, ends) = sizes else {
@@ -340,12 +318,7 @@ fn is_type(ptype: PType, other: PType) -> bool
 }
 
 // Whether numbers of a type are offsets and sizes of so many lists among `count` elements.
-fn are_plain_lists<P: NativePType>(
-    offsets: &[u8],
-    sizes: &[u8],
-    count: usize,
-    len: usize,
-) -> bool
+fn are_plain_lists<P: NativePType>(offsets: &[u8], sizes: &[u8], count: usize, len: usize) -> bool
     ensures { IsTrue result → (o s : Tree) → HasBytes P.PTYPE offsets.now false o → HasBytes P.PTYPE sizes.now false s → AreLists count len o s }
 {
     if number_count(offsets, P::PTYPE) != len {
