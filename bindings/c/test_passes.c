@@ -21,7 +21,7 @@ static void expect_passing(const char *what, const struct codrask_node *nodes, s
 #define OFFSETS_PASS(what, nodes) expect_passing(what, nodes, COUNT(nodes), true, true)
 #define OFFSETS_ARE_ASKED(what, nodes) expect_passing(what, nodes, COUNT(nodes), false, true)
 
-static const int32_t some[] = {0, 1, 2, 3, 4, 5, 6, 7};
+static const int32_t some[] = {0, 1, 2, 3, 4, 5, 6, 7, 8};
 
 static void flat(void) {
     struct codrask_node one[] = {numbers(CODRASK_I32, 8, some, 32)};
@@ -30,7 +30,7 @@ static void flat(void) {
     IS_ASKED("a byte too many", one);
     one[0].byte_count = 28;
     IS_ASKED("a number less", one);
-    static const uint8_t bits[] = {0xff, 0xff};
+    static const uint8_t bits[8] = {0xff, 0xff};
     struct codrask_node truth[] = {truths(16, bits)};
     PASSES("truth values", truth);
     truth[0].offset = 1;
