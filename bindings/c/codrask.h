@@ -570,6 +570,24 @@ uint32_t codrask_write_stream(const struct codrask_column *columns, size_t count
 uint32_t codrask_stream_written(struct ArrowSchema *schemas, struct ArrowArray *arrays, size_t count, struct ArrowArrayStream *stream,
                                 struct codrask_run_fault *fault);
 
+/* ---- Python ---- */
+
+/* Writes the rows of a node of texts or of byte lists as a pickle of Python's, of protocol 3, so that `pickle.loads` makes all of them
+ * at once: a list of `str` or of `bytes`, and of None where a row is null. That is where `valid` has a byte 0, of a byte for each row;
+ * where it is a null pointer none is.
+ *
+ * The node stands in a table that has passed, as codrask_write_passed takes it, or has some of such a node's views and as many rows; and
+ * what `valid` says is what the validity says of these rows. That is not tested: any other node is read past its slices. Read are the
+ * kind, the length and the views of the node, and of its buffers the bytes to which views of rows that are not null refer; its parts
+ * are not.
+ *
+ * Answers 0, and *made is then the caller's, to be given back by codrask_pickle_free; or CODRASK_MEMORY, also where the pickle would have
+ * more bytes than a block can, and *made is then as it was. */
+uint32_t codrask_pickle(const struct codrask_node *node, const uint8_t *valid, struct codrask_bytes *made);
+
+/* Gives back what codrask_pickle wrote; where the count is 0, nothing. */
+void codrask_pickle_free(struct codrask_bytes *made);
+
 #ifdef __cplusplus
 }
 #endif

@@ -158,8 +158,15 @@ struct task {
     int64_t heap_end;  /* where the heap ends, if that is told; else the last number */
 };
 
+/* A name that is chosen, its place among all that are, and the columns that have it: how many, and the last one. */
+struct chosen {
+    const char *name;
+    size_t place, count, column;
+};
+
 /* The columns that are chosen of records, and the records that have these alone. */
 struct choice {
+    struct chosen chosen[MOST_NODES]; /* by their names; of equal ones the first tells of the columns */
     struct ArrowSchema schema, *schemas[MOST_NODES];
     struct ArrowArray array, *arrays[MOST_NODES];
     size_t columns[MOST_NODES]; /* where each of them stands among all columns */

@@ -6,18 +6,55 @@
 
 /* ---- columns ---- */
 
-/* Where the one column of a name stands; their number where none or several have it. */
-static size_t find_column(const struct ArrowSchema *records, const char *name) {
-    size_t count = (size_t)records->n_children, found = count;
-    for (size_t i = 0; i < count; i++) {
-        const struct ArrowSchema *column = records->children[i];
-        if (!column->release || strcmp(column->name ? column->name : "", name))
-            continue;
-        if (found < count)
-            return count;
-        found = i;
+enum { NO_COLUMN = MOST_NODES };
+
+static int compare(const void *one, const void *other) {
+    const struct chosen *a = one, *b = other;
+    return strcmp(a->name, b->name);
+}
+
+/* The names that are chosen, up to the first null pointer, by their names: how many. */
+static size_t sort_names(struct chosen *chosen, const struct codrask_reading *how) {
+    size_t count = 0;
+    for (; count < how->column_count && how->columns[count]; count++)
+        chosen[count] = (struct chosen){how->columns[count], count, 0, 0};
+    qsort(chosen, count, sizeof *chosen, compare);
+    return count;
+}
+
+/* The first of the names that is one name, or a null pointer. */
+static struct chosen *find_name(struct chosen *chosen, size_t count, const char *name) {
+    size_t first = 0, end = count;
+    while (first < end) {
+        size_t middle = first + (end - first) / 2;
+        if (strcmp(chosen[middle].name, name) < 0)
+            first = middle + 1;
+        else
+            end = middle;
     }
-    return found;
+    return first < count && !strcmp(chosen[first].name, name) ? &chosen[first] : NULL;
+}
+
+/* Tells the names of the columns that have them. A column whose schema was released has no name. */
+static void find_columns(struct chosen *chosen, size_t count, const struct ArrowSchema *records) {
+    for (size_t i = 0; i < (size_t)records->n_children; i++) {
+        const struct ArrowSchema *column = records->children[i];
+        struct chosen *found = column->release ? find_name(chosen, count, column->name ? column->name : "") : NULL;
+        if (found) {
+            found->count++;
+            found->column = i;
+        }
+    }
+}
+
+/* Where the one column of each name stands, which comes first among all that are equal; NO_COLUMN where none or several have it. */
+static void put_columns(struct choice *choice, size_t count) {
+    const struct chosen *first = choice->chosen;
+    for (const struct chosen *each = first; each < choice->chosen + count; each++) {
+        if (strcmp(each->name, first->name))
+            first = each;
+        choice->columns[each->place] = first->count == 1 ? first->column : NO_COLUMN;
+    }
 }
 
 /* Records that have the columns alone which are chosen of others. */
@@ -37,11 +74,13 @@ uint32_t codrask_choose_columns(struct reader *reader, const struct codrask_read
     if (!choice)
         return codrask_refuse(reader, CODRASK_MEMORY, 0, 0);
     make_records(choice, schema, array, how->column_count);
+    size_t count = sort_names(choice->chosen, how);
+    find_columns(choice->chosen, count, schema);
+    put_columns(choice, count);
     for (size_t i = 0; i < how->column_count; i++) {
-        size_t column = how->columns[i] ? find_column(schema, how->columns[i]) : MOST_NODES;
-        if (column >= (size_t)schema->n_children)
+        size_t column = i < count ? choice->columns[i] : NO_COLUMN;
+        if (column == NO_COLUMN)
             return codrask_refuse(reader, CODRASK_UNKNOWN_FIELD, 0, i);
-        choice->columns[i] = column;
         choice->schemas[i] = schema->children[column];
         choice->arrays[i] = array->children[column];
     }

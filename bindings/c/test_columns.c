@@ -204,6 +204,80 @@ static void most_passed_over(void) {
     pass_over("one more", without_union, COUNT(without_union), false);
 }
 
+/* ---- many columns ---- */
+
+enum { MANY = 2000 };
+
+/* Records of many columns under names in no order, all chosen in another one. Each column is one number, at its own place. */
+static struct {
+    int64_t numbers[MANY];
+    const void *buffers[2], *bitmap[1];
+    struct ArrowArray each[MANY], *columns[MANY], root;
+    struct ArrowSchema schemas[MANY], *column_schemas[MANY], root_schema;
+    char texts[MANY][8];
+    const char *names[MANY];
+} m;
+
+static void make_many(void) {
+    m.buffers[1] = m.numbers;
+    for (size_t i = 0; i < MANY; i++) {
+        snprintf(m.texts[i], sizeof m.texts[i], "%zu", 1999 * i % MANY);
+        m.each[i] = array(1, (int64_t)i, m.buffers, 2, NULL, 0), m.columns[i] = &m.each[i];
+        m.schemas[i] = schema("l", 0, NULL, 0), m.column_schemas[i] = &m.schemas[i], m.schemas[i].name = m.texts[i];
+        m.names[i] = m.texts[1111 * i % MANY];
+    }
+    m.root = array(1, 0, m.bitmap, 1, m.columns, MANY);
+    m.root_schema = schema("+s", 0, m.column_schemas, MANY);
+}
+
+/* Where the one column of a name stands, by a plain loop; MANY of a name that none or several have. */
+static size_t plain_place(const char *name) {
+    size_t found = MANY, count = 0;
+    for (size_t i = 0; i < MANY && name; i++)
+        if (m.schemas[i].release && !strcmp(m.schemas[i].name ? m.schemas[i].name : "", name))
+            found = i, count++;
+    return count == 1 ? found : MANY;
+}
+
+/* Each name gives the column that a plain loop finds, or the first one that gives none is told. */
+static void find_many(const char *what) {
+    static size_t places[MANY];
+    size_t refused = MANY;
+    for (size_t i = MANY; i-- > 0;)
+        if ((places[i] = plain_place(m.names[i])) == MANY)
+            refused = i;
+    struct codrask_table table;
+    struct codrask_fault found = read_sized(&m.root_schema, &m.root, choice(m.names, MANY), &table);
+    bool good = found.number == (refused < MANY ? CODRASK_UNKNOWN_FIELD : 0) && found.place == (refused < MANY ? refused : 0);
+    for (size_t i = 0; good && refused == MANY && i < MANY; i++)
+        good = table.nodes[1 + i].bytes == (const uint8_t *)&m.numbers[places[i]]
+               && !memcmp(table.nodes[0].buffers[i].bytes, m.names[i], table.nodes[0].buffers[i].count);
+    tell(what, good);
+    if (!found.number)
+        codrask_table_free(&table);
+}
+
+static void many_columns(void) {
+    make_many();
+    find_many("many columns");
+    m.names[7] = m.names[1700] = m.names[900];
+    find_many("three of them one");
+    m.schemas[5].name = NULL, m.names[3] = "", m.names[MANY - 1] = "";
+    find_many("one without a name, twice, and a name that no column has");
+    make_many();
+    m.schemas[1234].name = m.texts[77];
+    find_many("one of two columns of one name, and of a name that no column has");
+    make_many();
+    m.names[1500] = NULL;
+    find_many("a name that is a null pointer");
+    m.names[1600] = NULL, m.schemas[1111 * 1400 % MANY].release = NULL;
+    find_many("and before it that of a column whose schema was released");
+    m.names[1300] = "1e3";
+    find_many("and before it a name that no column has");
+    m.names[0] = "";
+    find_many("and an empty one");
+}
+
 /* ---- the format and the name of what is refused ---- */
 
 static void expect_names(const char *what, uint32_t number, size_t node, const char *format, const char *name) {
@@ -257,6 +331,7 @@ int main(void) {
     passed_over();
     taken_out();
     most_passed_over();
+    many_columns();
     names_of_faults();
     printf("%d passed, %d failed\n", passed, failed);
     return failed != 0;

@@ -77,6 +77,18 @@ static uint32_t passed_before(struct codrask_fault *fault) {
     return 0;
 }
 
+/* Makes pickles of the texts and byte lists of the table, where it has passed; also of rows that are null, whose views are good too. */
+static uint32_t pickles(struct codrask_fault *fault) {
+    uint32_t number = codrask_check(made.nodes, made.count, fault);
+    for (size_t i = 0; i < made.count && !number; i++) {
+        struct codrask_bytes pickle;
+        bool is_value = made.nodes[i].kind == CODRASK_UTF8_VIEW || made.nodes[i].kind == CODRASK_BINARY_VIEW;
+        if (is_value && !(number = codrask_pickle(&made.nodes[i], NULL, &pickle)))
+            codrask_pickle_free(&pickle);
+    }
+    return number;
+}
+
 static uint32_t by_offsets(struct codrask_fault *fault) {
     return write_table(made.nodes, made.count, NULL, CODRASK_BY_OFFSETS, fault);
 }
@@ -314,6 +326,7 @@ int main(void) {
         gives_back(by_offsets, seed) ? passed++ : failed++;
         gives_back(by_views, seed) ? passed++ : failed++;
         gives_back(passed_before, seed) ? passed++ : failed++;
+        gives_back(pickles, seed) ? passed++ : failed++;
         gives_back(stream_out, seed) ? passed++ : failed++;
         gives_back(stream_written, seed) ? passed++ : failed++;
         gives_back(stream_back_in, seed) ? passed++ : failed++;

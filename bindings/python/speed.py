@@ -22,9 +22,21 @@ def other_texts():
     return short_texts("%04d\u00e9")
 
 
-def long_texts():
-    views = b"".join(struct.pack("<I4sII", 20, b"aaaa", 0, 20 * i) for i in range(COUNT))
-    return Column.views(views, [b"a" * 20 * COUNT])
+def long_texts(text="a" * 20):
+    value = text.encode()
+    views = b"".join(struct.pack("<I4sII", len(value), value[:4], 0, len(value) * i) for i in range(COUNT))
+    return Column.views(views, [value * COUNT])
+
+
+def long_other_texts():
+    return long_texts("a text that is \u00e9t\u00e9")
+
+
+def mixed_texts():
+    """Short and long texts by turns."""
+    text = b"a text of 20 letters"
+    views = (struct.pack("<I4sII", 20, text[:4], 0, 20 * i) if i % 2 else struct.pack("<I12s", 6, b"%06d" % i) for i in range(COUNT))
+    return Column.views(b"".join(views), [text * COUNT])
 
 
 def floats():
@@ -43,7 +55,7 @@ def seconds(call):
 
 
 print("a million in Python, seconds: to_pylist, to_arrow, to_arrow(packed=False)")
-for made in (integers, floats, short_texts, other_texts, long_texts, lists):
+for made in (integers, floats, short_texts, other_texts, long_texts, long_other_texts, mixed_texts, lists):
     of = made().check()
     calls = (of.to_pylist, of.to_arrow, lambda of=of: of.to_arrow(packed=False))
-    print(f"{made.__name__.replace('_', ' '):14} {'  '.join(f'{min(seconds(call) for _ in range(5)):.2f}' for call in calls)}")
+    print(f"{made.__name__.replace('_', ' '):16} {'  '.join(f'{min(seconds(call) for _ in range(5)):.2f}' for call in calls)}")

@@ -83,8 +83,8 @@ def test_an_older_library():
     places = ctypes.addressof(schema.part), ctypes.addressof(array.part)
     assert with_library(older, lambda: Column.from_arrow(*places, most_bytes=99).to_pylist()) == [1, None]
     assert with_library(older, lambda: Column.from_arrow(of.Capsules(whole)).to_pylist()) == [1, None]
-    out = Column.from_pylist([1], "u8").__arrow_c_array__
-    for call in (lambda: Column.from_arrow(*places, columns=["a"]), lambda: Column.from_arrow(whole), out):
+    out, texts = Column.from_pylist([1], "u8").__arrow_c_array__, Column.from_pylist(["a"], "text").to_pylist
+    for call in (lambda: Column.from_arrow(*places, columns=["a"]), lambda: Column.from_arrow(whole), out, texts):
         error = with_library(older, call)
         assert isinstance(error, ImportError) and "it is older than this package" in str(error), error
     error = with_library(library.load(), lambda: run([Column.from_pylist([1], "u8")], [Step._of(99, array=0)]))

@@ -1,6 +1,7 @@
 """Runs what docs/FROM_C.md and the package's README.md show: the Python of each as one conversation, and each program in C,
-which must print what the page says that it prints. And what is believed of who calls must be said at the call. Where pyarrow is not installed, a module of its name stands in for it, with
-the one call that the pages show. usage: test_page.py LIBRARY (the archive that the programs are linked with)"""
+which must print what the page says that it prints. And what is believed of who calls must be said at the call, and the numbers of
+faults be those of the library and of the header. Where pyarrow is not installed, a module of its name stands in for it, with the one
+call that the pages show. usage: test_page.py LIBRARY (the archive that the programs are linked with)"""
 import doctest
 import importlib.util
 import os
@@ -11,7 +12,7 @@ import tempfile
 import types
 
 import stand_in
-from codrask import Column
+from codrask import Column, fault_name
 
 TOP = os.path.dirname(os.path.dirname(os.path.dirname(os.path.abspath(__file__))))
 BLOCK = re.compile(r"```(\w+)\n(.*?)```\n(.*?)(?=```|\Z)", re.S)
@@ -64,7 +65,19 @@ def believed():
     yield "believes that each buffer is as long as the array needs" in first
     passed = header[: header.index("uint32_t codrask_write_passed(")].rsplit("/*", 1)[1]
     yield "It is not tested again" in passed and "nobody sees that" in passed
+    pickled = header[: header.index("uint32_t codrask_pickle(")].rsplit("/*", 1)[1]
+    yield "That is not tested: any other node is read past its slices" in " ".join(pickled.replace("*", "").split())
     yield "whom one trusts: Arrow's structures tell the length of no buffer" in trusted and "no test can see" in trusted
+
+
+def numbers(text, header):
+    """Whether the numbers of faults and their names are, on the page and in the header, those of the library."""
+    told = {int(number): name for number, name in re.findall(r"^\| (\d+) \| `(\w+)` \|", text, re.M)}
+    constants = re.findall(r"enum codrask_(?:stream_)?number \{(.*?)\n\};", header, re.S)
+    named = {int(number): name for name, number in re.findall(r"^    CODRASK_(\w+) = (\d+)", "\n".join(constants), re.M)}
+    yield len(constants) == 2 and len(named) > 30
+    yield all(told.get(number) == name.title().replace("_", "") for number, name in named.items())
+    yield all(fault_name(number) == told.get(number, "") for number in range(1000))
 
 
 def page(*place):
@@ -75,7 +88,7 @@ def page(*place):
 def main(library):
     stand_in_for_pyarrow()
     text, pages = page("docs", "FROM_C.md"), {"README.md": page("bindings", "python", "README.md")}
-    said = list(believed())
+    said = [*believed(), *numbers(text, page("bindings", "c", "codrask.h"))]
     failed, tried = map(sum, zip(*(conversation(name, one) for name, one in {"FROM_C.md": text, **pages}.items())))
     with tempfile.TemporaryDirectory() as folder:
         for code, wanted in programs(text):
@@ -85,7 +98,7 @@ def main(library):
                 failed += 1
                 print(f"a program of FROM_C.md prints {found!r}, and not {wanted!r}")
     if not all(said):
-        print(f"what a call believes is not said: {said}")
+        print(f"what a call believes, or the numbers of faults, are not said: {said}")
     tried, failed = tried + len(said), failed + said.count(False)
     print(f"{tried - failed} passed, {failed} failed")
     return 1 if failed or tried < 20 else 0

@@ -210,8 +210,8 @@ def calls_of(call):
 
 
 def test_no_function_is_called_for_each_row():
-    """A million integers are read in 0.1 seconds and a million texts in 0.5 since no row takes a call; of texts that are not ASCII each
-    takes one. Times depend on the machine: speed.py prints them."""
+    """A million integers are read in 0.1 seconds and a million texts in 0.5 since no row takes a call. Times depend on the machine:
+    speed.py prints them."""
     count = 3000
     told = {
         "i64": list(range(count)),
@@ -219,13 +219,12 @@ def test_no_function_is_called_for_each_row():
         "f64": [i / 3 for i in range(count)],
         "bool": [i % 3 == 0 for i in range(count)],
         "text": [f"{i:06}" if i % 2 else f"a longer text of {i:06}" for i in range(count)],
-        "text?": [None if i % 3 else f"a longer text of {i:06}" for i in range(count)],
+        "text?": [None if i % 3 else f"a longer t\u00e9xt of {i:06}" for i in range(count)],
+        "bytes": [b"\xff" * (i % 30) for i in range(count)],
         "list<i64>": [[i] for i in range(count)],
     }
     for type, rows in told.items():
         assert calls_of(made(rows, type).check().to_pylist) < count / 20, type
-    other = made([f"\u00e9 {i}" for i in range(count)], "text").check()
-    assert count <= calls_of(other.to_pylist) < count * 1.05
 
 
 # ---- random columns

@@ -180,6 +180,8 @@ LATER = {
         _number,
         [_to(ArrowSchema), _to(ArrowArray), _count, _to(ArrowArrayStream), _to(RunFault)],
     ),
+    "codrask_pickle": (_number, [_to(Node), ctypes.c_char_p, _to(Bytes)]),
+    "codrask_pickle_free": (None, [_to(Bytes)]),
     "codrask_capsules": (None, [ctypes.c_void_p]),
     "codrask_new_capsule": (ctypes.c_void_p, [_count]),
     "codrask_take": (None, [ctypes.c_void_p, ctypes.c_void_p, _count, _count]),

@@ -11,8 +11,8 @@ from . import carried
 from .arguments import encoded, integer, listed, shown, truth, wrong
 from .faults import TOO_MANY_NODES, Refused
 from .nodes import ALL_INVALID, ALL_VALID, BINARY_VIEW, BOOL, BY_ARRAY, DICTIONARY, FIXED_SIZE_LIST, LIST_VIEW, MAX_NODES
-from .nodes import NON_NULLABLE, NUMBERS, STRUCT, UTF8_VIEW, Node
-from .rows import LETTERS, SHORT
+from .nodes import NON_NULLABLE, NUMBERS, SHORT, STRUCT, UTF8_VIEW, Node
+from .rows import LETTERS
 
 MOST_HEAP = 2**31 - 1
 _UNSIGNED = {1: "u8", 2: "u16", 4: "u32", 8: "u64"}

@@ -38,6 +38,8 @@ def _python(name, result, *arguments):
 _lend = _python("PyObject_GetBuffer", ctypes.c_int, ctypes.py_object, ctypes.POINTER(_Lent), ctypes.c_int)
 _give_back = _python("PyBuffer_Release", None, ctypes.POINTER(_Lent))
 _copy = _python("PyBytes_FromStringAndSize", ctypes.py_object, ctypes.c_void_p, ctypes.c_ssize_t)
+_see = _python("PyMemoryView_FromMemory", ctypes.py_object, ctypes.c_void_p, ctypes.c_ssize_t, ctypes.c_int)
+_READ_ONLY = 0x100
 
 
 # ---- buffers that are given
@@ -109,6 +111,11 @@ def address_of(view):
     start = lent.start
     _give_back(ctypes.byref(lent))
     return start or 0
+
+
+def seen(start, count):
+    """The bytes at an address, which are somebody else's: they have to be there as long as they are looked at."""
+    return _see(start, count, _READ_ONLY)
 
 
 def stretch_of(view):

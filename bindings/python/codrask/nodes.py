@@ -13,6 +13,7 @@ WIDTHS = {1: 1, 2: 2, 3: 4, 4: 8, 5: 1, 6: 2, 7: 4, 8: 8}
 NON_NULLABLE, ALL_VALID, ALL_INVALID, BY_ARRAY = range(4)
 PARTS = {DICTIONARY: 2, FIXED_SIZE_LIST: 1, LIST_VIEW: 3}
 MAX_NODES = 4096
+SHORT = 12  # bytes that a view has room for
 
 _nothing = (ctypes.c_uint64 * 2)()
 NOWHERE = ctypes.addressof(_nothing)

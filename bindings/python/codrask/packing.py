@@ -4,8 +4,8 @@ no step keeps."""
 from itertools import accumulate
 
 from .nodes import ALL_INVALID, BINARY_VIEW, BOOL, BY_ARRAY, DICTIONARY, FIXED_SIZE_LIST, LIST_VIEW, STRUCT, UTF8_VIEW, WIDTHS
-from .nodes import ends, parts_of
-from .rows import LETTERS, SHORT, rows_of
+from .nodes import SHORT, ends, parts_of
+from .rows import LETTERS, rows_of
 
 _MOST = 2**64
 _VIEW = 128

@@ -7,9 +7,10 @@ from . import carried
 from .arguments import wrong
 from .nodes import ALL_INVALID, BINARY_VIEW, BOOL, BY_ARRAY, DICTIONARY, FIXED_SIZE_LIST, LIST_VIEW, STRUCT, UTF8_VIEW, WIDTHS
 from .nodes import part_count
+from .values import values_of
 
 LETTERS = {1: "B", 2: "H", 3: "I", 4: "Q", 5: "b", 6: "h", 7: "i", 8: "q"}
-SHORT = 12
+WITH_NULLS = (UTF8_VIEW, BINARY_VIEW, LIST_VIEW)  # whose readers give None for null rows
 _TRUTHS = tuple(tuple(bool(byte >> i & 1) for i in range(8)) for byte in range(256))
 
 
@@ -45,7 +46,8 @@ def read(nodes, most, of_places, of_kinds):
             made.append([None] * node.length)
         else:
             rows = reader(node, valid, parts, counted)
-            made.append(rows if valid is None else [row if v else None for row, v in zip(rows, valid)])
+            told = valid is None or node.kind in WITH_NULLS
+            made.append(rows if told else [row if v else None for row, v in zip(rows, valid)])
     [rows] = made
     return rows
 
@@ -60,62 +62,9 @@ def _integers(node, _valid, _parts, _counted):
     return node.bytes.cast(LETTERS[node.kind]).tolist()
 
 
-# ---- values by views
-
-def _sizes(fields, valid):
-    """The sizes of the values; what stands in the view of a null row is not looked at."""
-    sizes = fields[::4].tolist()
-    return sizes if valid is None else [size if v else 0 for size, v in zip(sizes, valid)]
-
-
-def _whole(buffers, wanted):
-    """Whether so many bytes are much of what all buffers hold, so that these are best read whole."""
-    return sum(buffer.nbytes for buffer in buffers) <= 4 * wanted + 4096
-
-
-def _cut(node, valid, plain):
-    """The values, cut out of what `plain` makes of all bytes: each byte is one item of that."""
-    fields = node.views.cast("I")
-    sizes, inside = _sizes(fields, valid), plain(node.views)
-    starts = range(4, 16 * node.length, 16)
-    wanted = sum(sizes)
-    if wanted <= SHORT * node.length and max(sizes, default=0) <= SHORT:
-        return [inside[start : start + size] for start, size in zip(starts, sizes)]
-    blocks = list(map(plain, node.buffers)) if _whole(node.buffers, wanted) else [_Few(buffer, plain) for buffer in node.buffers]
-    places = zip(starts, sizes, fields[2::4].tolist(), fields[3::4].tolist())
-    return [
-        inside[start : start + size] if size <= SHORT else blocks[block][far : far + size]
-        for start, size, block, far in places
-    ]
-
-
-class _Few:
-    """A buffer of which few bytes are wanted: each piece is read by itself."""
-
-    def __init__(self, buffer, plain):
-        self.buffer, self.plain = buffer, plain
-
-    def __getitem__(self, piece):
-        return self.plain(self.buffer[piece])
-
-
 def _values(node, valid, _parts, _counted):
-    return _cut(node, valid, bytes)
-
-
-def _one_to_a_byte(view):
-    """A text with one character for each byte."""
-    return str(view, "latin-1")
-
-
-def _texts(node, valid, _parts, _counted):
-    """Texts, cut where their bytes are, and then read as UTF-8 where a byte is no ASCII."""
-    if not node.buffers and not bytes(node.views).isascii():
-        return [value.decode() for value in _cut(node, valid, bytes)]
-    texts = _cut(node, valid, _one_to_a_byte)
-    if not node.buffers or all(map(str.isascii, texts)):
-        return texts
-    return [text if text.isascii() else text.encode("latin-1").decode() for text in texts]
+    """Texts and byte lists."""
+    return values_of(node, valid)
 
 
 # ---- nests
@@ -151,7 +100,7 @@ def _records(node, _valid, columns, _counted):
 
 READERS = {
     BOOL: _truth_values,
-    UTF8_VIEW: _texts,
+    UTF8_VIEW: _values,
     BINARY_VIEW: _values,
     DICTIONARY: _named,
     FIXED_SIZE_LIST: _lists_of_one_size,

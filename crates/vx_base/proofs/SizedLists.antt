@@ -5,7 +5,7 @@ use Rattle.std.specs.List.{All, flat_map, range_with_len}
 use Rattle.std.proofs.lemmas.List.{length-append}
 use Rattle.std.proofs.lemmas.List.FromFn.{length-range_with_len}
 use Rattle.std.proofs.lemmas.Grind.{flat_map-append}
-use Rattle.vx_base.proofs.Runs.{All-run, in_run, bytes_of_run, list_positions_of_run}
+use Rattle.vx_base.proofs.Runs.{All-left, All-run, in_run, bytes_of_run, list_positions_of_run}
 use Rattle.vx_base.specs.Selections.{run_positions, list_positions, bytes_of_position}
 
 -- how many there are
@@ -85,3 +85,10 @@ list_below zero m k all =
 list_below (suc n) m k all =
     let last : k * suc n + n < m = in_run (λ p. p < m) (k * suc n, k * suc n + suc n) (k * suc n + n) (subst (All (λ p. p < m)) (sym (list_is_run (suc n) k)) all) (omega arith) (omega arith) in
     omega arith
+
+-- and no list is longer than all that there is
+pub no_list_longer : (n m : ℕ) (ps : List ℕ) → All (λ p. p < m) (flat_map (list_positions n) ps) → m < n → length ps ≡ 0
+no_list_longer n m [] all longer = refl
+no_list_longer n m (k ∷ ps) all longer =
+    let end = list_below n m k (All-left (λ p. p < m) (list_positions n k) (flat_map (list_positions n) ps) all) in
+    absurd (omega (arith, end, longer))

@@ -163,9 +163,11 @@ fn put_lists<P: Places>(bits: &BitBuffer, lists: P, size: usize, out: &mut [u8])
     ensures bits { unpacked out.new 0 (length (flat_map (list_positions size) (P.positions lists)))
         ≡ map (bool_at bits.now.bits) (flat_map (list_positions size) (P.positions lists)) }
 {
-    let _ = bits.len();
+    let count = lists.count();
+    // No list is longer than all booleans.
+    prove!(size <= bits.len() || count == 0);
     let mut at = 0;
-    for i in 0..lists.count() {
+    for i in 0..count {
         let start = lists.at(i) * size;
         at = put_run(bits, (start, start + size), out, at);
     }
@@ -225,9 +227,11 @@ fn append_lists<P: Places>(
     ensures bits { Gives result (λ b. b.bits ≡ map (bool_at bits.now.bits) (flat_map (list_positions size) (P.positions lists))) }
     ensures offset { IfOk result (λ b. b.offset ≡ 0) }
 {
-    let _ = bits.len();
+    let count = lists.count();
+    // No list is longer than all booleans.
+    prove!(size <= bits.len() || count == 0);
     let mut picked = BitBufferMut::with_capacity(alloc, len)?;
-    for i in 0..lists.count() {
+    for i in 0..count {
         let start = lists.at(i) * size;
         append_run(&mut picked, bits, start, start + size)?;
     }

@@ -56,6 +56,31 @@ fn views_that_are_checked(rt: HostRuntime) -> Result<(), End> {
     )
 }
 
+// 65 times `a`, and a byte that is in no text.
+fn no_text() -> [u8; 66] {
+    let mut bytes = [b'a'; 66];
+    bytes[65] = 0xFF;
+    bytes
+}
+
+// `check_views_counted` of views that overlap in what is no text.
+fn overlapping(alloc: Global, buffers: &[ByteBuffer]) -> Result<bool, VortexError> {
+    let view = BinaryView::new_ref(65, *b"aaaa", 0, 0);
+    let views = [view, view];
+    let left = check_views_counted(alloc, &views, &Mask::new_true(2), buffers, true, 99)?;
+    Ok(left == 2)
+}
+
+#[test]
+fn views_that_overlap_are_checked(rt: HostRuntime) -> Result<(), End> {
+    let buffers = [ByteBuffer::copy_from(rt.alloc(), &no_text())?];
+    let copies = [ByteBuffer::copy_from(rt.alloc(), &no_text())?];
+    judged(
+        overlapping(rt.alloc(), &buffers),
+        have_same_bytes(&buffers, &copies),
+    )
+}
+
 // `check_and_empty_views`: the view of the null row becomes zeros where it does not fail, and stays
 // as it was where it does.
 fn emptied(

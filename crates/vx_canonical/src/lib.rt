@@ -5,7 +5,8 @@
 //! too. Then `canonical`, which makes an array plain, or picked rows of it, and `join`, which joins
 //! plain arrays. Of constants, `canonical_nested` makes the values plain, level by level, and
 //! `canonical_values` the leaves; `canonical_zeroes` makes rows of which only the validity is
-//! given, and `kept_parts` what values keep without a row. `layouts/` has what does not recurse.
+//! given, `kept_parts` what values keep without a row, and `kept_faults` whether that can be
+//! counted, before it is made. `layouts/` has what does not recurse.
 //!
 //! Each walk is a circle of free functions in one file: `canonical`, `plain_values`
 //! (`canonical_nested`), `blank` and `is_countable` (`canonical_zeroes`), `kept_parts`, `is_plain`,
@@ -21,6 +22,7 @@ mod countable_rows;
 mod extents;
 mod is_plain;
 mod join;
+mod kept_faults;
 mod kept_parts;
 pub mod laws;
 mod layouts;

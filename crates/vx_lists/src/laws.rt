@@ -5,16 +5,15 @@ ghost use Rattle.std.specs.Prelude.{slice_index_or};
 ghost use Rattle.std.specs.List.{flat_map};
 ghost use Rattle.vx_base.specs.Rows.{Row, count_in};
 ghost use Rattle.vx_lists.specs.declared.list_view.rebuild.ListViewRebuildMode.{ListViewRebuildMode};
+ghost use Rattle.vx_tree.specs.Formed.{WellFormed};
 ghost use Rattle.vx_tree.specs.Meaning.{tree_len, row_at, rows};
 ghost use Rattle.vx_tree.specs.Tree.{Tree};
 ghost use Rattle.vx_lists.specs.ListViews.Layout.{ListLayout, layout, rows_of, IsWellFormed, StandsFor, items_of, size_of, canonical, IsTidy};
 ghost use Rattle.vx_lists.specs.ListViews.Layout.{valid_total, numbered, position_rows, map_layout};
 ghost use Rattle.vx_lists.specs.ListViews.References.{IsTrimmedToBounds};
 ghost use Rattle.vx_lists.specs.ListViews.Faults.{rebuild_fault};
-ghost use Rattle.vx_lists.specs.ListViews.{offsets_of, sizes_of, flag_of, counts_in, list_layout_of, list_rows, AreAlike, IsRebuilt};
+ghost use Rattle.vx_lists.specs.ListViews.{offsets_of, sizes_of, flag_of, counts_in, list_layout_of, list_rows, is_list_view, AreAlike, IsRebuilt};
 ghost use Rattle.vx_lists.specs.ListViews.Modes.{HasEmptyNulls, IsExact, IsRebuiltBy};
-
-use crate::list_view::array::ListViewArray;
 
 /// The canonical layout stands for its rows.
 pub fn canonical_stands<T>()
@@ -86,13 +85,12 @@ pub fn tidy_rows_are_canonical()
         StandsFor l rows → IsTidy l → l ≡ canonical rows }
 {}
 
-/// A list view's offsets, sizes, mask and element rows stand for its lists: each list lies within
-/// the elements, and is what its offset and size say.
-pub fn list_views_stand_for_their_lists(lists: &ListViewArray)
-    ensures { StandsFor (list_layout_of lists.now) (list_rows lists.now) }
-{
-    lists.parts();
-}
+/// The offsets, sizes, mask and element rows of a well-formed list view stand for its lists: each
+/// list lies within the elements, and is what its offset and size say.
+pub fn list_views_stand_for_their_lists()
+    ensures { (t : Tree) → WellFormed t → is_list_view t ≡ true →
+        StandsFor (list_layout_of t) (list_rows t) }
+{}
 
 /// Lists have as many elements, joined, as they have in all.
 pub fn joined_lists_have_all_elements<T>()
@@ -121,15 +119,13 @@ pub fn equal_rows_rebuild_alike()
         AreAlike r q ↔ (rows t ≡ rows u) }
 {}
 
-/// A flagged list view whose null rows have size 0 is in the canonical layout of its lists once it
-/// is trimmed to its bounds, as `MakeExact` does: offsets and sizes as numbers, mask and element
-/// rows. Offsets and sizes keep their types.
-pub fn trimmed_views_are_exact(lists: &ListViewArray)
-    ensures { (r : Tree) → flag_of lists.now ≡ true → HasEmptyNulls lists.now →
-        IsTrimmedToBounds lists.now r → IsExact lists.now r }
-{
-    lists.parts();
-}
+/// A well-formed flagged list view whose null rows have size 0 is in the canonical layout of its
+/// lists once it is trimmed to its bounds, as `MakeExact` does: offsets and sizes as numbers, mask
+/// and element rows. Offsets and sizes keep their types.
+pub fn trimmed_views_are_exact()
+    ensures { (t r : Tree) → WellFormed t → flag_of t ≡ true → HasEmptyNulls t →
+        IsTrimmedToBounds t r → IsExact t r }
+{}
 
 /// What a mode has rebuilt stays as it is when that mode rebuilds it again: offsets and sizes as
 /// numbers, mask, element rows and flag.
@@ -146,15 +142,14 @@ pub fn rebuilt_lists_are_not_refused()
         IsRebuiltBy mode t r → rebuild_fault mode r ≡ None }
 {}
 
-/// Each list of a list view starts where it does in one that is alike, and is as long.
-pub fn alike_views_have_equal_places(lists: &ListViewArray)
-    ensures offsets { (t : Tree) (i : ℕ) → AreAlike lists.now t → i < tree_len lists.now →
-        count_in (row_at (offsets_of lists.now) i) ≡ count_in (row_at (offsets_of t) i) }
-    ensures sizes { (t : Tree) (i : ℕ) → AreAlike lists.now t → i < tree_len lists.now →
-        count_in (row_at (sizes_of lists.now) i) ≡ count_in (row_at (sizes_of t) i) }
-{
-    lists.parts();
-}
+/// Each list of a list view starts where it does in one that is alike, and is as long where the
+/// list view is well formed.
+pub fn alike_views_have_equal_places()
+    ensures offsets { (t u : Tree) (i : ℕ) → AreAlike t u → i < tree_len t →
+        count_in (row_at (offsets_of t) i) ≡ count_in (row_at (offsets_of u) i) }
+    ensures sizes { (t u : Tree) (i : ℕ) → WellFormed t → AreAlike t u → i < tree_len t →
+        count_in (row_at (sizes_of t) i) ≡ count_in (row_at (sizes_of u) i) }
+{}
 
 /// Lists that overlap are laid out one after the other.
 pub fn overlapping_lists_part()

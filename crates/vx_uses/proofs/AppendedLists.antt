@@ -63,11 +63,15 @@ total_joined t stands =
     sym (canonical_len (list_layout_of t) stands.well_formed) ∙ ap (λ ls. length (flat_map items_of ls)) stands.same
     ∙ ap length (items_joined (rows t))
 
-some_refused : (t : Tree) → AreJoinedLists t → AllFormed t → StandsFor (list_layout_of t) (list_rows t) → rebuild_overflow t ≡ end_to_end_fault (kind_of t) (rows t)
+-- the law of list views: a well-formed one stands for its lists
+abbrev ListViewsStand : Type 0
+ListViewsStand = (t : Tree) → WellFormed t → is_list_view t ≡ true → StandsFor (list_layout_of t) (list_rows t)
+
+some_refused : (t : Tree) → AreJoinedLists t → AllFormed t → ListViewsStand → rebuild_overflow t ≡ end_to_end_fault (kind_of t) (rows t)
 some_refused (list_view e o s v f) joined formed stands =
     let t = list_view e o s v f in
     let total = length (flat_map items_in (rows t)) in
-    let count = total_joined t stands in (
+    let count = total_joined t (stands t formed.0 refl) in (
     λ i. or_else (either_total_fault (rebuilt_ptype (integer_type (joined.offsets i))) (rebuilt_ptype (integer_type (joined.sizes i))) (count i)) (take_overflow e (count i))
     )
     ∙ ap (λ fault. or_else fault (take_overflow e total)) (or_same (total_fault U64 total))
@@ -94,7 +98,7 @@ none_refused (fixed_list e k v n) joined formed none = let is = joined.layout in
 none_refused (structure ns ts v n) joined formed none = let is = joined.layout in cc
 none_refused (view_array vs bs k v) joined formed none = let is = joined.layout in cc
 
-pub joined_refused : (t : Tree) → AreJoinedLists t → AllFormed t → StandsFor (list_layout_of t) (list_rows t) → rebuild_fault MakeZeroCopyToList t ≡ end_to_end_fault (kind_of t) (rows t)
+pub joined_refused : (t : Tree) → AreJoinedLists t → AllFormed t → ListViewsStand → rebuild_fault MakeZeroCopyToList t ≡ end_to_end_fault (kind_of t) (rows t)
 joined_refused t joined formed stands = elim (eqb_tells (tree_len t) 0) [
   | inl alike ↦ rw alike.0 (sym (none_refused t joined formed alike.1))
   | inr apart ↦ rw (apart.0, joined.flag) (some_refused t joined formed stands)

@@ -131,6 +131,6 @@ fn joined_lists_are_refused_by_their_rows(lists: &ListViewArray)
     ensures { rebuild_fault MakeZeroCopyToList lists.now
         ≡ end_to_end_fault (kind_of lists.now) (rows lists.now) }
 {
-    list_views_stand_for_their_lists(lists);
+    list_views_stand_for_their_lists();
     lists.as_array().known();
 }

@@ -84,7 +84,7 @@ pub fn zero_copy_lists(alloc: Global, lists: &ListViewArray) -> Result<ListColum
     counts_stand_at_their_places();
     rows_stand_at_their_places();
     masks_stand_at_their_places();
-    list_views_stand_for_their_lists(lists);
+    list_views_stand_for_their_lists();
     let mut offsets = Vec::with_capacity(alloc, lists.len())?;
     let mut end = 0;
     for i in 0..lists.offsets().len() {

@@ -1,6 +1,6 @@
 -- Where buffers and views are ASCII, no row is faulty, and none is left to be checked alone.
-use Rattle.std.proofs.Common.{◌≡◌, ℕ, zero, suc, ◌+◌, ◌-◌, ◌<◌, ◌≤◌, ◌&&◌, not, Bool, true, false, cond, ◌∙◌, sym, ap, subst, refl, inl, inr, List, [], ◌∷◌, ◌++◌, length, get_or, take, drop, replicate, arith}
-use Rattle.std.specs.Prelude.{None, IsTrue, IsUtf8, slice_index_or}
+use Rattle.std.proofs.Common.{◌≡◌, ℕ, zero, suc, ◌+◌, ◌-◌, ◌<◌, ◌≤◌, Bool, true, false, ◌∙◌, sym, ap, subst, refl, inl, inr, List, [], ◌++◌, length, get_or, drop, replicate, arith}
+use Rattle.std.specs.Prelude.{None, slice_index_or}
 use Rattle.std.specs.Str.{IsAscii}
 use Rattle.std.proofs.lemmas.Bool.{cases_Bool, cases_lt, le-leb, lt-leb}
 use Rattle.std.proofs.lemmas.List.{get_or_default, get_or-replicate, replicate-append-replicate}
@@ -8,7 +8,7 @@ use Rattle.std.proofs.lemmas.Str.{IsAscii-take, IsAscii-drop, IsUtf8-from_ascii}
 use Rattle.vx_base.specs.Bits.{bool_at}
 use Rattle.vx_views.specs.Alone.{whole_texts, is_alone, views_left}
 use Rattle.vx_views.specs.Ascii.{AreAscii, IsAsciiView, AreAsciiViews}
-use Rattle.vx_views.specs.Faulty.{view_fault, views_fault}
+use Rattle.vx_views.specs.Faulty.{views_fault}
 use Rattle.vx_views.specs.Sound.{IsSoundView}
 use Rattle.vx_views.specs.Views.{view_size, view_block, view_offset, buffer_at, view_value}
 use Rattle.vx_views.specs.declared.view.TheConstants.{MAX_INLINED_SIZE}

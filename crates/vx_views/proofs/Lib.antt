@@ -12,6 +12,7 @@ pub mod Utf8Table
 pub mod Utf8Ranges
 pub mod FirstFaults
 pub mod FaultyViews
+pub mod TextsAround
 pub mod AloneViews
 pub mod Budgets
 pub mod CheckedRows

@@ -5,6 +5,7 @@ pub mod Sound
 pub mod Faulty
 pub mod Alone
 pub mod Ascii
+pub mod TextsAround
 pub mod Emptied
 pub mod Cut
 pub mod Places

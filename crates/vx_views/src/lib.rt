@@ -4,8 +4,8 @@
 //! Read `view` first, with specs/Views: what the 16 bytes say; `view_parts` takes them apart. Then
 //! `build`, with specs/Cut: which buffers a heap becomes; `lengths` and `length_checks` read the
 //! lengths and tell their faults. Then `view_checks`, with specs/Faulty and specs/Sound: which
-//! foreign views are taken. `ascii_checks` is its shorter way, and `view_emptying` also empties the
-//! views of null rows. `cut_laws`, `view_laws` and `text_laws` are for callers. Nothing recurses.
+//! foreign views are taken. `ascii_checks` is its shorter way, `texts_around` bounds what it reads,
+//! and `view_emptying` also empties the views of null rows. `cut_laws`, `view_laws` and `text_laws` are for callers. Nothing recurses.
 #![tactic(auto)]
 
 mod ascii_checks;
@@ -14,6 +14,7 @@ pub mod cut_laws;
 mod length_checks;
 mod lengths;
 pub mod text_laws;
+mod texts_around;
 mod view;
 mod view_checks;
 mod view_emptying;

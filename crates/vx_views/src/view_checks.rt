@@ -7,11 +7,13 @@ ghost use Rattle.vx_base.specs.Refusals.{Refuses, Tests, Gives};
 ghost use Rattle.vx_views.specs.Alone.{whole_texts, is_alone, alone_of, views_left, AreWholeTexts};
 ghost use Rattle.vx_views.specs.Faulty.{views_fault, view_fault, place_fault, text_fault};
 ghost use Rattle.vx_views.specs.Sound.{AreSoundViews};
+ghost use Rattle.vx_views.specs.TextsAround.{AreTextTables};
 ghost use Rattle.vx_views.specs.Utf8.{IsBoundary};
 ghost use Rattle.vx_views.specs.Views.{view_size, view_value, held_value};
 ghost use Rattle.vx_views.specs.declared.view.TheConstants.{MAX_INLINED_SIZE};
 
 use crate::ascii_checks::{are_ascii, are_ascii_views};
+use crate::texts_around::{TextTable, is_text_at, text_tables};
 use crate::view::{BinaryView, bytes_at};
 use simdutf8::Checker;
 use std::alloc::Global;
@@ -54,6 +56,10 @@ pub fn check_views(
 /// decided by where it starts and ends. Checked alone are the other views that refer to their
 /// value, and those that hold a value with a byte of 128 or more.
 ///
+/// Where the valid views name more bytes of the other buffers than these have, as overlapping views
+/// do, these are gone through once, and their texts noted in a quarter of their memory: then at most
+/// 64 bytes of a value are read for its view, however long it is.
+///
 /// Twelve times `a`, an `é` and thirteen times `b` are a buffer of 27 bytes. The view of its first
 /// 14 is checked alone by a budget of 26, and not by one of 27.
 pub fn check_views_counted(
@@ -71,13 +77,14 @@ pub fn check_views_counted(
         ≡ views_left check_utf8 budget mask.now buffers.now views.now) }
 {
     if !check_utf8 {
-        return check_rows::<false>(views, mask, buffers, &[]);
+        return check_rows::<false>(views, mask, buffers, &[], &[]);
     }
     if are_ascii(buffers, budget) && are_ascii_views(views, buffers) {
         return Ok(0);
     }
     let texts = read_ahead(alloc, buffers, budget)?;
-    check_rows::<true>(views, mask, buffers, &texts)
+    let tables = text_tables(alloc, views, mask, buffers, &texts)?;
+    check_rows::<true>(views, mask, buffers, &texts, &tables)
 }
 
 // Whether each valid view may stand there, as a text where text is asked and it is known which
@@ -87,9 +94,11 @@ fn check_rows<const TEXT: bool>(
     mask: &Mask,
     buffers: &[ByteBuffer],
     texts: &[bool],
+    tables: &[TextTable],
 ) -> Result<usize, VortexError>
     requires same_len { length mask.now ≡ length views.now }
     requires texts { IsTrue TEXT → AreWholeTexts buffers.now texts.now }
+    requires tables { AreTextTables buffers.now tables.now }
     ensures tests { Tests result (views_fault TEXT mask.now buffers.now views.now) }
     ensures alone { IfOk result (λ alone. alone ≡ alone_of TEXT texts.now mask.now views.now) }
 {
@@ -97,7 +106,7 @@ fn check_rows<const TEXT: bool>(
     let mut alone = 0;
     for (row, view) in views.iter().enumerate() {
         if valid.value(row) {
-            alone += usize::from(check_view::<TEXT>(view, row, buffers, texts)?);
+            alone += usize::from(check_view::<TEXT>(view, row, buffers, texts, tables)?);
         }
     }
     Ok(alone)
@@ -110,13 +119,15 @@ pub(crate) fn check_view<const TEXT: bool>(
     row: usize,
     buffers: &[ByteBuffer],
     texts: &[bool],
+    tables: &[TextTable],
 ) -> Result<bool, VortexError>
-    requires { IsTrue TEXT → AreWholeTexts buffers.now texts.now }
+    requires texts { IsTrue TEXT → AreWholeTexts buffers.now texts.now }
+    requires tables { AreTextTables buffers.now tables.now }
     ensures tests { Tests result (view_fault TEXT buffers.now view.now row) }
     ensures alone { IfOk result (λ alone. alone ≡ (TEXT && is_alone texts.now view.now)) }
 {
     if TEXT {
-        return check_text_view(view, row, buffers, texts);
+        return check_text_view(view, row, buffers, texts, tables);
     }
     check_place(view, row, buffers)?;
     Ok(false)
@@ -162,25 +173,29 @@ fn check_text_view(
     row: usize,
     buffers: &[ByteBuffer],
     texts: &[bool],
+    tables: &[TextTable],
 ) -> Result<bool, VortexError>
-    requires { AreWholeTexts buffers.now texts.now }
+    requires texts { AreWholeTexts buffers.now texts.now }
+    requires tables { AreTextTables buffers.now tables.now }
     ensures tests { Tests result (view_fault true buffers.now view.now row) }
     ensures alone { IfOk result (λ alone. alone ≡ is_alone texts.now view.now) }
 {
     if view.is_inlined() {
         return check_inlined_text(view, row);
     }
-    let value = value_at(view, row, buffers)?;
+    value_at(view, row, buffers)?;
     let parts = view.as_view();
-    let block = parts.buffer_index as usize;
-    if texts[block] {
-        if !is_text_range(buffers[block].as_slice(), parts.as_range()) {
-            return Err(VortexError::NotUtf8 { row });
-        }
-        return Ok(false);
+    let (block, range) = (parts.buffer_index as usize, parts.as_range());
+    let bytes = buffers[block].as_slice();
+    let is_text = if texts[block] {
+        is_text_range(bytes, range)
+    } else {
+        is_text_at(bytes, range, tables, block)
+    };
+    if !is_text {
+        return Err(VortexError::NotUtf8 { row });
     }
-    check_text(value, row)?;
-    Ok(true)
+    Ok(!texts[block])
 }
 
 // Whether the value that stands in a view is text: whether it was checked alone, as is one with a
@@ -249,27 +264,17 @@ fn ascii_len(bytes: [u8; 16]) -> usize
     high.trailing_zeros() as usize
 }
 
-// Whether the value of a row is text.
-fn check_text(value: &[u8], row: usize) -> Result<(), VortexError>
-    ensures { Tests result (text_fault true value.now row) }
-{
-    if !is_text(value) {
-        return Err(VortexError::NotUtf8 { row });
-    }
-    Ok(())
-}
-
 // Whether a value is text: bytes below 128 are told first, eight at a time. It is long, and
 // so no part of the loops over views.
 #[inline(never)]
-fn is_text(value: &[u8]) -> bool
+pub(crate) fn is_text(value: &[u8]) -> bool
     ensures { IsTrue result ↔ IsUtf8 value.now }
 {
     value.is_ascii() || simdutf8::is_utf8(value)
 }
 
 // Whether a range of a text is a text too, as the boundaries at its ends tell.
-fn is_text_range(text: &[u8], range: Range<usize>) -> bool
+pub(crate) fn is_text_range(text: &[u8], range: Range<usize>) -> bool
     requires text { IsUtf8 text.now }
     requires some { range.start < range.end }
     requires within { range.end ≤ length text.now }

@@ -7,7 +7,9 @@ ghost use Rattle.vx_views.specs.Alone.{alone_of, views_left, AreWholeTexts};
 ghost use Rattle.vx_views.specs.Emptied.{emptied_views, AreKept};
 ghost use Rattle.vx_views.specs.Faulty.{views_fault};
 ghost use Rattle.vx_views.specs.Sound.{AreSoundViews};
+ghost use Rattle.vx_views.specs.TextsAround.{AreTextTables};
 
+use crate::texts_around::{TextTable, text_tables};
 use crate::view::BinaryView;
 use crate::view_checks::{check_view, read_ahead};
 use std::alloc::Global;
@@ -41,10 +43,11 @@ pub fn check_and_empty_views(
     ensures untouched { IfErr result (λ e. e ≡ Memory → views.new ≡ views.old) }
 {
     if !check_utf8 {
-        return check_and_empty_rows::<false>(views, mask, buffers, &[]);
+        return check_and_empty_rows::<false>(views, mask, buffers, &[], &[]);
     }
     let texts = read_ahead(alloc, buffers, budget)?;
-    check_and_empty_rows::<true>(views, mask, buffers, &texts)
+    let tables = text_tables(alloc, views, mask, buffers, &texts)?;
+    check_and_empty_rows::<true>(views, mask, buffers, &texts, &tables)
 }
 
 // Whether each valid view may stand there, as `check_rows` tells, with how many values were checked
@@ -54,9 +57,11 @@ fn check_and_empty_rows<const TEXT: bool>(
     mask: &Mask,
     buffers: &[ByteBuffer],
     texts: &[bool],
+    tables: &[TextTable],
 ) -> Result<usize, VortexError>
     requires same_len { length mask.now ≡ length views.old }
     requires texts { IsTrue TEXT → AreWholeTexts buffers.now texts.now }
+    requires tables { AreTextTables buffers.now tables.now }
     ensures tests { Tests result (views_fault TEXT mask.now buffers.now views.old) }
     ensures alone { IfOk result (λ alone. alone ≡ alone_of TEXT texts.now mask.now views.old) }
     ensures views { OnOk result (views.new ≡ emptied_views views.old mask.now) }
@@ -66,7 +71,7 @@ fn check_and_empty_rows<const TEXT: bool>(
     let mut alone = 0;
     for (row, view) in views.iter_mut().enumerate() {
         if valid.value(row) {
-            alone += usize::from(check_view::<TEXT>(view, row, buffers, texts)?);
+            alone += usize::from(check_view::<TEXT>(view, row, buffers, texts, tables)?);
         } else {
             *view = BinaryView::empty_view();
         }

@@ -4,7 +4,7 @@ use crate::base::masks::mask_of;
 use std::alloc::Global;
 use std::test::Fail;
 use vx_base::{ByteBuffer, Mask, VortexError};
-use vx_views::{BinaryView, check_and_empty_views, check_views, check_views_counted};
+use vx_views::{BinaryView, Ref, check_and_empty_views, check_views, check_views_counted};
 
 // What is answered of one view over one buffer, in which text is asked.
 fn check_one(
@@ -27,6 +27,76 @@ fn values_are_checked_alone(rt: HostRuntime) {
         assert_eq!(rt; refused, Err(VortexError::NotUtf8 { row: 0 }));
         assert_eq!(rt; check_one(rt.alloc(), &text[..27], whole, budget), Ok(()));
         assert_eq!(rt; check_one(rt.alloc(), text, whole, budget), Ok(()));
+    }
+}
+
+// 70 times `a`, an `é`, 60 times `b`, a byte that is in no text, 80 times `c`, and two of the three
+// bytes of a `€`.
+fn two_texts() -> [u8; 215] {
+    let mut bytes = [b'a'; 215];
+    bytes[70..72].copy_from_slice(b"\xC3\xA9");
+    bytes[72..132].copy_from_slice(&[b'b'; 60]);
+    bytes[132] = 0xFF;
+    bytes[133..213].copy_from_slice(&[b'c'; 80]);
+    bytes[213..].copy_from_slice(b"\xE2\x82");
+    bytes
+}
+
+// What is answered where the first text is named twice, and then a range of these bytes.
+fn check_overlapping(
+    alloc: Global,
+    offset: u32,
+    prefix: [u8; 4],
+    size: u32,
+) -> Result<usize, VortexError> {
+    let first = BinaryView::new_ref(132, *b"aaaa", 0, 0);
+    let last = BinaryView::from(Ref {
+        size,
+        prefix,
+        buffer_index: 0,
+        offset,
+    });
+    let mut views = [first, first, last];
+    let buffers = [ByteBuffer::copy_from(alloc, &two_texts())?];
+    let mask = Mask::new_true(3);
+    check_views_counted(alloc, &views, &mask, &buffers, true, 0)?;
+    check_and_empty_views(alloc, &mut views, &mask, &buffers, true, usize::MAX)
+}
+
+#[test]
+fn overlapping_views_of_what_is_no_text_are_checked(rt: HostRuntime) {
+    for (offset, prefix, size) in [
+        (0, *b"aaaa", 132),
+        (0, *b"aaaa", 72),
+        (64, *b"aaaa", 68),
+        (70, *b"\xC3\xA9bb", 62),
+        (72, *b"bbbb", 60),
+        (119, *b"bbbb", 13),
+        (133, *b"cccc", 80),
+        (192, *b"cccc", 21),
+        (200, *b"cccc", 13),
+    ] {
+        let answer = check_overlapping(rt.alloc(), offset, prefix, size);
+        assert_eq!(rt; answer, Ok(3));
+    }
+}
+
+#[test]
+fn overlapping_views_that_leave_a_text_are_refused(rt: HostRuntime) {
+    for (offset, prefix, size) in [
+        (0, *b"aaaa", 71),
+        (0, *b"aaaa", 133),
+        (0, *b"aaaa", 215),
+        (58, *b"aaaa", 13),
+        (71, *b"\xA9bbb", 61),
+        (100, *b"bbbb", 100),
+        (120, *b"bbbb", 13),
+        (132, *b"\xFFccc", 70),
+        (133, *b"cccc", 81),
+        (200, *b"cccc", 15),
+    ] {
+        let answer = check_overlapping(rt.alloc(), offset, prefix, size);
+        assert_eq!(rt; answer, Err(VortexError::NotUtf8 { row: 2 }));
     }
 }
 

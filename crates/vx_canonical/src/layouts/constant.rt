@@ -14,6 +14,7 @@ ghost use Rattle.vx_tree.specs.CanonicalFaults.{canonical_fault, constant_fault,
 
 use crate::canonical_nested::plain_values;
 use crate::canonical_zeroes::{blank, blank_like, is_countable};
+use crate::kept_faults::check_kept;
 use crate::kept_parts::kept_parts;
 use std::alloc::Global;
 use vx_base::{DType, Scalar, Selection, VortexError};
@@ -38,6 +39,7 @@ pub(crate) fn canonical_constant(alloc: Global, array: &ArrayRef) -> Result<Arra
     if !is_countable(dtype, *len) {
         return Err(VortexError::Overflow);
     }
+    check_kept(alloc, dtype, std::slice::from_ref(scalar.value()))?;
     if *len == 0 {
         return no_row(alloc, scalar);
     }

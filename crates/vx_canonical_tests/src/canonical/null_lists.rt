@@ -104,6 +104,24 @@ fn a_record_of_a_null_list(rt: HostRuntime) {
     );
 }
 
+// A record of a null list that no memory holds, and of a list of one null list, whose elements
+// cannot be counted.
+fn records_of_too_much(alloc: Global) -> Result<ArrayRef, VortexError> {
+    let many = fixed(alloc, fixed(alloc, bytes(), MANY)?, MANY)?;
+    let too_many = fixed(alloc, fixed(alloc, fixed(alloc, bytes(), MANY)?, MANY)?, MANY)?;
+    let dtypes = vec![in alloc; many, lists(alloc, too_many)?]?;
+    let dtype = records(alloc, &["a", "b"], dtypes, Nullability::NonNullable)?;
+    let fields = vec![in alloc; None, Some(list(alloc, vec![in alloc; None]?)?)]?;
+    let value = ScalarValue::Record(ScalarValues::from_vec(alloc, fields)?);
+    plain(alloc, dtype, value, 3)
+}
+
+#[test]
+fn elements_are_counted_before_a_field_is_made(rt: HostRuntime) {
+    let refused = records_of_too_much(rt.alloc());
+    assert_eq!(rt; refused.err(), Some(VortexError::Overflow));
+}
+
 // A list of two null lists, five times.
 fn lists_of_null(alloc: Global) -> Result<ArrayRef, VortexError> {
     let dtype = lists(alloc, fixed(alloc, empty_records(alloc)?, MANY)?)?;

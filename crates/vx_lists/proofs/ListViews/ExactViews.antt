@@ -2,7 +2,7 @@
 use Rattle.std.proofs.Common.{◌≡◌, ℕ, ◌+◌, ◌-◌, ◌<◌, ◌≤◌, Bool, true, false, cond, length, get_or, sym, ◌∙◌, ap, subst, arith}
 use Rattle.vx_base.specs.Rows.{Row, null, items, count_in, is_present}
 use Rattle.vx_tree.proofs.RowLists.{length-rows, length-valid_mask, get_or-valid_mask}
-use Rattle.vx_tree.specs.Tree.{Tree, list_view, Valid}
+use Rattle.vx_tree.specs.Tree.{Tree, bools, primitive, constant, dictionary, fixed_list, list_view, structure, view_array, Valid}
 use Rattle.vx_tree.specs.Meaning.{tree_len, kind_of, row_at, rows, rows_range, is_valid_at, valid_mask}
 use Rattle.vx_tree.specs.Formed.{IsListView, WellFormed}
 use Rattle.vx_lists.specs.ListViews.Layout.{ListLayout, canonical, LieEndToEnd}
@@ -119,6 +119,12 @@ module _ (e o s : Tree) (v : Valid) (f : Bool) (formed : WellFormed (list_view e
         sizes_kind = ap kind_of is.sizes;
       }
 
-pub exact : (t e o s : Tree) (v : Valid) (f : Bool) → t ≡ list_view e o s v f → WellFormed (list_view e o s v f) → (r : Tree) → flag_of t ≡ true → HasEmptyNulls t → IsTrimmedToBounds t r → IsExact t r
-exact t e o s v f same formed =
-    subst (λ x. (r : Tree) → flag_of x ≡ true → HasEmptyNulls x → IsTrimmedToBounds x r → IsExact x r) (sym same) (λ r set nulls found. exact_view e o s v f formed set nulls r found)
+pub exact : (t : Tree) → WellFormed t → (q : Tree) → flag_of t ≡ true → HasEmptyNulls t → IsTrimmedToBounds t q → IsExact t q
+exact (list_view e o s v f) formed q set nulls found = exact_view e o s v f formed set nulls q found
+exact (bools b bits v) formed q set nulls found = cc
+exact (primitive p bs v) formed q set nulls found = cc
+exact (constant k r n) formed q set nulls found = cc
+exact (dictionary c v f) formed q set nulls found = cc
+exact (fixed_list e k v n) formed q set nulls found = cc
+exact (structure ns ts v n) formed q set nulls found = cc
+exact (view_array vs bs k v) formed q set nulls found = cc

@@ -86,9 +86,15 @@ module _ (e o s : Tree) (v : Valid) (f : Bool) (good : IsListView e o s f) where
       ∙ sym (map-map list_in (row_at (list_view e o s v f)) (range_with_len 0 (tree_len o)))
 
 -- it stands for its lists
-pub stands_for_lists : (t e o s : Tree) (v : Valid) (f : Bool) → t ≡ list_view e o s v f → WellFormed (list_view e o s v f) → StandsFor (list_layout_of t) (list_rows t)
-stands_for_lists t e o s v f same formed =
-    subst (λ x. StandsFor (list_layout_of x) (list_rows x)) (sym same) (record { well_formed = layout_well_formed e o s v f formed.1; same = rows_of-list_layout_of e o s v f formed.1 })
+pub stands_for_lists : (t : Tree) → WellFormed t → is_list_view t ≡ true → StandsFor (list_layout_of t) (list_rows t)
+stands_for_lists (list_view e o s v f) formed is = record { well_formed = layout_well_formed e o s v f formed.1; same = rows_of-list_layout_of e o s v f formed.1 }
+stands_for_lists (bools b bits v) formed is = cc
+stands_for_lists (primitive t bs v) formed is = cc
+stands_for_lists (constant k r n) formed is = cc
+stands_for_lists (dictionary c v f) formed is = cc
+stands_for_lists (fixed_list e k v n) formed is = cc
+stands_for_lists (structure ns ts v n) formed is = cc
+stands_for_lists (view_array vs bs k v) formed is = cc
 
 -- ---- one list
 

@@ -180,6 +180,7 @@ impl ListViewArray {
     /// Where each list starts among the elements: where the flag is set, each but the first where
     /// the list before it ends.
     pub fn offsets(&self) -> &ArrayRef
+        ensures formed { WellFormed self.now }
         ensures value { result.now ≡ offsets_of self.now }
         ensures counts { IsCounts result.now }
         ensures len { tree_len result.now ≡ tree_len self.now }

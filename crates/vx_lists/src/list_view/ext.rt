@@ -6,6 +6,7 @@ ghost use Rattle.vx_base.specs.DTypes.{dtype_meaning, is_nullable};
 ghost use Rattle.vx_base.specs.Refusals.{Gives, Tests};
 ghost use Rattle.vx_base.specs.Rows.{count_in, is_present, list_in};
 ghost use Rattle.vx_base.specs.declared.errors.VortexError.TheVariants.{Memory};
+ghost use Rattle.vx_tree.specs.Formed.{WellFormed};
 ghost use Rattle.vx_tree.specs.Meaning.{tree_len, kind_of, nullable, row_at, rows};
 ghost use Rattle.vx_tree.specs.Parts.{valid_of};
 ghost use Rattle.vx_tree.specs.Shapes.{shape_of, sliced_shape};
@@ -63,6 +64,7 @@ pub trait ListViewArrayExt: TypedArray {
     /// most the number of elements. Asks a row below the length.
     fn offset_at(&self, i: usize) -> usize
         requires { i < tree_len (Self.as_tree self.now) }
+        ensures formed { WellFormed (Self.as_tree self.now) }
         ensures value { result ≡ count_in (row_at (offsets_of (Self.as_tree self.now)) i) }
         ensures within { result + count_in (row_at (sizes_of (Self.as_tree self.now)) i)
             ≤ tree_len (elements_of (Self.as_tree self.now)) }
