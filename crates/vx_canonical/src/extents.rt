@@ -17,7 +17,7 @@ use vx_base::{DType, VortexError};
 use vx_tree::ArrayRef;
 
 // How many buffers can be numbered by a `u32`.
-const MAX_BUFFERS: usize = 1 << 32;
+pub(crate) const MAX_BUFFERS: usize = 1 << 32;
 
 // Refuses with `Overflow` where arrays of a data type, with so many rows together, have more.
 pub(crate) fn arrays_fit(

@@ -13,12 +13,10 @@ ghost use Rattle.vx_tree.specs.RowParts.{is_long_row, items_in};
 
 use crate::canonical_nested::{fields_at, items_of};
 use crate::canonical_zeroes::is_countable;
+use crate::extents::MAX_BUFFERS;
 use std::alloc::Global;
 use vx_base::{DType, Nullability, ScalarValue, StructFields, VortexError};
 use vx_views::BinaryView;
-
-// How many buffers can be numbered by a `u32`.
-const MAX_BUFFERS: usize = 1 << 32;
 
 // Whether values of a data type keep what can be made.
 #[cycle(check_kept)]
