@@ -108,7 +108,11 @@ fn a_record_of_a_null_list(rt: HostRuntime) {
 // cannot be counted.
 fn records_of_too_much(alloc: Global) -> Result<ArrayRef, VortexError> {
     let many = fixed(alloc, fixed(alloc, bytes(), MANY)?, MANY)?;
-    let too_many = fixed(alloc, fixed(alloc, fixed(alloc, bytes(), MANY)?, MANY)?, MANY)?;
+    let too_many = fixed(
+        alloc,
+        fixed(alloc, fixed(alloc, bytes(), MANY)?, MANY)?,
+        MANY,
+    )?;
     let dtypes = vec![in alloc; many, lists(alloc, too_many)?]?;
     let dtype = records(alloc, &["a", "b"], dtypes, Nullability::NonNullable)?;
     let fields = vec![in alloc; None, Some(list(alloc, vec![in alloc; None]?)?)]?;
