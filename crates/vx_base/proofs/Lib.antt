@@ -19,6 +19,7 @@ pub mod Blocks
 pub mod Chunks
 pub mod FirstFaults
 pub mod Runs
+pub mod PutPositions
 pub mod SizedLists
 pub mod TrueRuns
 pub mod MaskRuns

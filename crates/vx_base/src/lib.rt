@@ -4,7 +4,8 @@
 //! specs/Refusals: what a column may hold, and how a call is refused. Then numbers (`native`,
 //! `numbers`, `buffer`, `byte_buffer`), bits (`bit_buffer` over `bit_bytes`, `bit_words` and
 //! `bit_copies`), and `mask`, which keeps runs (`true_runs`, `mask_runs`). Last `selection`:
-//! `gather` and the files `gathered_*` pick rows in each of its forms.
+//! `gather` and the files `gathered_*` pick rows in each of its forms; `position_runs` writes out
+//! positions that follow one another.
 //!
 //! Data types and values recurse (`#[cycle(dtype)]`, `value`), and so do three walks of them:
 //! whether types are equal (`same_dtype`, in `dtypes` and `struct_fields`), whether a value fits
@@ -41,6 +42,7 @@ mod nullability;
 mod number_runs;
 mod numbers;
 mod places;
+mod position_runs;
 mod ptypes;
 mod scalar;
 mod scalar_value;
@@ -68,6 +70,7 @@ pub use crate::mask_values::MaskValues;
 pub use crate::native::{NativePType, get_then_put, put_then_get};
 pub use crate::nullability::Nullability;
 pub use crate::numbers::{int_at, int_of, number_count, put_int};
+pub use crate::position_runs::{MANY_POSITIONS, push_positions, put_positions};
 pub use crate::ptypes::PType;
 pub use crate::scalar::Scalar;
 pub use crate::scalar_value::{MAX_VALUE_LEN, ScalarValue, ScalarValues};

@@ -17,6 +17,7 @@ use crate::errors::VortexError;
 use crate::mask_rows::MaskRows;
 use crate::mask_runs::{push_run, rows_in, runs_of_both, same_runs};
 use crate::mask_values::MaskValues;
+use crate::position_runs::positions_of_runs;
 use std::alloc::Global;
 use std::marker::Model;
 use std::slice::from_ref;
@@ -200,6 +201,13 @@ impl Mask {
             MaskState::AllFalse(_) => &[],
             MaskState::Mixed(values) => values.runs(),
         }
+    }
+
+    /// The rows that are true, in order, each by its position. Fails only for want of memory.
+    pub fn true_positions(&self, alloc: Global) -> Result<Vec<usize>, VortexError>
+        ensures { Gives result (λ positions. positions.items ≡ trues self.now) }
+    {
+        positions_of_runs(alloc, self.runs(), self.true_count())
     }
 
     /// The booleans, to be read row by row.

@@ -78,8 +78,8 @@ fn bits_that_are_joined(rt: HostRuntime) -> Result<(), End> {
     judged(joined(rt.alloc(), &given), given.is_same(&copy))
 }
 
-// `Mask::from_buffer`, `Mask::from_buffer_within`, `Mask::true_runs`, `Mask::and` and
-// `MaskValues::bit_buffer`.
+// `Mask::from_buffer`, `Mask::from_buffer_within`, `Mask::true_runs`, `Mask::true_positions`,
+// `Mask::and` and `MaskValues::bit_buffer`.
 fn masked(alloc: Global, given: &Given) -> Result<bool, VortexError> {
     let (bits, mask) = (&given.bits, &given.mask);
     let Some(values) = mask.values() else {
@@ -92,11 +92,13 @@ fn masked(alloc: Global, given: &Given) -> Result<bool, VortexError> {
     let within = Mask::from_buffer_within(alloc, bits, mask)?;
     let both = mask.and(alloc, mask)?;
     let runs = mask.true_runs(alloc)?;
+    let positions = mask.true_positions(alloc)?;
     Ok(
         again == *mask
             && within == *mask
             && both == *mask
-            && runs.as_slice() == [(0, 1), (2, 3)].as_slice(),
+            && runs.as_slice() == [(0, 1), (2, 3)].as_slice()
+            && positions.as_slice() == [0, 2].as_slice(),
     )
 }
 

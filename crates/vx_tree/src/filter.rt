@@ -1,7 +1,7 @@
 // Rows of an array under a mask.
 
 ghost use Rattle.std.specs.Prelude.{◌≡◌, length, IfOk};
-ghost use Rattle.vx_base.specs.Refusals.{Refuses};
+ghost use Rattle.vx_base.specs.Refusals.{Gives, Refuses};
 ghost use Rattle.vx_base.specs.Trues.{trues};
 ghost use Rattle.vx_tree.specs.Meaning.{tree_len, kind_of, rows};
 ghost use Rattle.vx_tree.specs.Shapes.{shape_of, selected_shape};
@@ -12,6 +12,10 @@ use crate::array::{ArrayRef, Layout};
 use crate::laws::fewer_rows_are_countable;
 use std::alloc::Global;
 use vx_base::{Mask, Selection, VortexError};
+
+// Of how many rows runs are in the mean from which on numbers are gathered run by run as fast as one
+// by one, at positions that several columns share.
+const SHORT: usize = 3;
 
 impl ArrayRef {
     /// The rows at which the mask is true, in their order, in the same layout and of the same data
@@ -33,9 +37,33 @@ impl ArrayRef {
         if matches!(self.layout(), Layout::Constant { .. }) {
             return Ok(self.filter_constant(alloc, mask)?);
         }
-        fewer_rows_are_countable(self);
-        let selection = Selection::of_runs(mask.runs(), mask.true_count());
-        let filtered = self.select_within(alloc, &selection)?;
+        let filtered = self.filter_within(alloc, mask)?;
         Ok(filtered)
     }
+
+    // The rows at which the mask, which has one boolean a row, is true. Where its runs are short,
+    // their positions are written out once for all columns of records: runs cost a step for each
+    // column and run.
+    fn filter_within(&self, alloc: Global, mask: &Mask) -> Result<ArrayRef, VortexError>
+        requires { length mask.now ≡ tree_len self.now }
+        ensures { Gives result (IsSelected self.now (trues mask.now)) }
+    {
+        fewer_rows_are_countable(self);
+        if self.has_columns() && has_short_runs(mask) {
+            let positions = mask.true_positions(alloc)?;
+            return self.select_within(alloc, &Selection::at_positions(&positions));
+        }
+        let selection = Selection::of_runs(mask.runs(), mask.true_count());
+        self.select_within(alloc, &selection)
+    }
+
+    // Whether there are several columns.
+    fn has_columns(&self) -> bool {
+        matches!(self.layout(), Layout::Struct { columns, .. } if columns.len() > 1)
+    }
+}
+
+// Whether the runs of true rows have fewer than three rows in the mean.
+fn has_short_runs(mask: &Mask) -> bool {
+    mask.runs().len() > mask.true_count() / SHORT
 }

@@ -7,7 +7,7 @@ ghost use Rattle.vx_base.specs.Refusals.{Gives, Refuses};
 ghost use Rattle.vx_base.specs.Integers.{Holds};
 ghost use Rattle.vx_base.specs.Rows.{is_present, truth_of, number_in};
 ghost use Rattle.vx_base.specs.Kinds.{booleans, is_integers, is_plain_integers, integer_type};
-ghost use Rattle.vx_tree.specs.Layouts.{first_bit};
+ghost use Rattle.vx_tree.specs.Layouts.{first_bit, is_primitive};
 ghost use Rattle.vx_tree.specs.Meaning.{tree_len, kind_of, row_at};
 ghost use Rattle.vx_tree.specs.Parts.{valid_of};
 ghost use Rattle.vx_tree.specs.Faults.{position_fault};
@@ -57,6 +57,7 @@ impl ArrayRef {
     /// The number of row `i`, where it is not null. Asks an integer data type and a row below the
     /// length.
     #[cycle(read)]
+    #[inline]
     pub fn int_at(&self, i: usize) -> Option<i128>
         requires ints { is_integers (kind_of self.now) ≡ true }
         requires in_bounds { i < tree_len self.now }
@@ -66,18 +67,36 @@ impl ArrayRef {
         ensures holds { IfSome result (Holds (integer_type (kind_of self.now))) }
         ensures small { IfSome result (λ z. z ≤ℤ pos (2 ^ 64 - 1)) }
     {
+        let Layout::Primitive {
+            ptype,
+            bytes,
+            validity,
+        } = self.layout()
+        else {
+            return self.repeated_int_at(i);
+        };
+        if validity.is_valid_at(i) {
+            Some(int_at(bytes.as_slice(), *ptype, i))
+        } else {
+            None
+        }
+    }
+
+    // The number of row `i`, where a constant or a dictionary tells it. Not inlined, so that
+    // numbers are read where they lie.
+    #[cycle(read)]
+    #[inline(never)]
+    fn repeated_int_at(&self, i: usize) -> Option<i128>
+        requires ints { is_integers (kind_of self.now) ≡ true }
+        requires layout { is_primitive self.now ≡ false }
+        requires in_bounds { i < tree_len self.now }
+        ensures value { result ≡ number_in (row_at self.now i) }
+        ensures present { is_some result ≡ is_present (row_at self.now i) }
+        ensures plain { is_plain_integers (kind_of self.now) ≡ true → IsSome result }
+        ensures holds { IfSome result (Holds (integer_type (kind_of self.now))) }
+        ensures small { IfSome result (λ z. z ≤ℤ pos (2 ^ 64 - 1)) }
+    {
         match self.layout() {
-            Layout::Primitive {
-                ptype,
-                bytes,
-                validity,
-            } => {
-                if validity.is_valid_at(i) {
-                    Some(int_at(bytes.as_slice(), *ptype, i))
-                } else {
-                    None
-                }
-            }
             Layout::Constant { scalar, .. } => scalar.as_int(),
             Layout::Dict { codes, values, .. } => match codes.code_at(i, values.len()) {
                 Some(code) => values.int_at(code),

@@ -1,7 +1,9 @@
 // Data types, scalars and masks, asked and shared.
 
 use crate::base::scalars::{parcel, parcel_value};
-use vx_base::{Buffer, DType, Mask, Nullability, PType, Scalar, ScalarValue, VortexError};
+use vx_base::{
+    BitBuffer, Buffer, DType, Mask, Nullability, PType, Scalar, ScalarValue, VortexError,
+};
 
 #[test]
 fn data_types_of_offsets(rt: HostRuntime) {
@@ -46,6 +48,47 @@ fn runs_of_a_mask_of_runs(rt: HostRuntime) {
             .expect(&rt, "made")
             .is_empty()
     );
+}
+
+// Whether these are so many positions, one after another, from one on.
+fn follow(positions: &[usize], start: usize, count: usize) -> bool {
+    if positions.len() != count {
+        return false;
+    }
+    let mut expected = start;
+    for position in positions {
+        if *position != expected {
+            return false;
+        }
+        expected = expected.wrapping_add(1);
+    }
+    true
+}
+
+#[test]
+fn positions_of_masks_that_are_alike(rt: HostRuntime) {
+    for len in [0usize, 1, 7, 8, 9, 16, 17, 524_288, 524_289] {
+        let all = Mask::new_true(len)
+            .true_positions(rt.alloc())
+            .expect(&rt, "made");
+        assert!(rt; follow(&all, 0, len));
+        let none = Mask::new_false(len.max(1))
+            .true_positions(rt.alloc())
+            .expect(&rt, "made");
+        assert!(rt; none.is_empty());
+    }
+}
+
+#[test]
+fn positions_of_runs_of_all_lengths(rt: HostRuntime) {
+    let bits = [
+        true, false, true, true, false, false, true, true, true, true, true, true, true, true,
+        true, false, true,
+    ];
+    let bits = BitBuffer::from_bools(rt.alloc(), &bits).expect(&rt, "made");
+    let mask = Mask::from_buffer(rt.alloc(), bits).expect(&rt, "made");
+    let positions = mask.true_positions(rt.alloc()).expect(&rt, "made");
+    assert!(rt; positions.as_slice() == [0, 2, 3, 6, 7, 8, 9, 10, 11, 12, 13, 14, 16].as_slice());
 }
 
 #[test]

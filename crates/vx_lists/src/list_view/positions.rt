@@ -1,6 +1,5 @@
-// The positions of the elements of lists, one list after another. Eight are written at once, with no
-// branch on the size, and those past the end of a list are written over by the next. Where few lists
-// have elements, or there are very many positions, those of lists that meet are pushed together.
+// The positions of the elements of lists, one list after another. Where few lists have elements, or
+// there are very many positions, those of lists that meet are pushed together.
 
 ghost use Rattle.std.specs.Prelude.{ℕ, ◌≡◌, ◌+◌, ◌-◌, ◌/◌, ◌<◌, ◌≤◌, ◌^◌, ◌++◌, [], length, sum, take, count_by, nat_lt};
 ghost use Rattle.std.specs.List.{range_with_len};
@@ -12,14 +11,10 @@ ghost use Rattle.vx_lists.specs.ListViews.PlannedRuns.{AreListBytes};
 
 use crate::list_view::counts::count_of_bytes;
 use std::alloc::Global;
-use vx_base::{NativePType, PType, VortexError, call_native, number_count};
-
-// How many positions are written at once.
-const AT_ONCE: usize = 8;
-
-// More positions than these, of 8 bytes each, leave the cache before they are written over: to clear
-// memory for them takes as long as eight at once save.
-const MANY: usize = 1 << 19;
+use vx_base::{
+    MANY_POSITIONS, NativePType, PType, VortexError, call_native, number_count, push_positions,
+    put_positions,
+};
 
 // The positions of the elements of these lists, `count` in all.
 pub(crate) fn list_positions(
@@ -71,7 +66,7 @@ fn typed_positions<O: NativePType, S: NativePType>(
         ≡ joined_positions (counts_of O.PTYPE offsets.now) (counts_of S.PTYPE sizes.now)) }
 {
     let lists = number_count(sizes, S::PTYPE);
-    if count < lists || count > MANY || few_have_elements::<S>(sizes) {
+    if count < lists || count > MANY_POSITIONS || few_have_elements::<S>(sizes) {
         return pushed_positions::<O, S>(alloc, offsets, sizes, count);
     }
     let mut positions = vec![in alloc; 0usize; count]?;
@@ -136,25 +131,12 @@ fn push_lists<O: NativePType, S: NativePType>(
         if meets {
             end += size;
         } else {
-            push_range(positions, start, end);
+            push_positions(positions, start, end);
             start = offset;
             end = offset + size;
         }
     }
-    push_range(positions, start, end);
-}
-
-// Pushes the positions from `start` up to `end`, for which there is room.
-#[inline]
-fn push_range(positions: &mut Vec<usize>, start: usize, end: usize)
-    requires ordered { start ≤ end }
-    requires room { vec_len positions.old + (end - start) ≤ vec_capacity positions.old }
-    ensures items { positions.new.items ≡ positions.old.items ++ range_with_len start (end - start) }
-    ensures capacity { vec_capacity positions.new ≡ vec_capacity positions.old }
-{
-    for position in start..end {
-        positions.push_reserved(position);
-    }
+    push_positions(positions, start, end);
 }
 
 // Writes the positions of the elements of these lists. Not inlined, so that the loop stands by
@@ -170,64 +152,7 @@ fn put_lists<O: NativePType, S: NativePType>(offsets: &[u8], sizes: &[u8], out: 
     for row in 0..number_count(offsets, O::PTYPE) {
         let offset = count_of_bytes::<O>(offsets, row);
         let size = count_of_bytes::<S>(sizes, row);
-        put_list(out, at, offset, size);
+        put_positions(out, at, offset, size);
         at += size;
-    }
-}
-
-// Writes `size` positions from `start` on to the places from `at` on: by eights, or one by one
-// where eight more would go past the last place. What there is after them may change.
-#[inline]
-fn put_list(out: &mut [usize], at: usize, start: usize, size: usize)
-    requires room { at + size ≤ length out.old }
-    requires end { start + size < 2 ^ 64 }
-    ensures len { length out.new ≡ length out.old }
-    ensures put { take (at + size) out.new ≡ take at out.old ++ range_with_len start size }
-{
-    if out.len() - at - size < AT_ONCE {
-        put_each(out, at, start, size);
-    } else {
-        put_eights(out, at, start, size);
-    }
-}
-
-// Writes `size` positions from `start` on to the places from `at` on, one by one.
-fn put_each(out: &mut [usize], at: usize, start: usize, size: usize)
-    requires room { at + size ≤ length out.old }
-    requires end { start + size < 2 ^ 64 }
-    ensures len { length out.new ≡ length out.old }
-    ensures put { take (at + size) out.new ≡ take at out.old ++ range_with_len start size }
-{
-    for i in 0..size {
-        out[at + i] = start + i;
-    }
-}
-
-// Writes `size` positions from `start` on to the places from `at` on, by eights. What there is
-// after them may change.
-#[inline]
-fn put_eights(out: &mut [usize], at: usize, start: usize, size: usize)
-    requires room { at + size + 8 ≤ length out.old }
-    requires end { start + size < 2 ^ 64 }
-    ensures len { length out.new ≡ length out.old }
-    ensures put { take (at + size) out.new ≡ take at out.old ++ range_with_len start size }
-{
-    put_eight(out, at, start);
-    for j in 1..size.div_ceil(AT_ONCE) {
-        put_eight(out, at + AT_ONCE * j, start + AT_ONCE * j);
-    }
-}
-
-// Writes eight numbers from `start` on, the next of the greatest being 0. As many of them are
-// positions as a list has elements.
-#[inline]
-fn put_eight(out: &mut [usize], at: usize, start: usize)
-    requires room { at + 8 ≤ length out.old }
-    ensures len { length out.new ≡ length out.old }
-    ensures put { (n : ℕ) → n ≤ 8 → start + n ≤ 2 ^ 64
-        → take (at + n) out.new ≡ take at out.old ++ range_with_len start n }
-{
-    for i in 0..AT_ONCE {
-        out[at + i] = start.wrapping_add(i);
     }
 }

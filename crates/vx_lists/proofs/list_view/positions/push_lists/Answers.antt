@@ -7,8 +7,8 @@ use Rattle.vx_lists.proofs.ListViews.PlannedRows.{ArePushed-grow, ArePushed-next
 use Rattle.vx_lists.proofs.list_view.positions.push_lists.Goals as goal
 use Rattle.vx_lists.proofs.list_view.positions.push_lists.Goals.{then-meets, else-meets, then-size-eq0, else-size-eq0}
 
-pub push_range-requires-clause-room : goal.push_range-requires-clause-room
-push_range-requires-clause-room g c =
+pub push_positions-requires-clause-room : goal.push_positions-requires-clause-room
+push_positions-requires-clause-room g c =
     let os : List ℕ = counts_of g.O.NativePType.PTYPE c.args.offsets.now in
     let ss : List ℕ = counts_of g.S.NativePType.PTYPE c.args.sizes.now in
     let same_len : length ss ≡ length os = length-counts_of g.S.NativePType.PTYPE c.args.sizes.now ∙ c.requires.lists.same_len ∙ sym (length-counts_of g.O.NativePType.PTYPE c.args.offsets.now) in
@@ -38,13 +38,13 @@ loop-row-preserved g c =
           }
       | else-meets w ↦
           record {
-            pushed = ArePushed-next os ss i c.loop-row.positions.items c.loop-row.start c.loop-row.end same_len inside kept.pushed c.if-meets.positions.items c.if-meets.start c.if-meets.end (ap (λ r. r.items) w.positions-is ∙ w.push_range.ensures.items) (w.start-is ∙ offset_is) (w.end-is ∙ ap (λ n. n + c.count_of_bytes-size.result) offset_is ∙ ap (λ n. get_or os i 0 + n) size_is);
-            capacity = ap (λ r. r.cap) w.positions-is ∙ w.push_range.ensures.capacity ∙ kept.capacity;
+            pushed = ArePushed-next os ss i c.loop-row.positions.items c.loop-row.start c.loop-row.end same_len inside kept.pushed c.if-meets.positions.items c.if-meets.start c.if-meets.end (ap (λ r. r.items) w.positions-is ∙ w.push_positions.ensures.items) (w.start-is ∙ offset_is) (w.end-is ∙ ap (λ n. n + c.count_of_bytes-size.result) offset_is ∙ ap (λ n. get_or os i 0 + n) size_is);
+            capacity = ap (λ r. r.cap) w.positions-is ∙ w.push_positions.ensures.capacity ∙ kept.capacity;
           }
     ]
 
-pub push_range-requires-2-clause-room : goal.push_range-requires-2-clause-room
-push_range-requires-2-clause-room g c =
+pub push_positions-requires-2-clause-room : goal.push_positions-requires-2-clause-room
+push_positions-requires-2-clause-room g c =
     let os : List ℕ = counts_of g.O.NativePType.PTYPE c.args.offsets.now in
     let ss : List ℕ = counts_of g.S.NativePType.PTYPE c.args.sizes.now in
     let same_len : length ss ≡ length os = length-counts_of g.S.NativePType.PTYPE c.args.sizes.now ∙ c.requires.lists.same_len ∙ sym (length-counts_of g.O.NativePType.PTYPE c.args.offsets.now) in
@@ -57,4 +57,4 @@ returns g c =
     let ss : List ℕ = counts_of g.S.NativePType.PTYPE c.args.sizes.now in
     let same_len : length ss ≡ length os = length-counts_of g.S.NativePType.PTYPE c.args.sizes.now ∙ c.requires.lists.same_len ∙ sym (length-counts_of g.O.NativePType.PTYPE c.args.offsets.now) in
     let all : length os ≤ c.loop-row.row = omega (arith, length-counts_of g.O.NativePType.PTYPE c.args.offsets.now, c.number_count-row-end.ensures, ap (λ t. length (numbers t c.args.offsets.now)) c.PTYPE.ensures) in
-    c.push_range-2.ensures.items ∙ ArePushed-all os ss c.loop-row.row c.loop-row.positions.items c.loop-row.start c.loop-row.end same_len c.loop-row.invariant.pushed all
+    c.push_positions-2.ensures.items ∙ ArePushed-all os ss c.loop-row.row c.loop-row.positions.items c.loop-row.start c.loop-row.end same_len c.loop-row.invariant.pushed all

@@ -6,8 +6,8 @@ use Rattle.vx_lists.proofs.ListViews.PlannedRows.{next_start}
 use Rattle.vx_lists.proofs.ListViews.PutPositions.{list_put}
 use Rattle.vx_lists.proofs.list_view.positions.put_lists.Goals as goal
 
-pub put_list-requires-clause-room : goal.put_list-requires-clause-room
-put_list-requires-clause-room g c =
+pub put_positions-requires-clause-room : goal.put_positions-requires-clause-room
+put_positions-requires-clause-room g c =
     let s = g.S.NativePType.PTYPE in
     let ss : List ℕ = counts_of s c.args.sizes.now in
     let inside : c.loop-row.row < length ss = omega (arith, length-counts_of s c.args.sizes.now, c.requires.lists.same_len, c.number_count-row-end.ensures, ap (λ t. length (numbers t c.args.offsets.now)) c.PTYPE.ensures) in
@@ -26,7 +26,7 @@ loop-row-preserved g c =
     let next = next_start ss i c.loop-row.at (omega arith) c.loop-row.invariant.place in
     let size_is = c.count_of_bytes-size.ensures.value in
     record {
-      len = c.put_list.ensures.len ∙ c.loop-row.invariant.len;
+      len = c.put_positions.ensures.len ∙ c.loop-row.invariant.len;
       place = ap (λ n. c.loop-row.at + n) size_is ∙ next.2;
-      put = list_put os ss c.loop-row.out c.put_list.new.out i c.loop-row.at c.count_of_bytes-offset.result c.count_of_bytes-size.result same_len inside c.count_of_bytes-offset.ensures.value size_is c.loop-row.invariant.put c.put_list.ensures.put;
+      put = list_put os ss c.loop-row.out c.put_positions.new.out i c.loop-row.at c.count_of_bytes-offset.result c.count_of_bytes-size.result same_len inside c.count_of_bytes-offset.ensures.value size_is c.loop-row.invariant.put c.put_positions.ensures.put;
     }

@@ -1,6 +1,6 @@
 use Rattle.std.proofs.Common.{◌∙◌, arith}
-use Rattle.vx_lists.proofs.ListViews.PutPositions.{position_pushed}
-use Rattle.vx_lists.proofs.list_view.positions.push_range.Goals as goal
+use Rattle.vx_base.proofs.PutPositions.{position_pushed}
+use Rattle.vx_base.proofs.position_runs.push_positions.Goals as goal
 
 pub loop-position-preserved : goal.loop-position-preserved
 loop-position-preserved c =

@@ -1,6 +1,6 @@
 use Rattle.std.proofs.Common.{◌≡◌, ◌+◌, ◌++◌, ◌-◌, ◌≤◌, vec_len, vec_capacity}
 use Rattle.std.specs.List.{range_with_len}
-use Rattle.vx_lists.proofs.list_view.positions.push_range.Given as goal
+use Rattle.vx_base.proofs.position_runs.push_positions.Given as goal
 
 abbrev pub invariant-loop-position : goal.invariant-loop-position
 invariant-loop-position l =

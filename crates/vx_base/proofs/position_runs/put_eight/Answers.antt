@@ -1,7 +1,7 @@
 use Rattle.std.proofs.Common.{◌+◌, ◌%◌, ◌^◌, ◌∙◌, take, arith}
 use Rattle.std.proofs.lemmas.List.{length-set}
-use Rattle.vx_lists.proofs.ListViews.PutPositions.{positions_put}
-use Rattle.vx_lists.proofs.list_view.positions.put_eight.Goals as goal
+use Rattle.vx_base.proofs.PutPositions.{positions_put}
+use Rattle.vx_base.proofs.position_runs.put_eight.Goals as goal
 
 pub loop-i-preserved : goal.loop-i-preserved
 loop-i-preserved c =
