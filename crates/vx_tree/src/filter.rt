@@ -13,8 +13,7 @@ use crate::laws::fewer_rows_are_countable;
 use std::alloc::Global;
 use vx_base::{Mask, Selection, VortexError};
 
-// Of how many rows runs are in the mean from which on numbers are gathered run by run as fast as one
-// by one, at positions that several columns share.
+// How many rows runs have in the mean at most where positions are quicker, for however many columns.
 const SHORT: usize = 3;
 
 impl ArrayRef {
@@ -49,7 +48,7 @@ impl ArrayRef {
         ensures { Gives result (IsSelected self.now (trues mask.now)) }
     {
         fewer_rows_are_countable(self);
-        if self.has_columns() && has_short_runs(mask) {
+        if self.has_short_runs(mask) {
             let positions = mask.true_positions(alloc)?;
             return self.select_within(alloc, &Selection::at_positions(&positions));
         }
@@ -57,13 +56,13 @@ impl ArrayRef {
         self.select_within(alloc, &selection)
     }
 
-    // Whether there are several columns.
-    fn has_columns(&self) -> bool {
-        matches!(self.layout(), Layout::Struct { columns, .. } if columns.len() > 1)
+    // Whether the runs of true rows have fewer rows in the mean than there are columns to share their
+    // positions, and fewer than three.
+    fn has_short_runs(&self, mask: &Mask) -> bool {
+        let Layout::Struct { columns, .. } = self.layout() else {
+            return false;
+        };
+        let short = columns.len().min(SHORT);
+        short > 1 && mask.runs().len() > mask.true_count() / short
     }
-}
-
-// Whether the runs of true rows have fewer than three rows in the mean.
-fn has_short_runs(mask: &Mask) -> bool {
-    mask.runs().len() > mask.true_count() / SHORT
 }

@@ -7,7 +7,7 @@ ghost use Rattle.vx_base.specs.Refusals.{Gives, Refuses};
 ghost use Rattle.vx_base.specs.Integers.{Holds};
 ghost use Rattle.vx_base.specs.Rows.{is_present, truth_of, number_in};
 ghost use Rattle.vx_base.specs.Kinds.{booleans, is_integers, is_plain_integers, integer_type};
-ghost use Rattle.vx_tree.specs.Layouts.{first_bit, is_primitive};
+ghost use Rattle.vx_tree.specs.Layouts.{first_bit, is_bools, is_primitive};
 ghost use Rattle.vx_tree.specs.Meaning.{tree_len, kind_of, row_at};
 ghost use Rattle.vx_tree.specs.Parts.{valid_of};
 ghost use Rattle.vx_tree.specs.Faults.{position_fault};
@@ -108,13 +108,29 @@ impl ArrayRef {
 
     // Row `i` of an array of plain booleans.
     #[cycle(read)]
+    #[inline(always)]
     pub(crate) fn truth_at(&self, i: usize) -> bool
         requires kind { kind_of self.now ≡ booleans false }
         requires in_bounds { i < tree_len self.now }
         ensures { result ≡ truth_of (row_at self.now i) }
     {
+        let Layout::Bool { bits, .. } = self.layout() else {
+            return self.repeated_truth_at(i);
+        };
+        bits.value(i)
+    }
+
+    // Row `i` of an array of plain booleans, where a constant or a dictionary tells it. Not inlined,
+    // so that bits are read where they lie.
+    #[cycle(read)]
+    #[inline(never)]
+    fn repeated_truth_at(&self, i: usize) -> bool
+        requires kind { kind_of self.now ≡ booleans false }
+        requires layout { is_bools self.now ≡ false }
+        requires in_bounds { i < tree_len self.now }
+        ensures { result ≡ truth_of (row_at self.now i) }
+    {
         match self.layout() {
-            Layout::Bool { bits, .. } => bits.value(i),
             Layout::Constant { scalar, .. } => scalar.as_bool(),
             Layout::Dict { codes, values, .. } => match codes.code_at(i, values.len()) {
                 Some(code) => values.truth_at(code),

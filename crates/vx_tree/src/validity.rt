@@ -135,6 +135,7 @@ impl Validity {
 
     // Whether row `i` is valid.
     #[cycle(read)]
+    #[inline(always)]
     pub(crate) fn is_valid_at(&self, i: usize) -> bool
         requires { ValidReads (valid_of self.now) i }
         ensures { result ≡ is_valid_at (valid_of self.now) i }
