@@ -23,7 +23,7 @@ empty [] e = refl
 empty (x ∷ xs) e = absurd (omega arith)
 
 -- bytes of as many numbers are the same where each number is
-same_bytes : (t : PType) (n : ℕ) (xs ys : List ℕ) → length xs ≡ n * byte_width t → length ys ≡ n * byte_width t → AreBytes xs → AreBytes ys
+pub same_bytes : (t : PType) (n : ℕ) (xs ys : List ℕ) → length xs ≡ n * byte_width t → length ys ≡ n * byte_width t → AreBytes xs → AreBytes ys
     → ((i : ℕ) → i < n → number_at t xs i ≡ number_at t ys i) → xs ≡ ys
 same_bytes t zero xs ys long_x long_y bx by each = empty xs (omega arith) ∙ sym (empty ys (omega arith))
 same_bytes t (suc n) xs ys long_x long_y bx by each =
@@ -44,7 +44,7 @@ same_bytes t (suc n) xs ys long_x long_y bx by each =
         ap (λ m. number_of t (take (byte_width t) m)) (drop-drop (i * byte_width t) (byte_width t) zs ∙ ap (λ m. drop m zs) place)
 
 -- the number at a place that is one of so many
-nth_at : (t : PType) (n : ℕ) (bs : List ℕ) (i : ℕ) → length bs ≡ n * byte_width t → i < n → number_nth (numbers t bs) i ≡ number_at t bs i
+pub nth_at : (t : PType) (n : ℕ) (bs : List ℕ) (i : ℕ) → length bs ≡ n * byte_width t → i < n → number_nth (numbers t bs) i ≡ number_at t bs i
 nth_at t n bs i long inside =
     let count : length bs / byte_width t ≡ n = ap (λ m. m / byte_width t) long ∙ whole_numbers t n in
     get_numbers t bs i (pos 0) (omega arith)

@@ -43,7 +43,7 @@ pub(crate) fn same_texts(a: Part, b: Part) -> bool
 }
 
 // Whether as many views have the same values.
-fn same_values(a: StoredTexts, b: StoredTexts) -> bool
+pub(crate) fn same_values(a: StoredTexts, b: StoredTexts) -> bool
     requires first { AllResolve a }
     requires second { AllResolve b }
     requires same_len { length b.views.now ≡ length a.views.now }
@@ -88,7 +88,7 @@ fn same_bytes(a: Option<&[u8]>, b: Option<&[u8]>) -> bool
 
 // Whether values are the same bytes.
 #[inline(always)]
-fn same_value(a: &[u8], b: &[u8]) -> bool
+pub(crate) fn same_value(a: &[u8], b: &[u8]) -> bool
     ensures { IsTrue result ↔ (a.now ≡ b.now) }
 {
     a == b
