@@ -47,14 +47,15 @@ impl<'a> StoredLists<'a> {
 }
 
 // The items of the lists of both columns, where those of both stand end to end.
+#[inline(never)]
 pub(crate) fn joined_both<'a>(
-    a: StoredLists<'a>,
-    b: StoredLists<'a>,
+    a: &StoredLists<'a>,
+    b: &StoredLists<'a>,
 ) -> Option<(Part<'a>, Part<'a>)>
-    requires first { AreListBytes a.offset_type a.offsets.now a.size_type a.sizes.now (tree_len a.elements.now) }
-    requires second { AreListBytes b.offset_type b.offsets.now b.size_type b.sizes.now (tree_len b.elements.now) }
-    ensures first { IfSome result (λ j. AreStoredItems a.entry j.0) }
-    ensures second { IfSome result (λ j. AreStoredItems b.entry j.1) }
+    requires first { AreListBytes a.now.offset_type a.now.offsets.now a.now.size_type a.now.sizes.now (tree_len a.now.elements.now) }
+    requires second { AreListBytes b.now.offset_type b.now.offsets.now b.now.size_type b.now.sizes.now (tree_len b.now.elements.now) }
+    ensures first { IfSome result (λ j. AreStoredItems a.now j.0) }
+    ensures second { IfSome result (λ j. AreStoredItems b.now j.1) }
 {
     let first = a.joined()?;
     let second = b.joined()?;

@@ -24,17 +24,16 @@ pub(crate) struct Block<'a> {
 // Whether as many lists are the same, one by one, where their elements can be compared so. Not
 // inlined, so that the frame of each level of lists stays small.
 #[inline(never)]
-pub(crate) fn same_lists_anywhere(items: &DType, a: StoredLists, b: StoredLists) -> Option<bool>
-    requires first_kind { kind_of a.elements.now ≡ dtype_meaning items.now }
-    requires second_kind { kind_of b.elements.now ≡ dtype_meaning items.now }
-    requires first { AreListBytes a.offset_type a.offsets.now a.size_type a.sizes.now (tree_len a.elements.now) }
-    requires second { AreListBytes b.offset_type b.offsets.now b.size_type b.sizes.now (tree_len b.elements.now) }
-    requires same_len { length (stored_sizes b) ≡ length (stored_sizes a) }
-    ensures { IfSome result (λ same. IsTrue same ↔ ((i : ℕ) → i < length (stored_sizes a.entry) →
-        stored_row a.entry i ≡ stored_row b.entry i)) }
+pub(crate) fn same_lists_anywhere(items: &DType, a: &StoredLists, b: &StoredLists) -> Option<bool>
+    requires first_kind { kind_of a.now.elements.now ≡ dtype_meaning items.now }
+    requires second_kind { kind_of b.now.elements.now ≡ dtype_meaning items.now }
+    requires first { AreListBytes a.now.offset_type a.now.offsets.now a.now.size_type a.now.sizes.now (tree_len a.now.elements.now) }
+    requires second { AreListBytes b.now.offset_type b.now.offsets.now b.now.size_type b.now.sizes.now (tree_len b.now.elements.now) }
+    requires same_len { length (stored_sizes b.now) ≡ length (stored_sizes a.now) }
+    ensures { IfSome result (λ same. IsTrue same ↔ ((i : ℕ) → i < length (stored_sizes a.now) → stored_row a.now i ≡ stored_row b.now i)) }
 {
     let elements = plain_elements(items, a.elements, b.elements)?;
-    Some(same_blocks(elements, a, b))
+    Some(same_blocks(elements, *a, *b))
 }
 
 // The same over these elements.

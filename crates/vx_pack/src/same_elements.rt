@@ -8,7 +8,8 @@ ghost use Rattle.vx_pack.specs.SameElements.{AreElements, AreReadable, AreSameFr
 ghost use Rattle.vx_pack.specs.StoredTexts.{AllResolve, stored_value};
 
 use crate::parts::part_of;
-use crate::same_leaves::{same_value, same_values};
+use crate::same_bytes::same_bytes;
+use crate::same_leaves::same_values;
 use crate::stored_lists::plain_numbers;
 use crate::stored_texts::StoredTexts;
 use vx_base::DType;
@@ -71,7 +72,7 @@ impl<'a> Elements<'a> {
         ensures { IsTrue result ↔ AreSameFrom self.entry x y len }
     {
         match self {
-            Elements::Numbers(width, a, b) => same_value(
+            Elements::Numbers(width, a, b) => same_bytes(
                 &a[x * width..(x + len) * width],
                 &b[y * width..(y + len) * width],
             ),

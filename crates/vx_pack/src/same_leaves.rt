@@ -88,7 +88,7 @@ fn same_bytes(a: Option<&[u8]>, b: Option<&[u8]>) -> bool
 
 // Whether values are the same bytes.
 #[inline(always)]
-pub(crate) fn same_value(a: &[u8], b: &[u8]) -> bool
+fn same_value(a: &[u8], b: &[u8]) -> bool
     ensures { IsTrue result ↔ (a.now ≡ b.now) }
 {
     a == b

@@ -89,8 +89,8 @@ fn same_stored_lists(dtype: &DType, a: Part, b: Part) -> Option<bool>
     let first = a.stored_lists()?;
     let second = b.stored_lists()?;
     let items = items_of(dtype);
-    let Some((first_items, second_items)) = joined_both(first, second) else {
-        return same_lists_anywhere(items, first, second);
+    let Some((first_items, second_items)) = joined_both(&first, &second) else {
+        return same_lists_anywhere(items, &first, &second);
     };
     if !same_sizes(first.size_type, first.sizes, second.size_type, second.sizes) {
         return Some(false);
