@@ -81,75 +81,93 @@ fn wide_lists(
 
 // A text for each of these numbers, one of a letter or a long one.
 fn texts_for(rt: &(impl Abort + AllocGlobal), numbers: &[u8]) -> ArrayRef {
+    let letters: &[u8] = LETTERS;
     let mut views = Vec::new(rt.alloc());
     for number in numbers {
         let start = (*number % 10) as usize;
         let len = if *number % 2 == 0 { 1 } else { 13 };
-        let text = view(rt, &LETTERS[start..start + len], 0, start as u32);
+        let text = view(rt, &letters[start..start + len], 0, start as u32);
         views.push(text).expect(rt, "a view");
     }
-    texts(rt, &views, &[LETTERS])
+    texts(rt, &views, &[letters])
 }
 
-// Numbers of type u8, or a text for each of them.
-fn elements(rt: &(impl Abort + AllocGlobal), numbers: &[u8], are_texts: bool) -> ArrayRef {
-    if are_texts {
-        texts_for(rt, numbers)
-    } else {
-        counts(rt, numbers)
+// Numbers of type u64.
+fn wide_numbers(rt: &(impl Abort + AllocGlobal), items: &[u8]) -> ArrayRef {
+    let mut wide = Vec::new(rt.alloc());
+    for item in items {
+        wide.push(*item as u64).expect(rt, "a number");
+    }
+    numbers::<u64>(rt, &wide)
+}
+
+// What the elements are: numbers of one byte or of eight, or texts.
+#[derive(Clone, Copy)]
+enum Kind {
+    Narrow,
+    Wide,
+    Texts,
+}
+
+// An element for each of these numbers.
+fn elements(rt: &(impl Abort + AllocGlobal), items: &[u8], kind: Kind) -> ArrayRef {
+    match kind {
+        Kind::Narrow => counts(rt, items),
+        Kind::Wide => wide_numbers(rt, items),
+        Kind::Texts => texts_for(rt, items),
     }
 }
 
 // Lists of the pairs, which begin there and have these sizes.
 fn lists_of_pairs(
     rt: &(impl Abort + AllocGlobal),
-    are_texts: bool,
+    kind: Kind,
     offsets: &[u8],
     sizes: &[u8],
 ) -> ArrayRef {
-    lists_at(rt, elements(rt, &PAIRS, are_texts), offsets, sizes)
+    lists_at(rt, elements(rt, &PAIRS, kind), offsets, sizes)
 }
 
 // Stops unless so many lists have the same rows wherever they lie, and others where the first item
 // differs, or the last one, or a size.
-fn expect_lists(rt: &(impl Abort + AllocGlobal), len: usize, are_texts: bool) {
+fn expect_lists_anywhere(rt: &(impl Abort + AllocGlobal), len: usize, kind: Kind) {
     let last = len.saturating_sub(1);
     let sizes = sizes(rt, len);
     let places = offsets(rt, &PLACES, len);
     let ends = ending(rt, &places, &sizes, 12);
-    let turned = elements(rt, &TURNED, are_texts);
+    let turned = elements(rt, &TURNED, kind);
     let made = [
-        lists_of_pairs(rt, are_texts, &places, &sizes),
-        lists_of_pairs(rt, are_texts, &ends, &sizes),
+        lists_of_pairs(rt, kind, &places, &sizes),
+        lists_of_pairs(rt, kind, &ends, &sizes),
         lists_at(rt, turned, &offsets(rt, &TURNED_PLACES, len), &sizes),
-        wide_lists(rt, elements(rt, &PAIRS, are_texts), &ends, &sizes),
+        wide_lists(rt, elements(rt, &PAIRS, kind), &ends, &sizes),
     ];
     let others = [
-        lists_of_pairs(rt, are_texts, &but(rt, &places, 0, 8), &sizes),
-        lists_of_pairs(rt, are_texts, &but(rt, &places, last, 10), &sizes),
-        lists_of_pairs(rt, are_texts, &places, &but(rt, &sizes, 0, 1)),
-        lists_of_pairs(rt, are_texts, &places, &but(rt, &sizes, last, 1)),
+        lists_of_pairs(rt, kind, &but(rt, &places, 0, 8), &sizes),
+        lists_of_pairs(rt, kind, &but(rt, &places, last, 10), &sizes),
+        lists_of_pairs(rt, kind, &places, &but(rt, &sizes, 0, 1)),
+        lists_of_pairs(rt, kind, &places, &but(rt, &sizes, last, 1)),
     ];
     expect_rows(rt, &made, &others);
 }
 
 #[test]
 fn some_lists_of_numbers(rt: HostRuntime) {
-    expect_lists(&rt, 15, false);
-    expect_lists(&rt, 16, false);
-    expect_lists(&rt, 17, false);
+    expect_lists_anywhere(&rt, 15, Kind::Narrow);
+    expect_lists_anywhere(&rt, 16, Kind::Narrow);
+    expect_lists_anywhere(&rt, 17, Kind::Narrow);
 }
 
 #[test]
 fn a_block_of_lists_of_numbers(rt: HostRuntime) {
-    expect_lists(&rt, 127, false);
-    expect_lists(&rt, 128, false);
-    expect_lists(&rt, 129, false);
+    expect_lists_anywhere(&rt, 127, Kind::Narrow);
+    expect_lists_anywhere(&rt, 128, Kind::Wide);
+    expect_lists_anywhere(&rt, 129, Kind::Wide);
 }
 
 #[test]
 fn some_lists_of_texts(rt: HostRuntime) {
-    expect_lists(&rt, 15, true);
-    expect_lists(&rt, 16, true);
-    expect_lists(&rt, 129, true);
+    expect_lists_anywhere(&rt, 15, Kind::Texts);
+    expect_lists_anywhere(&rt, 16, Kind::Texts);
+    expect_lists_anywhere(&rt, 129, Kind::Texts);
 }
