@@ -1,11 +1,11 @@
 -- Lists that stand by offsets and sizes are the same where they are as long and their elements are the same.
 use Rattle.std.proofs.Common.{◌≡◌, ◌↔◌, ◌∙◌, ◌+◌, ◌-◌, ◌*◌, ◌/◌, ◌<◌, ◌≤◌, ℕ, zero, suc, List, length, drop, refl, sym, ap, subst, inl, inr, arith, zero-add}
-use Rattle.std.specs.Prelude.{Bool, IsTrue, Some, pos, slice_range}
+use Rattle.std.specs.Prelude.{Bool, IsTrue, Some, slice_range}
 use Rattle.std.proofs.Math.Nat.{eq-or-lt_of_le, mul-le-mul_right}
 use Rattle.vx_base.proofs.ListParts.{length_part}
 use Rattle.vx_base.proofs.NumberLists.{numbers_part, whole as whole_numbers, width_pos}
 use Rattle.vx_base.specs.Bytes.{AreBytes}
-use Rattle.vx_base.specs.Integers.{byte_width, number_at, number_nth, numbers}
+use Rattle.vx_base.specs.Integers.{byte_width, number_nth, numbers}
 use Rattle.vx_base.specs.Kinds.{Kind, Fits}
 use Rattle.vx_base.specs.Rows.{Row, items, whole}
 use Rattle.vx_base.specs.declared.ptypes.PType.{PType}
@@ -17,7 +17,7 @@ use Rattle.vx_tree.specs.Values.{bytes_in}
 use Rattle.vx_pack.proofs.Ranges.{range_each}
 use Rattle.vx_pack.proofs.ReadCounts.{length-counts_of}
 use Rattle.vx_pack.proofs.SameBytes.{nth_at, nth_part, same_bytes}
-use Rattle.vx_pack.specs.Parts.{AreSame, IsPartOf, part_len, part_row}
+use Rattle.vx_pack.specs.Parts.{AreSame, IsPartOf, part_len}
 use Rattle.vx_pack.specs.SameElements.{AreElements, IsSameAt, IsSameList}
 use Rattle.vx_pack.specs.StoredLists.{AreElementBytes, AreListBytes, AreListRows, stored_row, stored_sizes}
 use Rattle.vx_pack.specs.StoredTexts.{AreFullTexts, stored_value}

@@ -12,7 +12,7 @@ use Rattle.vx_pack.specs.RowForms.{truth_in}
 use Rattle.vx_pack.specs.Parts.{IsPart, part_row}
 use Rattle.vx_pack.proofs.RowForms.{binaries_differ, numbers_differ, texts_differ, truths_differ}
 use Rattle.vx_pack.proofs.SameElements.{same_by_rows}
-use Rattle.vx_pack.proofs.SameJoined.{as_many_items, item_depth, same_joined, sizes_counted, sizes_differ}
+use Rattle.vx_pack.proofs.SameJoined.{as_many_items, item_depth, same_joined, sizes_differ}
 use Rattle.vx_pack.proofs.SameParts.{dtype_at, fields_counted, lists_of_lengths, null_beside_record, same_all_records, same_field, same_fields_by_place, same_leaves, same_lists}
 use Rattle.vx_pack.proofs.same_rows.+same.Goals as goal
 
