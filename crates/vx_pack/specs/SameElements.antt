@@ -37,7 +37,8 @@ IsSameList e x m y n = (m ≡ n) × AreSameFrom e x y m
 -- list i of one column is list i of the other
 abbrev pub IsSameAt : Elements → StoredLists → StoredLists → ℕ → Type 0
 IsSameAt e s z i =
-    IsSameList e (slice_index (stored_starts s) i) (slice_index (stored_sizes s) i) (slice_index (stored_starts z) i) (slice_index (stored_sizes z) i)
+    IsSameList e (slice_index (stored_starts s) i) (slice_index (stored_sizes s) i) (slice_index (stored_starts z) i)
+    (slice_index (stored_sizes z) i)
 
 -- each list of a block ends within so many elements
 pub record AreBlockLists (n : ℕ) (b : Block) : Type 0 where

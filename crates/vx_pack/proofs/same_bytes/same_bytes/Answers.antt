@@ -22,7 +22,8 @@ returns-then-word_at c =
           (sym c.word_at-then-word_at.ensures.value ∙ ap pos (eqb-true y z told) ∙ c.word_at-then-word_at-2.ensures.value)),
       (λ same.
           let read : pos y ≡ pos z =
-          c.word_at-then-word_at.ensures.value ∙ ap (λ bs. number_of U64 (word bs last)) same ∙ sym c.word_at-then-word_at-2.ensures.value in
+          c.word_at-then-word_at.ensures.value ∙ ap (λ bs. number_of U64 (word bs last)) same
+          ∙ sym c.word_at-then-word_at-2.ensures.value in
           let equal : y ≡ z = cc in
           eq-eqb y z equal),
     )
