@@ -43,6 +43,7 @@ pub mod NarrowCounts
 pub mod StoredLists
 pub mod JoinedRuns
 pub mod SameJoined
+pub mod SameElements
 pub mod ListItems
 pub mod ListCounts
 pub mod GatheredRows

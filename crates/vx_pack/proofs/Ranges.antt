@@ -5,7 +5,7 @@ use Rattle.vx_tree.specs.Meaning.{rows_range}
 use Rattle.vx_tree.proofs.FixedLists.{rows_range-same}
 
 -- rows of rows that are the same have as many rows, and the same ones
-range_each : (f g : ℕ → Row) (a b n m : ℕ) → rows_range f a n ≡ rows_range g b m → (n ≡ m) × ((j : ℕ) → j < n → f (a + j) ≡ g (b + j))
+pub range_each : (f g : ℕ → Row) (a b n m : ℕ) → rows_range f a n ≡ rows_range g b m → (n ≡ m) × ((j : ℕ) → j < n → f (a + j) ≡ g (b + j))
 range_each f g a b zero zero e = (refl, λ j l. absurd (omega arith))
 range_each f g a b zero (suc m) e = cc
 range_each f g a b (suc n) zero e = cc

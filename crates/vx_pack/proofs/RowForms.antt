@@ -9,6 +9,7 @@ use Rattle.vx_base.specs.declared.scalar_value.ScalarValue.{ScalarValue}
 use Rattle.vx_base.specs.declared.scalar_value.ScalarValue.TheVariants as value
 use Rattle.vx_tree.specs.Values.{bytes_in}
 use Rattle.vx_pack.specs.Lists.{is_lists}
+use Rattle.vx_pack.specs.Packed.{has_bytes}
 use Rattle.vx_pack.specs.RowForms.{record_in, truth_in}
 
 -- ---- the names of a kind
@@ -142,6 +143,12 @@ binaries_differ n (bytes y) null f g e = cc
 binaries_differ n (bytes y) (bytes z) f g e = cc
 binaries_differ n (bytes y) _ f g e = absurd g
 binaries_differ n _ s f g e = absurd f
+
+-- of both kinds
+pub bytes_differ : (k : Kind) (r s : Row) → has_bytes k ≡ true → Fits k r → Fits k s → bytes_in r ≡ bytes_in s → r ≡ s
+bytes_differ (texts n) r s values f g e = texts_differ n r s f g e
+bytes_differ (binaries n) r s values f g e = binaries_differ n r s f g e
+bytes_differ _ r s values f g e = absurd (cc)
 
 -- a row that is no list is null
 pub no_list : (k : Kind) (r : Row) → is_lists k ≡ true → Fits k r → list_in r ≡ None → r ≡ null

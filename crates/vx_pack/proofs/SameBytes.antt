@@ -1,7 +1,7 @@
 -- Numbers are the same where their bytes are.
 use Rattle.std.proofs.Common.{◌≡◌, ◌↔◌, ◌+◌, ◌-◌, ◌*◌, ◌/◌, ◌<◌, ◌≤◌, ℕ, zero, suc, List, [], ◌∷◌, ◌++◌, length, take, drop, refl, sym, ◌∙◌, ap, arith, IsTrue, Bool, true}
 use Rattle.std.specs.Prelude.{ℤ, pos, slice_range}
-use Rattle.std.proofs.lemmas.List.{drop-drop, get_or-drop, get_or-take, length-drop, length-take-le, take-append-drop}
+use Rattle.std.proofs.lemmas.List.{drop-drop, get_or-drop, get_or-take, length-drop, length-take-le, take-append-drop, take_all}
 use Rattle.std.proofs.Math.Nat.{mul-le-mul_right}
 use Rattle.vx_base.proofs.ListParts.{length_part}
 use Rattle.vx_base.proofs.NumberBytes.{bytes_of-number_of}
@@ -11,6 +11,7 @@ use Rattle.vx_base.specs.Integers.{byte_width, bytes_of, number_at, number_nth, 
 use Rattle.vx_base.specs.Kinds.{Kind, integer_type}
 use Rattle.vx_base.specs.Rows.{whole, number_in}
 use Rattle.vx_base.specs.declared.ptypes.PType.{PType}
+use Rattle.vx_base.specs.declared.ptypes.PType.TheVariants.{U64}
 use Rattle.vx_views.proofs.Padding.{bytes-drop, bytes-take}
 use Rattle.vx_tree.specs.Tree.{Tree, Valid, primitive}
 use Rattle.vx_tree.specs.Meaning.{is_valid_at, kind_of, row_at, tree_len}
@@ -23,7 +24,7 @@ empty [] e = refl
 empty (x ∷ xs) e = absurd (omega arith)
 
 -- bytes of as many numbers are the same where each number is
-same_bytes : (t : PType) (n : ℕ) (xs ys : List ℕ) → length xs ≡ n * byte_width t → length ys ≡ n * byte_width t → AreBytes xs → AreBytes ys
+pub same_bytes : (t : PType) (n : ℕ) (xs ys : List ℕ) → length xs ≡ n * byte_width t → length ys ≡ n * byte_width t → AreBytes xs → AreBytes ys
     → ((i : ℕ) → i < n → number_at t xs i ≡ number_at t ys i) → xs ≡ ys
 same_bytes t zero xs ys long_x long_y bx by each = empty xs (omega arith) ∙ sym (empty ys (omega arith))
 same_bytes t (suc n) xs ys long_x long_y bx by each =
@@ -44,7 +45,7 @@ same_bytes t (suc n) xs ys long_x long_y bx by each =
         ap (λ m. number_of t (take (byte_width t) m)) (drop-drop (i * byte_width t) (byte_width t) zs ∙ ap (λ m. drop m zs) place)
 
 -- the number at a place that is one of so many
-nth_at : (t : PType) (n : ℕ) (bs : List ℕ) (i : ℕ) → length bs ≡ n * byte_width t → i < n → number_nth (numbers t bs) i ≡ number_at t bs i
+pub nth_at : (t : PType) (n : ℕ) (bs : List ℕ) (i : ℕ) → length bs ≡ n * byte_width t → i < n → number_nth (numbers t bs) i ≡ number_at t bs i
 nth_at t n bs i long inside =
     let count : length bs / byte_width t ≡ n = ap (λ m. m / byte_width t) long ∙ whole_numbers t n in
     get_numbers t bs i (pos 0) (omega arith)
@@ -84,3 +85,48 @@ number_bytes_of t u a bs part v start n p same type good within valid cut len ro
           ∙ ap (λ x. whole (number_nth (numbers x bs) (start + i))) types
           ∙ ap whole (sym (nth_part (numbers u bs) start n i (omega (arith, len))) ∙ ap (λ zs. number_nth zs i) (sym (numbers_part u bs start n room)) ∙ ap (λ xs. number_nth (numbers u xs) i) (sym cut));
     }
+
+-- ---- words
+
+word_same : (xs ys : List ℕ) → length xs ≡ 8 → length ys ≡ 8 → AreBytes xs → AreBytes ys → number_of U64 xs ≡ number_of U64 ys → xs ≡ ys
+word_same xs ys long_x long_y bx by same =
+    sym (bytes_of-number_of U64 xs long_x bx) ∙ ap (bytes_of U64) same ∙ bytes_of-number_of U64 ys long_y by
+
+-- the word at a place of bytes
+abbrev pub word : List ℕ → ℕ → List ℕ
+word bs start = slice_range bs start (start + 8)
+
+length-word : (bs : List ℕ) (start : ℕ) → start + 8 ≤ length bs → length (word bs start) ≡ 8
+length-word bs start room =
+    let size : start + 8 - start ≡ 8 = omega arith in
+    length_part bs start (start + 8) (omega arith) room ∙ size
+
+pub bytes-word : (bs : List ℕ) (start : ℕ) → AreBytes bs → AreBytes (word bs start)
+bytes-word bs start good = bytes-take (start + 8 - start) (drop start bs) (bytes-drop start bs good)
+
+-- the last word is all that follows
+last_word : (bs : List ℕ) (start : ℕ) → length bs ≡ start + 8 → word bs start ≡ drop start bs
+last_word bs start long =
+    let size : start + 8 - start ≡ 8 = omega arith in
+    ap (λ n. take n (drop start bs)) size ∙ take_all 8 (drop start bs) (omega (arith, long, length-drop start bs))
+
+-- what follows the first word
+after_word : (bs : List ℕ) (last : ℕ) → last ≤ 8 → drop 8 bs ≡ drop (8 - last) (drop last bs)
+after_word bs last few =
+    let all : last + (8 - last) ≡ 8 = omega arith in
+    ap (λ n. drop n bs) (sym all) ∙ sym (drop-drop (8 - last) last bs)
+
+-- bytes of one word or two are the same where the first and the last word are
+pub same_words : (xs ys : List ℕ) (last : ℕ) → length xs ≡ last + 8 → length ys ≡ last + 8 → last ≤ 8
+    → AreBytes (word xs 0) → AreBytes (word ys 0) → AreBytes (word xs last) → AreBytes (word ys last)
+    → number_of U64 (word xs 0) ≡ number_of U64 (word ys 0) → number_of U64 (word xs last) ≡ number_of U64 (word ys last) → xs ≡ ys
+same_words xs ys last long_x long_y few head_x head_y tail_x tail_y first second =
+    let head : take 8 xs ≡ take 8 ys =
+    word_same (word xs 0) (word ys 0) (length-word xs 0 (omega (arith, long_x))) (length-word ys 0 (omega (arith, long_y))) head_x head_y first in
+    let tail : drop last xs ≡ drop last ys =
+    sym (last_word xs last long_x)
+    ∙ word_same (word xs last) (word ys last) (length-word xs last (omega (arith, long_x))) (length-word ys last (omega (arith, long_y)))
+    tail_x tail_y second
+    ∙ last_word ys last long_y in
+    let rest : drop 8 xs ≡ drop 8 ys = after_word xs last few ∙ ap (drop (8 - last)) tail ∙ sym (after_word ys last few) in
+    sym (take-append-drop 8 xs) ∙ (λ j. head j ++ rest j) ∙ take-append-drop 8 ys

@@ -1,9 +1,8 @@
 -- Lists that stand end to end are the same where they are as long and their items are the same.
-use Rattle.std.proofs.Common.{◌≡◌, ◌↔◌, ◌∙◌, ◌+◌, ◌<◌, ◌≤◌, ℕ, suc, true, IsTrue, List, [], ◌∷◌, ◌++◌, length, map, take, drop, get_or, sum, refl, sym, ap, subst, arith, zero-add}
+use Rattle.std.proofs.Common.{◌≡◌, ◌↔◌, ◌∙◌, ◌+◌, ◌<◌, ◌≤◌, ℕ, suc, true, IsTrue, List, [], ◌∷◌, ◌++◌, length, map, take, drop, get_or, sum, refl, sym, ap, arith, zero-add}
 use Rattle.std.specs.List.{All, flat_map, range_with_len}
-use Rattle.std.specs.Prelude.{Bool, Some, None, slice_index}
+use Rattle.std.specs.Prelude.{Bool, slice_index}
 use Rattle.std.proofs.Math.Seq.{drop-append_seam, take-append_seam}
-use Rattle.std.proofs.lemmas.List.{length-map}
 use Rattle.std.proofs.lemmas.List.Elements.{All-head, All-tail}
 use Rattle.std.proofs.lemmas.List.FromFn.{get_or-map-range_with_len, length-map-range_with_len}
 use Rattle.vx_base.proofs.ListParts.{map_range_same}
@@ -12,14 +11,13 @@ use Rattle.vx_base.specs.Codes.{kind_depth}
 use Rattle.vx_base.specs.Kinds.{Kind, lists, fixed_lists}
 use Rattle.vx_base.specs.Rows.{Row, Rows, no_rows, row, items, list_from, rows_from}
 use Rattle.vx_base.specs.declared.ptypes.PType.{PType}
-use Rattle.vx_tree.specs.Meaning.{row_at}
 use Rattle.vx_pack.proofs.JoinedLists.{sum-list_sizes}
 use Rattle.vx_pack.proofs.ReadCounts.{length-counts_of}
 use Rattle.vx_pack.specs.CountBytes.{counts_of}
 use Rattle.vx_pack.specs.Lists.{IsItemOf, is_list}
 use Rattle.vx_pack.specs.Packed.{items_or_blank, list_sizes}
 use Rattle.vx_pack.specs.Parts.{AreSame, part_len, part_row}
-use Rattle.vx_pack.specs.StoredLists.{AreStoredItems, AreStoredLists, all_positions, stored_sizes, stored_starts}
+use Rattle.vx_pack.specs.StoredLists.{AreStoredItems, AreStoredLists, stored_sizes}
 use Rattle.vx_pack.specs.declared.parts.Part.{Part}
 use Rattle.vx_pack.specs.declared.stored_lists.StoredLists.{StoredLists}
 
@@ -76,13 +74,6 @@ same_each k p q len same i l =
 -- the rows of a part as lists
 abbrev rows_in : Kind → Part → List Row
 rows_in k p = map (part_row k p) (range_with_len 0 (part_len p))
-
--- how many sizes there are
-pub sizes_counted : (item k : Kind) (p : Part) (s : StoredLists) → AreStoredLists item (map (part_row k p) (range_with_len 0 (part_len p))) s
-    → length (numbers s.size_type s.sizes.now) ≡ part_len p
-sizes_counted item k p s h =
-    sym (length-counts_of s.size_type s.sizes.now) ∙ ap length h.sizes
-    ∙ length-map (rows_in k p) (λ r. length (items_or_blank item 0 r)) ∙ length-map-range_with_len (part_row k p) 0 (part_len p)
 
 -- how many items
 items_counted : (item k : Kind) (p x : Part) (s : StoredLists) → AreStoredLists item (map (part_row k p) (range_with_len 0 (part_len p))) s

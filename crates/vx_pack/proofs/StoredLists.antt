@@ -36,8 +36,8 @@ use Rattle.vx_pack.specs.Lists.{IsItemOf, is_list}
 use Rattle.vx_pack.specs.Numbers.{AreNumberBytes}
 use Rattle.vx_pack.specs.Packed.{bytes_of_numbers, items_or_blank, list_sizes, number_or_zero}
 use Rattle.vx_pack.specs.Parts.{HasKind, HasType, IsPartOf, part_len, part_row}
-use Rattle.vx_pack.specs.StoredLists.{AreElementBytes, AreListBytes, AreStoredLists, all_positions, positions_of, stored_sizes}
-use Rattle.vx_pack.specs.StoredLists.{stored_starts}
+use Rattle.vx_pack.specs.StoredLists.{AreElementBytes, AreListBytes, AreListRows, AreStoredLists, all_positions, positions_of}
+use Rattle.vx_pack.specs.StoredLists.{stored_sizes, stored_starts}
 use Rattle.vx_pack.specs.declared.parts.Part.{Part}
 use Rattle.vx_pack.specs.declared.parts.Part.TheVariants as part
 use Rattle.vx_pack.specs.declared.stored_lists.StoredLists.{StoredLists}
@@ -58,6 +58,14 @@ stored_counts_of t a bs part v start n same counts within cut =
     fill_by_all (λ i. pos (count_in (row_at a (start + i)))) (numbers t part) n (pos 0) count
     (λ i l. ap (λ xs. number_nth (numbers t xs) i) cut ∙ ap (λ zs. number_nth zs i) (numbers_part t bs start n room)
     ∙ nth_part (numbers t bs) start n i l ∙ stored_count_is a t bs v (start + i) same counts (omega arith))
+
+-- the count that is read at a place
+count_held : (t : PType) (bs : List ℕ) (f : ℕ → ℕ) (n i : ℕ) → numbers t bs ≡ map (λ j. pos (f j)) (range_with_len 0 n) → i < n
+    → get_or (counts_of t bs) i 0 ≡ f i
+count_held t bs f n i hold inside =
+    let all = range_with_len 0 n in
+    let are : counts_of t bs ≡ map f all = counts_of-held t bs (map f all) (hold ∙ sym (map-map pos f all)) in
+    ap (λ xs. get_or xs i 0) are ∙ get_or-map-range_with_len f 0 n i i 0 inside (zero-add i)
 
 -- ---- the lists of an array
 
@@ -93,9 +101,9 @@ list_bytes_of a e o z v f start n p q os ss same formed within offsets sizes =
     let starts_are : counts_of p os ≡ map begin all = counts_of-held p os (map begin all) offsets_held in
     let sizes_are : counts_of q ss ≡ map size all = counts_of-held q ss (map size all) sizes_held in
     let start_at : (i : ℕ) → i < n → get_or (counts_of p os) i 0 ≡ begin i =
-    λ i l. ap (λ xs. get_or xs i 0) starts_are ∙ get_or-map-range_with_len begin 0 n i i 0 l (zero-add i) in
+    λ i l. count_held p os begin n i offsets l in
     let size_at : (i : ℕ) → i < n → get_or (counts_of q ss) i 0 ≡ size i =
-    λ i l. ap (λ xs. get_or xs i 0) sizes_are ∙ get_or-map-range_with_len size 0 n i i 0 l (zero-add i) in
+    λ i l. count_held q ss size n i sizes l in
     let count : length (counts_of q ss) ≡ n = ap length sizes_are ∙ length-map-range_with_len size 0 n in
     let size_count : length (numbers q ss) ≡ n = sym (length-counts_of q ss) ∙ count in
     let offset_count : length (numbers p os) ≡ n =
@@ -127,9 +135,9 @@ stored_lists_of a e o z v f start n item row s same formed valid within of_item 
     let starts_are : stored_starts s ≡ map begin all = counts_of-held s.offset_type s.offsets.now (map begin all) offsets_held in
     let sizes_are : stored_sizes s ≡ map size all = counts_of-held s.size_type s.sizes.now (map size all) sizes_held in
     let start_at : (i : ℕ) → i < n → get_or (stored_starts s) i 0 ≡ begin i =
-    λ i l. ap (λ xs. get_or xs i 0) starts_are ∙ get_or-map-range_with_len begin 0 n i i 0 l (zero-add i) in
+    λ i l. count_held s.offset_type s.offsets.now begin n i offsets l in
     let size_at : (i : ℕ) → i < n → get_or (stored_sizes s) i 0 ≡ size i =
-    λ i l. ap (λ xs. get_or xs i 0) sizes_are ∙ get_or-map-range_with_len size 0 n i i 0 l (zero-add i) in
+    λ i l. count_held s.size_type s.sizes.now size n i sizes l in
     let count : length (stored_sizes s) ≡ n = ap length sizes_are ∙ length-map-range_with_len size 0 n in
     let one : (i : ℕ) → items_or_blank item 0 (row i) ≡ map (row_at e) (range_with_len (begin i) (size i)) =
     λ i. list_here a e o z v f (start + i) item (row i) same (valid (start + i)) (rows i) in
@@ -152,6 +160,29 @@ stored_lists_of a e o z v f start n item row s same formed valid within of_item 
           ∙ sym (map_of_flat_map (row_at s.elements.now) (positions_of (stored_starts s) (stored_sizes s)) all)
           ∙ ap (λ m. map (row_at s.elements.now) (flat_map (positions_of (stored_starts s) (stored_sizes s)) (range_with_len 0 m)))
           (sym count);
+    }
+
+-- each row is the list of so many elements from a place on
+pub list_rows_of : (k : Kind) (p : Part) (a e o z : Tree) (v : Valid) (f : Bool) (start n : ℕ) (s : StoredLists)
+    → a ≡ list_view e o z v f → ((i : ℕ) → is_valid_at v i ≡ true) → part_len p ≡ n
+    → ((i : ℕ) → part_row k p i ≡ row_at a (start + i)) → s.elements.now ≡ e
+    → numbers s.offset_type s.offsets.now ≡ map (λ i. pos (count_in (row_at o (start + i)))) (range_with_len 0 n)
+    → numbers s.size_type s.sizes.now ≡ map (λ i. pos (count_in (row_at z (start + i)))) (range_with_len 0 n)
+    → AreListRows k p s
+list_rows_of k p a e o z v f start n s same valid len rows is_e offsets sizes =
+    let begin : ℕ → ℕ = λ i. count_in (row_at o (start + i)) in
+    let size : ℕ → ℕ = λ i. count_in (row_at z (start + i)) in
+    let start_at : (i : ℕ) → i < n → get_or (stored_starts s) i 0 ≡ begin i =
+    λ i l. count_held s.offset_type s.offsets.now begin n i offsets l in
+    let size_at : (i : ℕ) → i < n → get_or (stored_sizes s) i 0 ≡ size i =
+    λ i l. count_held s.size_type s.sizes.now size n i sizes l in
+    record {
+      count =
+          length-counts_of s.size_type s.sizes.now ∙ ap length sizes ∙ length-map-range_with_len (λ i. pos (size i)) 0 n ∙ sym len;
+      rows = λ i l.
+          let inside : i < n = omega (arith, len, l) in
+          list_row a e o z v f (start + i) (part_row k p i) same (valid (start + i)) (rows i)
+          ∙ (λ j. items (rows_range (row_at (sym is_e j)) (sym (start_at i inside) j) (sym (size_at i inside) j)));
     }
 
 -- ---- the bytes of the elements

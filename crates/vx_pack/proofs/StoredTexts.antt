@@ -18,7 +18,7 @@ use Rattle.vx_tree.specs.Values.{bytes_in}
 use Rattle.vx_text.specs.Items.{value_of}
 use Rattle.vx_pack.specs.Packed.{has_bytes}
 use Rattle.vx_pack.specs.Parts.{AreSameBy, IsPart, part_len, part_row}
-use Rattle.vx_pack.specs.StoredTexts.{AreFullTexts, AreStoredTexts, AreValuesIn, bytes_or_empty, stored_value, stored_view}
+use Rattle.vx_pack.specs.StoredTexts.{AreFullTexts, AreStoredTexts, AreValuesIn, IsRangeOf, bytes_or_empty, stored_value, stored_view}
 use Rattle.vx_pack.specs.declared.parts.Part.{Part}
 use Rattle.vx_pack.specs.declared.pieces.Piece.TheVariants.{Rows}
 use Rattle.vx_pack.specs.declared.stored_texts.StoredTexts.{StoredTexts}
@@ -100,6 +100,24 @@ stored_texts_of a views bs h v start n p s same formed within cut buffers full l
       full = λ yes k i l.
           let here : i < n = rw len at l in
           ap bytes_in (row k i) ∙ full_at views bs h v (start + i) (full yes (start + i)) ∙ ap Some (sym (value i here));
+    }
+
+-- ---- a part of the texts
+
+pub texts_range : (s t : StoredTexts) (start n : ℕ) → start + n ≤ length s.views.now
+    → t.views.now ≡ slice_range s.views.now start (start + n) → t.buffers.now ≡ s.buffers.now → IsRangeOf s start n t
+texts_range s t start n inside cut buffers =
+    let size : start + n - start ≡ n = omega arith in
+    let long : length t.views.now ≡ n = ap length cut ∙ length_part s.views.now start (start + n) (omega arith) inside ∙ size in
+    let view : (i : ℕ) → i < n → stored_view t i ≡ stored_view s (start + i) =
+    λ i l. ap (λ (vs : List (List ℕ)). slice_index_or vs i []) cut ∙ view_part s.views.now start n i l in
+    record {
+      count = long;
+      values = λ i l. (λ j. view_value (buffers j) (view i l j));
+      resolve = λ all i l.
+          let here : i < n = rw long at l in
+          subst (λ w. Resolves t.buffers.now w) (sym (view i here))
+          (subst (λ xs. Resolves xs (stored_view s (start + i))) (sym buffers) (all (start + i) (omega (arith, here, inside))));
     }
 
 -- ---- the values of a piece

@@ -13,4 +13,5 @@ pub mod StoredTexts
 pub mod ListItems
 pub mod CountBytes
 pub mod StoredLists
+pub mod SameElements
 pub mod Gathered

@@ -4,9 +4,9 @@ use Rattle.std.specs.List.{All, flat_map, range_with_len}
 use Rattle.vx_base.specs.Bytes.{AreBytes}
 use Rattle.vx_base.specs.Integers.{byte_width, number_nth, numbers}
 use Rattle.vx_base.specs.Kinds.{Kind, Fits}
-use Rattle.vx_base.specs.Rows.{Row, whole}
+use Rattle.vx_base.specs.Rows.{Row, items, whole}
 use Rattle.vx_base.specs.declared.ptypes.PType.{PType}
-use Rattle.vx_tree.specs.Meaning.{kind_of, row_at, tree_len}
+use Rattle.vx_tree.specs.Meaning.{kind_of, row_at, rows_range, tree_len}
 use Rattle.vx_tree.specs.Tree.{Tree}
 use Rattle.vx_pack.specs.CountBytes.{AreCountBytes, counts_of}
 use Rattle.vx_pack.specs.Lists.{is_list}
@@ -45,6 +45,15 @@ pub record AreStoredLists (item : Kind) (rs : List Row) (s : StoredLists) : Type
   pub there : All (λ r. is_list r ≡ true) rs
   pub sizes : stored_sizes s ≡ list_sizes item rs
   pub rows : flat_map (items_or_blank item 0) rs ≡ map (row_at s.elements.now) (all_positions (stored_starts s) (stored_sizes s))
+
+-- list i, as a row
+abbrev pub stored_row : StoredLists → ℕ → Row
+stored_row s i = items (rows_range (row_at s.elements.now) (slice_index (stored_starts s) i) (slice_index (stored_sizes s) i))
+
+-- each row is the list at its place
+pub record AreListRows (k : Kind) (p : Part) (s : StoredLists) : Type 0 where
+  pub count : length (stored_sizes s) ≡ part_len p
+  pub rows : (i : ℕ) → i < part_len p → part_row k p i ≡ stored_row s i
 
 -- the items of all lists, one list after another
 pub record AreStoredItems (s : StoredLists) (p : Part) : Type 0 where

@@ -1,5 +1,5 @@
 -- Texts and byte lists that stand by their views, and what is put into buffers.
-use Rattle.std.specs.Prelude.{◌≡◌, ◌<◌, ◌≤◌, ℕ, true, List, [], ◌∷◌, length, map, slice_index_or, IsTrue, Some}
+use Rattle.std.specs.Prelude.{◌≡◌, ◌<◌, ◌≤◌, ◌+◌, ℕ, true, List, [], ◌∷◌, length, map, slice_index_or, IsTrue, Some}
 use Rattle.std.specs.List.{All}
 use Rattle.vx_base.specs.Kinds.{Kind, is_nullable_kind, Fits}
 use Rattle.vx_base.specs.Rows.{Row}
@@ -51,6 +51,12 @@ pub record AreFullTexts (p : Part) (s : StoredTexts) : Type 0 where
   pub count : length s.views.now ≡ part_len p
   pub resolve : AllResolve s
   pub rows : (k : Kind) (i : ℕ) → i < part_len p → bytes_in (part_row k p i) ≡ Some (stored_value s i)
+
+-- so many of them, from one on
+pub record IsRangeOf (s : StoredTexts) (start n : ℕ) (t : StoredTexts) : Type 0 where
+  pub count : length t.views.now ≡ n
+  pub values : (i : ℕ) → i < n → stored_value t i ≡ stored_value s (start + i)
+  pub resolve : AllResolve s → AllResolve t
 
 -- no value is longer than a buffer may be
 abbrev pub AllShort : StoredTexts → Type 0

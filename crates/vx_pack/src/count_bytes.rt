@@ -1,6 +1,6 @@
 // Counts that stand as bytes of an integer type, as offsets and sizes of lists do.
 
-ghost use Rattle.std.specs.Prelude.{◌≡◌, ◌<◌, ◌≤◌, ◌+◌, ◌^◌, length, slice_index, sum, MatchResult};
+ghost use Rattle.std.specs.Prelude.{◌≡◌, ◌<◌, ◌≤◌, ◌+◌, ◌^◌, drop, length, slice_index, sum, take, MatchResult};
 ghost use Rattle.vx_base.specs.Integers.{numbers};
 ghost use Rattle.vx_base.specs.declared.errors.VortexError.TheVariants.{Overflow};
 ghost use Rattle.vx_pack.specs.CountBytes.{AreCountBytes, counts_of};
@@ -15,6 +15,27 @@ pub(crate) fn count_of_bytes<T: NativePType>(bytes: &[u8], i: usize) -> usize
     ensures { result ≡ slice_index (counts_of T.PTYPE bytes.now) i }
 {
     int_at(bytes, T::PTYPE, i) as usize
+}
+
+// Puts as many of these counts as there is room for, from one on.
+pub(crate) fn put_counts(ptype: PType, bytes: &[u8], first: usize, out: &mut [usize])
+    requires counts { AreCountBytes ptype bytes.now }
+    requires within { first + length out.old ≤ length (numbers ptype bytes.now) }
+    ensures { out.new ≡ take (length out.old) (drop first (counts_of ptype bytes.now)) }
+{
+    call_native!(ptype, put_typed_counts(bytes, first, out))
+}
+
+// The same of counts of one type.
+#[inline(never)]
+fn put_typed_counts<T: NativePType>(bytes: &[u8], first: usize, out: &mut [usize])
+    requires counts { AreCountBytes T.PTYPE bytes.now }
+    requires within { first + length out.old ≤ length (numbers T.PTYPE bytes.now) }
+    ensures { out.new ≡ take (length out.old) (drop first (counts_of T.PTYPE bytes.now)) }
+{
+    for i in 0..out.len() {
+        out[i] = count_of_bytes::<T>(bytes, first + i);
+    }
 }
 
 // All these counts together: asks that they can be counted.

@@ -1,14 +1,14 @@
 // Lists that stand end to end among their elements: one part holds the items of all.
 
-ghost use Rattle.std.specs.Prelude.{◌≡◌, ◌≤◌, ◌-◌, ℕ, IfSome, map};
+ghost use Rattle.std.specs.Prelude.{◌≡◌, ◌≤◌, ◌-◌, ℕ, IfSome};
 ghost use Rattle.std.specs.List.{range_with_len};
 ghost use Rattle.vx_base.specs.Kinds.{Kind};
 ghost use Rattle.vx_tree.specs.Meaning.{tree_len};
 ghost use Rattle.vx_pack.specs.CountBytes.{counts_of};
 ghost use Rattle.vx_pack.specs.Lists.{IsItemOf};
-ghost use Rattle.vx_pack.specs.Parts.{IsPart, IsWithin, part_len, part_row};
+ghost use Rattle.vx_pack.specs.Parts.{IsPart, IsWithin};
 ghost use Rattle.vx_pack.specs.Pieces.{AreAllItems, blank_of};
-ghost use Rattle.vx_pack.specs.StoredLists.{AreListBytes, AreStoredItems, AreStoredLists, all_positions};
+ghost use Rattle.vx_pack.specs.StoredLists.{AreListBytes, AreStoredItems, all_positions};
 
 use crate::count_bytes::count_of_bytes;
 use crate::parts::{Part, part_of};
@@ -29,20 +29,6 @@ impl<'a> Part<'a> {
     }
 }
 
-impl<'a> Part<'a> {
-    // The lists that the rows are, and the items of all, where they stand end to end and none is null.
-    pub fn joined_lists(self) -> Option<(StoredLists<'a>, Part<'a>)>
-        requires { IsWithin self }
-        ensures lists { IfSome result (λ j. (item k : Kind) → IsItemOf item k → IsPart k self.entry →
-            AreStoredLists item (map (part_row k self.entry) (range_with_len 0 (part_len self.entry))) j.0) }
-        ensures items { IfSome result (λ j. AreStoredItems j.0 j.1) }
-    {
-        let lists = self.stored_lists()?;
-        let items = lists.joined()?;
-        Some((lists, items))
-    }
-}
-
 impl<'a> StoredLists<'a> {
     // The items of all lists, where each begins where the one before it ends.
     pub fn joined(self) -> Option<Part<'a>>
@@ -58,6 +44,22 @@ impl<'a> StoredLists<'a> {
         )?;
         Some(part_of(self.elements, start, end - start))
     }
+}
+
+// The items of the lists of both columns, where those of both stand end to end.
+#[inline(never)]
+pub(crate) fn joined_both<'a>(
+    a: &StoredLists<'a>,
+    b: &StoredLists<'a>,
+) -> Option<(Part<'a>, Part<'a>)>
+    requires first { AreListBytes a.now.offset_type a.now.offsets.now a.now.size_type a.now.sizes.now (tree_len a.now.elements.now) }
+    requires second { AreListBytes b.now.offset_type b.now.offsets.now b.now.size_type b.now.sizes.now (tree_len b.now.elements.now) }
+    ensures first { IfSome result (λ j. AreStoredItems a.now j.0) }
+    ensures second { IfSome result (λ j. AreStoredItems b.now j.1) }
+{
+    let first = a.joined()?;
+    let second = b.joined()?;
+    Some((first, second))
 }
 
 // Where lists begin and end among so many elements, where they stand end to end.

@@ -5,8 +5,8 @@
 //! are read where they stand) and `same_rows`, which compares two parts; then `pieces` (parts, and
 //! default rows between them) and `pack_rows`, which packs pieces. The files `packed_*` pack one
 //! kind of column each, `gathered` values that come list by list; `stored_bits`, `stored_numbers`
-//! and `stored_lists` tell what can be read as it lies, and `list_runs` gathers the numbers of
-//! lists. `laws` are for callers.
+//! and `stored_lists` tell what can be read as it lies: `list_runs` gathers the numbers of lists,
+//! and `lists_anywhere` compares lists. `laws` are for callers.
 //!
 //! Two walks go down a data type: `#[cycle(same)]` and `pack`. Three follow codes or layouts:
 //! `place_of` in `places`, `truth` in `truths`, and `one_row`.
@@ -21,6 +21,7 @@ pub mod laws;
 mod list_counts;
 mod list_runs;
 mod lists;
+mod lists_anywhere;
 mod one_row;
 mod pack;
 mod pack_rows;
@@ -35,6 +36,8 @@ mod pieces;
 mod places;
 mod presence;
 mod rows_equal;
+mod same_bytes;
+mod same_elements;
 mod same_leaves;
 mod same_numbers;
 mod same_rows;

@@ -43,7 +43,7 @@ pub(crate) fn same_texts(a: Part, b: Part) -> bool
 }
 
 // Whether as many views have the same values.
-fn same_values(a: StoredTexts, b: StoredTexts) -> bool
+pub(crate) fn same_values(a: StoredTexts, b: StoredTexts) -> bool
     requires first { AllResolve a }
     requires second { AllResolve b }
     requires same_len { length b.views.now ≡ length a.views.now }

@@ -8,6 +8,8 @@ ghost use Rattle.vx_pack.specs.Parts.{AreSame, IsPart, part_len, part_row};
 ghost use Rattle.vx_pack.specs.Records.{AreRecords, AreSameFields, record_count};
 
 use crate::fields::Records;
+use crate::joined_lists::joined_both;
+use crate::lists_anywhere::same_lists_anywhere;
 use crate::parts::Part;
 use crate::same_leaves::{same_texts, same_truths};
 use crate::same_numbers::same_numbers;
@@ -49,7 +51,7 @@ fn same_by_kind(dtype: &DType, a: Part, b: Part) -> bool
     }
 }
 
-// Whether lists are the same, one by one where they are not compared at once.
+// Whether lists are the same, one by one where they are not compared together.
 #[cycle(same)]
 fn same_lists(dtype: &DType, a: Part, b: Part) -> bool
     requires lists { is_lists (dtype_meaning dtype.now) ≡ true }
@@ -58,7 +60,7 @@ fn same_lists(dtype: &DType, a: Part, b: Part) -> bool
     requires same_len { part_len b ≡ part_len a }
     ensures { IsTrue result ↔ AreSame (dtype_meaning dtype.now) a.entry b.entry }
 {
-    if let Some(same) = same_joined_lists(dtype, a, b) {
+    if let Some(same) = same_stored_lists(dtype, a, b) {
         return same;
     }
     for i in 0..a.len() {
@@ -69,11 +71,12 @@ fn same_lists(dtype: &DType, a: Part, b: Part) -> bool
     true
 }
 
-// The same by their sizes, and the items of all, where they stand end to end on both sides and none
-// is null. Not inlined, so that the frame of each level of lists stays small.
+// The same of lists that stand by offsets and sizes on both sides, none of them null: by their
+// sizes, and the items of all, where they stand end to end; else a block at a time, where elements
+// can be compared so. Not inlined, so that the frame of each level of lists stays small.
 #[cycle(same)]
 #[inline(never)]
-fn same_joined_lists(dtype: &DType, a: Part, b: Part) -> Option<bool>
+fn same_stored_lists(dtype: &DType, a: Part, b: Part) -> Option<bool>
     requires lists { is_lists (dtype_meaning dtype.now) ≡ true }
     requires first { IsPart (dtype_meaning dtype.now) a }
     requires second { IsPart (dtype_meaning dtype.now) b }
@@ -83,9 +86,12 @@ fn same_joined_lists(dtype: &DType, a: Part, b: Part) -> Option<bool>
     if a.len() < FEW {
         return None;
     }
-    let (first, first_items) = a.joined_lists()?;
-    let (second, second_items) = b.joined_lists()?;
+    let first = a.stored_lists()?;
+    let second = b.stored_lists()?;
     let items = items_of(dtype);
+    let Some((first_items, second_items)) = joined_both(&first, &second) else {
+        return same_lists_anywhere(items, &first, &second);
+    };
     if !same_sizes(first.size_type, first.sizes, second.size_type, second.sizes) {
         return Some(false);
     }

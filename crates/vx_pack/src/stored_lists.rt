@@ -11,7 +11,7 @@ ghost use Rattle.vx_tree.specs.Formed.{IsCounts};
 ghost use Rattle.vx_tree.specs.Meaning.{kind_of, row_at, tree_len};
 ghost use Rattle.vx_pack.specs.Lists.{IsItemOf};
 ghost use Rattle.vx_pack.specs.Parts.{IsPart, IsWithin, part_len, part_row};
-ghost use Rattle.vx_pack.specs.StoredLists.{AreElementBytes, AreListBytes, AreStoredLists};
+ghost use Rattle.vx_pack.specs.StoredLists.{AreElementBytes, AreListBytes, AreListRows, AreStoredLists};
 
 use crate::parts::{Part, part_of};
 use crate::truths::is_full;
@@ -42,6 +42,7 @@ impl<'a> Part<'a> {
             (tree_len s.elements.now)) }
         ensures lists { IfSome result (λ s. (item k : Kind) → IsItemOf item k → IsPart k self.entry →
             AreStoredLists item (map (part_row k self.entry) (range_with_len 0 (part_len self.entry))) s) }
+        ensures rows { IfSome result (λ s. (k : Kind) → AreListRows k self.entry s) }
     {
         let Part::Array(array, start, len) = self else {
             return None;

@@ -1,11 +1,11 @@
 // Texts and byte lists that layouts hold by their views.
 
-ghost use Rattle.std.specs.Prelude.{◌≡◌, true, IfSome};
+ghost use Rattle.std.specs.Prelude.{◌≡◌, ◌≤◌, ◌+◌, length, true, IfSome};
 ghost use Rattle.vx_base.specs.Kinds.{Kind};
 ghost use Rattle.vx_pack.specs.Packed.{has_bytes};
 ghost use Rattle.vx_pack.specs.Parts.{IsWithin};
 ghost use Rattle.vx_pack.specs.Pieces.{IsPiece, IsWithinPiece};
-ghost use Rattle.vx_pack.specs.StoredTexts.{AreFullTexts, AreStoredTexts, AreValuesIn};
+ghost use Rattle.vx_pack.specs.StoredTexts.{AreFullTexts, AreStoredTexts, AreValuesIn, IsRangeOf};
 
 use crate::parts::Part;
 use crate::pieces::Piece;
@@ -21,6 +21,19 @@ pub(crate) struct StoredTexts<'a> {
     pub buffers: &'a [ByteBuffer],
     // Whether the state alone says that no row is null.
     pub is_full: bool,
+}
+
+impl<'a> StoredTexts<'a> {
+    // So many of them, from one on.
+    pub fn range(self, start: usize, len: usize) -> StoredTexts<'a>
+        requires { start + len ≤ length self.views.now }
+        ensures { IsRangeOf self.entry start len result }
+    {
+        StoredTexts {
+            views: &self.views[start..start + len],
+            ..self
+        }
+    }
 }
 
 impl<'a> Part<'a> {

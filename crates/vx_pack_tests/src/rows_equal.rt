@@ -11,6 +11,7 @@ use vx_tree::ArrayRef;
 
 mod joined_lists;
 mod lists;
+mod lists_anywhere;
 mod many_rows;
 mod numbers;
 mod records;

@@ -1,5 +1,6 @@
 use Rattle.std.proofs.Common.{◌≡◌, ◌↔◌, ◌≤◌, IsTrue, sym, ◌∙◌, ap, subst, refl, arith, below_more, length, min}
 use Rattle.std.proofs.lemmas.Bool.{eqb-true}
+use Rattle.std.proofs.lemmas.Option.{IfSome_then}
 use Rattle.vx_base.specs.Codes.{kind_depth, kinds_depth}
 use Rattle.vx_base.specs.DTypes.{dtype_meaning, field_kinds, field_names, is_nullable}
 use Rattle.vx_base.specs.Kinds.{Fits, is_nullable_kind, records}
@@ -10,7 +11,8 @@ use Rattle.vx_tree.specs.Values.{bytes_in}
 use Rattle.vx_pack.specs.RowForms.{truth_in}
 use Rattle.vx_pack.specs.Parts.{IsPart, part_row}
 use Rattle.vx_pack.proofs.RowForms.{binaries_differ, numbers_differ, texts_differ, truths_differ}
-use Rattle.vx_pack.proofs.SameJoined.{as_many_items, item_depth, same_joined, sizes_counted, sizes_differ}
+use Rattle.vx_pack.proofs.SameElements.{same_by_rows}
+use Rattle.vx_pack.proofs.SameJoined.{as_many_items, item_depth, same_joined, sizes_differ}
 use Rattle.vx_pack.proofs.SameParts.{dtype_at, fields_counted, lists_of_lengths, null_beside_record, same_all_records, same_field, same_fields_by_place, same_leaves, same_lists}
 use Rattle.vx_pack.proofs.same_rows.+same.Goals as goal
 
@@ -151,25 +153,29 @@ same_record-returns-in_default t c =
     (null_beside_record names ks n (part_row (records names ks n) c.args.a c.args.i) (part_row (records names ks n) c.args.b c.args.i) c.record-in_default.result c.is_none.result
     (first.fits c.args.i c.requires.in_first) (second.fits c.args.i c.requires.in_second) (c.in_default.ensures names ks n first) (c.record-in_default.ensures names ks n second) c.is_none.ensures)
 
-pub same_joined_lists-same_sizes-requires-clause-first : goal.same_joined_lists-same_sizes-requires-clause-first
-same_joined_lists-same_sizes-requires-clause-first t c =
-    (c.in_ok-first.ensures.lists (dtype_meaning c.items_of-items.result.now) (dtype_meaning c.args.dtype.now) c.items_of-items.ensures c.requires.first).lists.sizes
-
-pub same_joined_lists-same_sizes-requires-clause-second : goal.same_joined_lists-same_sizes-requires-clause-second
-same_joined_lists-same_sizes-requires-clause-second t c =
-    (c.in_ok-second.ensures.lists (dtype_meaning c.items_of-items.result.now) (dtype_meaning c.args.dtype.now) c.items_of-items.ensures c.requires.second).lists.sizes
-
-pub same_joined_lists-same_sizes-requires-clause-same_len : goal.same_joined_lists-same_sizes-requires-clause-same_len
-same_joined_lists-same_sizes-requires-clause-same_len t c =
+pub same_stored_lists-same_lists_anywhere-requires : goal.same_stored_lists-same_lists_anywhere-requires
+same_stored_lists-same_lists_anywhere-requires t c =
     let k = dtype_meaning c.args.dtype.now in
     let item = dtype_meaning c.items_of-items.result.now in
     let first = c.in_ok-first.ensures.lists item k c.items_of-items.ensures c.requires.first in
     let second = c.in_ok-second.ensures.lists item k c.items_of-items.ensures c.requires.second in
-    sizes_counted item k c.args.b c.in_ok-second.second second ∙ c.requires.same_len
-    ∙ sym (sizes_counted item k c.args.a c.in_ok-first.first first)
+    record {
+      first_kind = first.kind;
+      second_kind = second.kind;
+      first = c.in_ok-first.ensures.bytes;
+      second = c.in_ok-second.ensures.bytes;
+      same_len = (c.in_ok-second.ensures.rows k).count ∙ c.requires.same_len ∙ sym (c.in_ok-first.ensures.rows k).count;
+    }
 
-pub same_joined_lists-returns-then-not-same_sizes : goal.same_joined_lists-returns-then-not-same_sizes
-same_joined_lists-returns-then-not-same_sizes t c =
+pub same_stored_lists-returns-in_default : goal.same_stored_lists-returns-in_default
+same_stored_lists-returns-in_default t c =
+    let k = dtype_meaning c.args.dtype.now in
+    IfSome_then c.same_lists_anywhere.result c.same_lists_anywhere.ensures (λ same told.
+    same_by_rows k c.args.a c.args.b c.in_ok-first.first c.in_ok-second.second same (c.in_ok-first.ensures.rows k)
+    (c.in_ok-second.ensures.rows k) c.requires.same_len told)
+
+pub same_stored_lists-returns-then-not-same_sizes : goal.same_stored_lists-returns-then-not-same_sizes
+same_stored_lists-returns-then-not-same_sizes t c =
     let k = dtype_meaning c.args.dtype.now in
     let item = dtype_meaning c.items_of-items.result.now in
     let first = c.in_ok-first.ensures.lists item k c.items_of-items.ensures c.requires.first in
@@ -179,33 +185,33 @@ same_joined_lists-returns-then-not-same_sizes t c =
           c.in_ok-second.second first second c.requires.same_len same)),
     )
 
-pub same_joined_lists-same_rows-requires : goal.same_joined_lists-same_rows-requires
-same_joined_lists-same_rows-requires t c =
+pub same_stored_lists-same_rows-requires : goal.same_stored_lists-same_rows-requires
+same_stored_lists-same_rows-requires t c =
     let k = dtype_meaning c.args.dtype.now in
     let item = dtype_meaning c.items_of-items.result.now in
-    let x = c.in_ok-first.first_items in
-    let y = c.in_ok-second.second_items in
+    let x = c.in-Some.first_items in
+    let y = c.in-Some.second_items in
     let first = c.in_ok-first.ensures.lists item k c.items_of-items.ensures c.requires.first in
     let second = c.in_ok-second.ensures.lists item k c.items_of-items.ensures c.requires.second in
     let sizes = c.same_sizes.ensures.0 c.if-not-same_sizes.false in
     let less = item_depth item k c.items_of-items.ensures in (
       omega (arith, less, c.decreases),
       (
-        subst (λ h. IsPart h x) first.kind c.in_ok-first.ensures.items.part,
+        subst (λ h. IsPart h x) first.kind c.in-Some.ensures.first.part,
         (
-          subst (λ h. IsPart h y) second.kind c.in_ok-second.ensures.items.part,
+          subst (λ h. IsPart h y) second.kind c.in-Some.ensures.second.part,
           as_many_items item k c.args.a c.args.b x y c.in_ok-first.first c.in_ok-second.second first second
-              c.in_ok-first.ensures.items c.in_ok-second.ensures.items sizes,
+              c.in-Some.ensures.first c.in-Some.ensures.second sizes,
         ),
       ),
     )
 
-pub same_joined_lists-returns : goal.same_joined_lists-returns
-same_joined_lists-returns t c =
+pub same_stored_lists-returns : goal.same_stored_lists-returns
+same_stored_lists-returns t c =
     let k = dtype_meaning c.args.dtype.now in
     let item = dtype_meaning c.items_of-items.result.now in
     let first = c.in_ok-first.ensures.lists item k c.items_of-items.ensures c.requires.first in
     let second = c.in_ok-second.ensures.lists item k c.items_of-items.ensures c.requires.second in
-    same_joined item k c.args.a c.args.b c.in_ok-first.first_items c.in_ok-second.second_items c.in_ok-first.first
-    c.in_ok-second.second c.same_rows.result first second c.in_ok-first.ensures.items c.in_ok-second.ensures.items
+    same_joined item k c.args.a c.args.b c.in-Some.first_items c.in-Some.second_items c.in_ok-first.first
+    c.in_ok-second.second c.same_rows.result first second c.in-Some.ensures.first c.in-Some.ensures.second
     (c.same_sizes.ensures.0 c.if-not-same_sizes.false) c.requires.same_len c.same_rows.ensures

@@ -15,8 +15,8 @@ decreases-same_by_kind l = 6 * kind_depth (dtype_meaning l.dtype.now) + 4
 abbrev pub decreases-same_lists : goal.decreases-same_lists
 decreases-same_lists l = 6 * kind_depth (dtype_meaning l.dtype.now) + 2
 
-abbrev pub decreases-same_joined_lists : goal.decreases-same_joined_lists
-decreases-same_joined_lists l = 6 * kind_depth (dtype_meaning l.dtype.now) + 1
+abbrev pub decreases-same_stored_lists : goal.decreases-same_stored_lists
+decreases-same_stored_lists l = 6 * kind_depth (dtype_meaning l.dtype.now) + 1
 
 abbrev pub decreases-same_list : goal.decreases-same_list
 decreases-same_list l = 6 * kind_depth (dtype_meaning l.dtype.now)

@@ -4,7 +4,7 @@ use Rattle.vx_tree.specs.Formed.{WellFormed}
 use Rattle.vx_tree.specs.Meaning.{row_at}
 use Rattle.vx_tree.specs.Parts.{tree_of, valid_of}
 use Rattle.vx_tree.specs.Tree.{list_view}
-use Rattle.vx_pack.proofs.StoredLists.{list_bytes_of, stored_lists_of}
+use Rattle.vx_pack.proofs.StoredLists.{list_bytes_of, list_rows_of, stored_lists_of}
 use Rattle.vx_pack.specs.declared.parts.Part.TheVariants.{Array}
 use Rattle.vx_pack.specs.Lists.{IsItemOf}
 use Rattle.vx_pack.specs.Parts.{IsPart, IsWithin, part_len, part_row}
@@ -40,4 +40,18 @@ returns-clause-lists c = λ item k of_item whole.
     rw c.in-Array.is (stored_lists_of a e o z v f start n item (λ i. row_at a (start + i)) _
     (sym c.layout.ensures.parts ∙ ap tree_of c.in-ListView.is)
     formed.1 (c.is_full.ensures c.if-not-is_full.false) within.0 (subst (IsItemOf item) (sym part.kind) of_item) (λ i. refl) refl
+    c.in_ok-offset_type.ensures c.in_ok-size_type.ensures)
+
+pub returns-clause-rows : goal.returns-clause-rows
+returns-clause-rows c = λ k.
+    let a = c.in-Array.array.now in
+    let e = c.in-ListView.elements in
+    let o = c.in-ListView.offsets in
+    let z = c.in-ListView.sizes in
+    let v = valid_of c.in-ListView.validity in
+    let f = c.in-ListView.flag in
+    let start = c.in-Array.start in
+    let n = c.in-Array.len in
+    rw c.in-Array.is (list_rows_of k (Array c.in-Array.array start n) a e o z v f start n _
+    (sym c.layout.ensures.parts ∙ ap tree_of c.in-ListView.is) (c.is_full.ensures c.if-not-is_full.false) refl (λ i. refl) refl
     c.in_ok-offset_type.ensures c.in_ok-size_type.ensures)
