@@ -217,9 +217,10 @@ struct codrask_run_fault {
 };
 
 /* Runs steps on columns, and writes the arrays at the wanted positions, in plain layouts: neither a dictionary nor a constant.
- * Answers 0 where that is done; *made is then the caller's, to be given back by codrask_columns_free. Else the number of the
- * first fault, which *fault tells; *made is then as it was. With 0 and CODRASK_MEMORY all else in *fault is 0. On the way in *made is
- * CODRASK_NO_COLUMNS. */
+ * Answers 0 where that is done; *made is then the caller's, to be given back by codrask_columns_free. Equal columns are written as
+ * equal bytes: no bit is set before the first truth value or after the last one, and what a node does not use is 0 or empty. Else the
+ * answer is the number of the first fault, which *fault tells; *made is then as it was. With 0 and CODRASK_MEMORY all else in *fault is
+ * 0. On the way in *made is CODRASK_NO_COLUMNS. */
 uint32_t codrask_run(const struct codrask_column *columns, size_t column_count, const struct codrask_step *steps, size_t step_count,
                      const size_t *wanted, size_t wanted_count, struct codrask_columns *made, struct codrask_run_fault *fault);
 

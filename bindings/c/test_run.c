@@ -68,6 +68,58 @@ static void rows_of_numbers(void) {
     codrask_columns_free(&made);
 }
 
+/* Truth values that begin inside a byte, with set bits around them, and so those that tell the nulls of numbers: what goes out has the
+ * bytes that the rows need, and every other bit is false. The bits of 173 are 1 0 1 1 0 1 0 1. */
+static const uint8_t all_set[] = {255, 255, 255}, some_set[] = {255, 173, 255};
+
+static struct codrask_node truths_from(size_t offset, size_t length, const uint8_t *bytes) {
+    struct codrask_node n = numbers(CODRASK_BOOL, length, bytes, 3);
+    n.offset = offset;
+    return n;
+}
+
+static int has_truths(const struct codrask_node *n, size_t offset, size_t length, const void *bytes, size_t count) {
+    return n->offset == offset && n->length == length && has(n, CODRASK_BOOL, bytes, count);
+}
+
+static void bits_that_lie_around(void) {
+    int8_t few[] = {1, 2, 3};
+    struct codrask_node t[] = {truths_from(10, 6, some_set), truths_from(3, 12, all_set), numbers(CODRASK_I8, 3, SLICE(few)), truths_from(9, 3, some_set)};
+    t[2].validity = CODRASK_BY_ARRAY;
+    struct codrask_column columns[] = {{t, 1}, {t + 1, 1}, {t + 2, 2}};
+    uint8_t six[] = {172}, twelve[] = {248, 127}, valid[] = {12}, packed[] = {43};
+    struct codrask_step pack = step(CODRASK_PACK, 0);
+    const struct codrask_node *n = result(columns, 3, &pack, 0, 0);
+    tell("truth values up to the end of a byte", n && has_truths(n, 2, 6, SLICE(six)));
+    codrask_columns_free(&made);
+    n = result(columns, 3, &pack, 0, 1);
+    tell("truth values within two bytes", n && has_truths(n, 3, 12, SLICE(twelve)));
+    codrask_columns_free(&made);
+    n = result(columns, 3, &pack, 0, 2);
+    tell("nulls within a byte", n && n->validity == CODRASK_BY_ARRAY && has_truths(n + 1, 1, 3, SLICE(valid)));
+    codrask_columns_free(&made);
+    n = result(columns, 3, &pack, 1, 3);
+    tell("packed truth values", n && has_truths(n, 0, 6, SLICE(packed)));
+    codrask_columns_free(&made);
+}
+
+/* Rows of twelve truth values that are all true, from the fourth bit on. */
+static void sliced_bits(void) {
+    static const struct {
+        size_t start, end, offset, count;
+        uint8_t bytes[2];
+    } cases[] = {{2, 10, 5, 2, {224, 31}}, {4, 5, 7, 1, {128}}, {5, 12, 0, 1, {127}}, {5, 5, 0, 0, {0}}, {6, 6, 1, 1, {0}}};
+    struct codrask_node t = truths_from(3, 12, all_set);
+    struct codrask_column column = {&t, 1};
+    struct codrask_step s = step(CODRASK_SLICE, 0);
+    for (size_t i = 0; i < COUNT(cases); i++) {
+        s.start = cases[i].start, s.end = cases[i].end;
+        const struct codrask_node *n = result(&column, 1, &s, 1, 1);
+        tell("sliced truth values", n && has_truths(n, cases[i].offset, s.end - s.start, cases[i].bytes, cases[i].count));
+        codrask_columns_free(&made);
+    }
+}
+
 /* Codes 1, null, 0, 1 into 7, 9 are 9, null, 7, 9. */
 static void rows_of_codes(void) {
     uint8_t codes[] = {1, 0, 0, 1}, bits[] = {13};
@@ -284,6 +336,8 @@ static void refused_columns(void) {
 
 int main(void) {
     rows_of_numbers();
+    bits_that_lie_around();
+    sliced_bits();
     rows_of_codes();
     rows_of_lists();
     fields_of_records();

@@ -9,6 +9,8 @@ pub mod Unflagged
 pub mod WrittenTables
 pub mod WrittenLayouts
 pub mod PackedBytes
+pub mod MaskedBits
+pub mod ExactTables
 pub mod TablesRead
 pub mod SameNodes
 pub mod Moved
@@ -18,6 +20,7 @@ pub mod ReadBack
 pub mod PackedPlain
 pub mod ColumnRuns
 pub mod RunParts
+pub mod ExactRuns
 pub mod Meant
 pub mod RunFaults
 pub mod Counts

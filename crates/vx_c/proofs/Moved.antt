@@ -7,6 +7,7 @@ use Rattle.std.proofs.lemmas.List.{reverse-append, map-append, take_more, get_or
 use Rattle.std.proofs.lemmas.Option.{slice_get_read}
 use Rattle.vx_c.specs.declared.table.CodraskView.{CodraskView}
 use Rattle.vx_c.specs.Tables.{view_bytes, utf8_fault, name_fault}
+use Rattle.vx_c.specs.TablesOf.{view_with}
 use Rattle.vx_c.proofs.Names.{utf8_good}
 use Rattle.vx_tree.specs.Meaning.{trees_from}
 use Rattle.vx_tree.specs.Plain.{IsPlain, ArePlain}
@@ -33,6 +34,12 @@ pub views_more : (copies made : List CodraskView) (c : CodraskView) (views : Lis
     → map view_bytes copies ≡ take i views → view_bytes c ≡ get_or views i other → made ≡ copies ++ c ∷ [] → map view_bytes made ≡ take (i + 1) views
 views_more copies made c views i other inside before here pushed =
     ap (map view_bytes) pushed ∙ map-append view_bytes copies (c ∷ []) ∙ (λ j. before j ++ here j ∷ []) ∙ sym (take_more views i other inside)
+
+pub copies_more : (copies made : List CodraskView) (c : CodraskView) (views : List (List ℕ)) (i : ℕ) (other : List ℕ) → i < length views
+    → copies ≡ map view_with (take i views) → c ≡ view_with (get_or views i other) → made ≡ copies ++ c ∷ [] → made ≡ map view_with (take (i + 1) views)
+copies_more copies made c views i other inside before here pushed =
+    pushed ∙ (λ j. before j ++ here j ∷ []) ∙ sym (map-append view_with (take i views) (get_or views i other ∷ []))
+    ∙ ap (map view_with) (sym (take_more views i other inside))
 
 -- ---- columns in order
 

@@ -1,5 +1,5 @@
 -- What is read back from a table that a run wrote.
-use Rattle.std.proofs.Common.{◌≡◌, ◌<◌, ℕ, sym, ◌∙◌, ap, subst, arith}
+use Rattle.std.proofs.Common.{◌≡◌, ℕ, sym, ◌∙◌, ap, subst, arith}
 use Rattle.std.specs.Prelude.{Result, Ok, Err}
 use Rattle.vx_canonical.specs.Canonical.{HasRowsOf}
 use Rattle.vx_tree.specs.Fitting.{AllFormed}
@@ -18,7 +18,7 @@ rows_both t r s first second = record {
   rows = λ i inside. second.rows i (omega (arith, inside, first.len)) ∙ first.rows i inside;
 }
 
-abbrev column_or : Tree → Result Tree (ℕ × NodeFault) → Tree
+abbrev pub column_or : Tree → Result Tree (ℕ × NodeFault) → Tree
 column_or other (Ok t) = t
 column_or other (Err f) = other
 

@@ -33,12 +33,13 @@ use Rattle.vx_c.specs.Answers.{IsFormFault, IsTableFault}
 use Rattle.vx_c.specs.ColumnSteps.{HasColumnRun}
 use Rattle.vx_c.specs.Steps.{IsStepOf, step_form_fault}
 use Rattle.vx_c.specs.Unflagged.{unflagged, least_count, node_count}
-use Rattle.vx_c.specs.Written.{IsWritten, node_of}
+use Rattle.vx_c.specs.Written.{IsWritten, plainly, node_of}
 use Rattle.vx_c.specs.Runs.{column_in, AreColumns, AreSteps, IsMadeOf, IsMadePlain, IsMade, IsNoTable, kind_fault, or_fault, result_fault, IsRunError, IsToldOf}
 use Rattle.vx_c.specs.Runs.{AreColumnsOr, AreStepsOr, IsRanOr, AreTablesOr, told_of_run}
 use Rattle.vx_c.specs.declared.faults.CodraskRunFault.{CodraskRunFault}
 use Rattle.vx_c.proofs.Unflagged.{kept_count}
 use Rattle.vx_c.proofs.Meant.{form_refused}
+use Rattle.vx_c.proofs.SameNodes.{lent_columns}
 use Rattle.vx_c.proofs.WrittenTables.{tables-column}
 
 zipped_more : {A B : Type 0} (R : A → B → Type 0) (xs : List A) (ys : List B) (x : A) (y : B) → AllZip R xs ys → R x y → AllZip R (xs ++ x ∷ []) (ys ++ y ∷ [])
@@ -161,7 +162,7 @@ pub no_memory : (results : List Tree) (w : ℕ) → IsNoTable results w (Refused
 no_memory results w = inl (inl refl)
 
 -- the nodes that were written where there were none
-written_alone : (c : Tree) (nodes : List WrittenNode) → IsWritten [] (unflagged c ∷ []) nodes → length nodes ≡ node_count c
+pub written_alone : (c : Tree) (nodes : List WrittenNode) → IsWritten [] (unflagged c ∷ []) nodes → length nodes ≡ node_count c
 written_alone c nodes written = let same = ap length written.put in omega (arith, same, written.len, kept_count c)
 
 -- there is no fault
@@ -228,10 +229,10 @@ pub run_made : (tables : List CodraskTable) (steps : List CodraskStep) (wanted :
     (written : List WrittenTable) (made : List CodraskTable) → AreColumns tables columns → AreSteps steps taken → HasColumnRun taken columns results
     → All AllFormed results
     → AllZip (IsMadeOf results) wanted (map (λ (w : WrittenTable). column_of (map node_of w.nodes.items)) written)
-    → map (λ (t : CodraskTable). column_of t.nodes.now) made ≡ map (λ (w : WrittenTable). column_of (map node_of w.nodes.items)) written
+    → map (λ (t : CodraskTable). map plainly t.nodes.now) made ≡ map (λ (w : WrittenTable). map node_of w.nodes.items) written
     → IsMade tables steps wanted made
 run_made tables steps wanted columns results taken written made are meant ran formed read lent =
-    record { columns = columns; are = are; taken = taken; meant = meant; results = results; ran = ran; formed = formed; written = subst (AllZip (IsMadeOf results) wanted) (sym lent) read }
+    record { columns = columns; are = are; taken = taken; meant = meant; results = results; ran = ran; formed = formed; written = subst (AllZip (IsMadeOf results) wanted) (sym (lent_columns made written lent)) read }
 
 pub told_run : (tables : List CodraskTable) (steps : List CodraskStep) (wanted : List ℕ) (e : RunError) (fault : CodraskRunFault)
     → IsRunError tables steps wanted e → fault ≡ told_of_run e → IsToldOf tables steps wanted fault

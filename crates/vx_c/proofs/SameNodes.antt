@@ -13,12 +13,13 @@ use Rattle.vx_tree.specs.Tree.{Tree, structure, Valid, non_nullable, all_valid, 
 use Rattle.vx_c.specs.declared.reading.TheConstants.{MAX_NODES}
 use Rattle.vx_c.specs.declared.table.CodraskBytes.{CodraskBytes}
 use Rattle.vx_c.specs.declared.table.CodraskNode.{CodraskNode}
+use Rattle.vx_c.specs.declared.table.CodraskTable.{CodraskTable}
 use Rattle.vx_c.specs.declared.table.NodeKind.{NodeKind}
 use Rattle.vx_c.specs.declared.table.NodeKind.TheVariants.{Bool, Number, Utf8, Binary, Dictionary, FixedSizeList, ListView, Struct}
 use Rattle.vx_c.specs.NodeKinds.{kind_numbered}
 use Rattle.vx_c.specs.Tables.{NodeFault, missing_nodes, too_many_nodes, unless, names_fault, buffers_in, views_in, layout_made, records_made, views_made, valid_made}
 use Rattle.vx_c.specs.Tables.{valid_of_number, kind_made, put, node_made, at_node, then_node, arrays_from, only, column_of}
-use Rattle.vx_c.specs.declared.written.WrittenNode.{WrittenNode}
+use Rattle.vx_c.specs.declared.written.WrittenTable.{WrittenTable}
 use Rattle.vx_c.specs.Written.{plainly, node_of}
 
 same-bytes : (bs : List CodraskBytes) → map (λ (b : CodraskBytes). b.bytes.now) (map (λ (b : CodraskBytes). record { bytes = record { ref_ptr = (0, 0); now = b.bytes.now } }) bs) ≡ map (λ (b : CodraskBytes). b.bytes.now) bs
@@ -87,8 +88,13 @@ length-plainly (n ∷ ns) = ap suc (length-plainly ns)
 pub same-column : (ns : List CodraskNode) → column_of (map plainly ns) ≡ column_of ns
 same-column ns = λ j. if nat_lt MAX_NODES (length-plainly ns j) then Err (0, too_many_nodes) else only (same-arrays 0 ns j)
 
-pub lent_column : (ns : List CodraskNode) (ws : List WrittenNode) → map plainly ns ≡ map node_of ws → column_of ns ≡ column_of (map node_of ws)
-lent_column ns ws same = sym (same-column ns) ∙ ap column_of same
+-- the columns of tables that are lent
+pub lent_columns : (tables : List CodraskTable) (written : List WrittenTable)
+    → map (λ (t : CodraskTable). map plainly t.nodes.now) tables ≡ map (λ (w : WrittenTable). map node_of w.nodes.items) written
+    → map (λ (t : CodraskTable). column_of t.nodes.now) tables ≡ map (λ (w : WrittenTable). column_of (map node_of w.nodes.items)) written
+lent_columns tables written same =
+    sym (λ j. map (λ (t : CodraskTable). same-column t.nodes.now j) tables) ∙ sym (map-map column_of (λ (t : CodraskTable). map plainly t.nodes.now) tables)
+    ∙ ap (map column_of) same ∙ map-map column_of (λ (w : WrittenTable). map node_of w.nodes.items) written
 
 abbrev pub place_of : List ℕ → CodraskBytes
 place_of bytes = record { bytes = record { ref_ptr = (0, 0); now = bytes } }

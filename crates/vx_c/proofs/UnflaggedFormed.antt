@@ -1,12 +1,12 @@
 -- An array of which no flag is set is as well formed as with its flags.
-use Rattle.std.proofs.Common.{◌≡◌, ◌+◌, ◌<◌, ◌≤◌, ℕ, Bool, false, List, length, refl, sym, ◌∙◌, ap, subst, arith}
+use Rattle.std.proofs.Common.{◌≡◌, ◌+◌, ◌≤◌, ℕ, Bool, false, List, length, refl, sym, ◌∙◌, ap, subst, arith}
 use Rattle.std.specs.Prelude.{pos}
 use Rattle.vx_base.specs.Integers.{numbers}
 use Rattle.vx_base.specs.Kinds.{Kind, is_integers, is_plain_integers}
 use Rattle.vx_base.specs.Rows.{Row, whole, count_in}
 use Rattle.vx_tree.specs.Fitting.{AllFormed, ColumnsFormed, ValidityFormed}
 use Rattle.vx_tree.specs.Formed.{ValidFits, IsCounts, IsListView, IsCode, IsDictionary, AllLen, column_count, IsStruct, value_kind, IsViewArray}
-use Rattle.vx_tree.specs.Meaning.{tree_len, kind_of, row_at, is_valid_at, is_texts}
+use Rattle.vx_tree.specs.Meaning.{tree_len, row_at, is_valid_at, is_texts}
 use Rattle.vx_tree.specs.Tree.{Tree, bools, primitive, constant, dictionary, fixed_list, list_view, structure, view_array, Trees, no_trees, tree}
 use Rattle.vx_tree.specs.Tree.{Valid, non_nullable, all_valid, all_invalid, by_array}
 use Rattle.vx_c.specs.Unflagged.{unflagged, unflagged_trees, unflagged_valid}

@@ -5,7 +5,7 @@ use Rattle.std.specs.Bool.{beq}
 use Rattle.std.specs.Global.{Vec}
 use Rattle.std.specs.List.{range_with_len}
 use Rattle.std.proofs.lemmas.Bool.{cases_Bool}
-use Rattle.std.proofs.lemmas.List.{ext_get_or, map-append, take_more}
+use Rattle.std.proofs.lemmas.List.{append-nil, ext_get_or, map-append, take_more}
 use Rattle.std.proofs.lemmas.List.FromFn.{get_or-map-range_with_len, length-map-range_with_len}
 use Rattle.vx_base.specs.declared.ptypes.PType.{PType}
 use Rattle.vx_base.specs.declared.ptypes.PType.TheVariants.{U8, U16, U32, U64, I8, I16, I32, I64}
@@ -34,14 +34,17 @@ use Rattle.vx_c.specs.declared.table.CodraskNode.{CodraskNode}
 use Rattle.vx_c.specs.declared.table.NodeKind.{NodeKind}
 use Rattle.vx_c.specs.declared.table.NodeKind.TheVariants.{Bool as bool_kind, Number, Utf8, Binary, Dictionary, FixedSizeList, ListView, Struct}
 use Rattle.vx_c.specs.declared.written.WrittenNode.{WrittenNode}
-use Rattle.vx_c.specs.NodeKinds.{kind_numbered, kind_number}
+use Rattle.vx_c.specs.NodeKinds.{kind_numbered, kind_number, view_kind, valid_number}
 use Rattle.vx_c.specs.Tables.{unless, layout_made, records_made, views_made, buffers_in, views_in, view_bytes, bits_fault, names_fault, missing_nodes}
 use Rattle.vx_c.specs.Unflagged.{unflagged, unflagged_trees, unflagged_valid, trees_count, valid_count, nodes_of}
-use Rattle.vx_c.specs.Written.{IsWritten, IsPut, IsParent, IsBitsNode, node_of, valid_number, valid_trees, view_kind}
+use Rattle.vx_c.specs.TablesOf.{view_with, parent_node, bits_bytes, table_of, tables_of, valid_table}
+use Rattle.vx_c.specs.Written.{IsWritten, IsPut, IsParent, IsBitsNode, node_of, valid_trees}
+use Rattle.vx_c.proofs.ExactTables.{exact-columns, exact-three, bits_exact, numbers_exact, values_exact, parent_exact}
 use Rattle.vx_c.proofs.LayoutParts.{made_by}
 use Rattle.vx_c.proofs.Names.{columns_taken, values_faultless}
+use Rattle.vx_c.proofs.PackedBytes.{length-begun, unpacked-begun}
 use Rattle.vx_c.proofs.Unflagged.{kept_len, kept_kind, kept_row, kept_valid, kept_nullable, unflagged-trees_from, trees_count-from}
-use Rattle.vx_c.proofs.WrittenTables.{parts-written, leaf-written, none_written, written-both}
+use Rattle.vx_c.proofs.WrittenTables.{parts-written, leaf-written, none_written, written-both, valid_number-kept}
 
 -- ---- kinds and counts
 
@@ -99,9 +102,12 @@ bools_written w first bits v old new node fits put =
     let u = unflagged_valid v in
     let none : or_else (bits_fault w.bytes.items w.offset w.length) (validity_fault u w.length) ≡ None =
     or_else-second (bits_fault w.bytes.items w.offset w.length) (validity_fault u w.length) None node.faultless (validity_none v (length bits) w.length fits node.len) in
+    let low : first % 8 ≡ first = omega (arith, node.low) in
+    let begins : w.offset % 8 ≡ first = ap (λ (k : ℕ). k % 8) node.begins ∙ low in
+    let is : unpacked w.bytes.items w.offset w.length ≡ bits = (λ j. unpacked (node.is j) (node.begins j) (node.len j)) ∙ unpacked-begun first bits in
     leaf-written w bool_kind v old new (bools first bits u) (known_as w bool_kind node.kind) node.number put
-    (λ others. made_by (or_else (bits_fault w.bytes.items w.offset w.length) (validity_fault u w.length)) (bools (w.offset % 8) (unpacked w.bytes.items w.offset w.length) u) (bools first bits u) others none (sym (λ j. bools (node.begins j) (node.is j) u)))
-    (sym node.len) (leaf-count u)
+    (λ others. made_by (or_else (bits_fault w.bytes.items w.offset w.length) (validity_fault u w.length)) (bools (w.offset % 8) (unpacked w.bytes.items w.offset w.length) u) (bools first bits u) others none (sym (λ j. bools (begins j) (is j) u)))
+    (sym node.len) (leaf-count u) (ap (λ n. n ∷ valid_table u) (bits_exact w first bits (valid_number v) u node (valid_number-kept v)))
 
 -- ---- numbers
 
@@ -122,9 +128,9 @@ whole_none t bs n exact = rest
     rest = ap (λ r. if r == 0 then None else Some length_mismatch) (divided t exact)
 
 pub numbers_written : (w : WrittenNode) (t : PType) (bs : List ℕ) (v : Valid) (old new : List WrittenNode) → w.kind ≡ Number t → w.validity ≡ valid_number v
-    → w.bytes.items ≡ bs → w.length ≡ tree_len (primitive t bs v) → WellFormed (primitive t bs v) → IsPut w v old new
-    → IsWritten old (primitive t bs (unflagged_valid v) ∷ []) new
-numbers_written w t bs v old new kind number bytes len formed put =
+    → w.bytes.items ≡ bs → w.length ≡ tree_len (primitive t bs v) → w.size ≡ 0 → w.offset ≡ 0 → w.views.items ≡ [] → w.buffers.blocks.items ≡ []
+    → WellFormed (primitive t bs v) → IsPut w v old new → IsWritten old (primitive t bs (unflagged_valid v) ∷ []) new
+numbers_written w t bs v old new kind number bytes len size begins views buffers formed put =
     let u = unflagged_valid v in
     let same : w.bytes.items ≡ bs = bytes in
     let fault = or_else (whole_fault t w.bytes.items) (validity_fault u (length (numbers t w.bytes.items))) in
@@ -135,6 +141,7 @@ numbers_written w t bs v old new kind number bytes len formed put =
     leaf-written w (Number t) v old new (primitive t bs u) (known_as w (Number t) kind) number put
     (λ others. made_by fault (primitive t w.bytes.items u) (primitive t bs u) others none (ap (λ x. primitive t x u) (sym bytes)))
     (sym len) (leaf-count u)
+    (ap (λ n. n ∷ valid_table u) (numbers_exact w t bs (valid_number v) u kind number size len begins bytes views buffers (valid_number-kept v)))
 
 -- ---- lists of one size
 
@@ -161,6 +168,7 @@ fixed_parts e k n v old mid new formed short parent parts =
     parts-written w FixedSizeList v old mid new (unflagged e ∷ []) t (known_as w FixedSizeList parent.kind) parent.validity parent.put parts
     (λ others. made_by (fixed_list_fault (unflagged e) w.size u w.length) (fixed_list (unflagged e) w.size u w.length) t others none same)
     (sym parent.len_is) (let all = count-valid u (unflagged e ∷ []) in omega (arith, all))
+    (λ j. parent_exact FixedSizeList k n [] v u old mid parent (valid_number-kept v) j ∷ (valid_table u ++ append-nil (table_of (unflagged e)) j))
 
 pub fixed_written : (a e : Tree) (k n m : ℕ) (v : Valid) (old mid new : List WrittenNode) → a ≡ fixed_list e k v n → WellFormed (fixed_list e k v n) → tree_len e < 2 ^ 64
     → m ≡ tree_len a → IsParent FixedSizeList k m [] v old mid → IsWritten mid (unflagged e ∷ []) new → IsWritten old (unflagged a ∷ []) new
@@ -224,6 +232,8 @@ lists_parts e o s v f n old m1 m2 m3 new formed short rows parent first second t
     parts-written w ListView v old m1 new us t (known_as w ListView parent.kind) parent.validity parent.put parts
     (λ others. made_by (list_view_fault (unflagged e) (unflagged o) (unflagged s) u) t t others (lists_none e o s v f formed short) refl)
     (kept_len o ∙ sym rows ∙ sym parent.len_is) (let all = count-valid u us in omega (arith, all))
+    (λ j. (parent_exact ListView 0 n [] v u old m1 parent (valid_number-kept v) ∙ ap (λ m. parent_node ListView u m 0 []) (rows ∙ sym (kept_len o))) j
+    ∷ (valid_table u ++ exact-three (unflagged e) (unflagged o) (unflagged s) j))
 
 pub lists_written : (a e o s : Tree) (v : Valid) (f : Bool) (m : ℕ) (old m1 m2 m3 new : List WrittenNode) → a ≡ list_view e o s v f → WellFormed (list_view e o s v f)
     → tree_len e < 2 ^ 64 → m ≡ tree_len a → IsParent ListView 0 m [] v old m1 → IsWritten m1 (unflagged e ∷ []) m2 → IsWritten m2 (unflagged o ∷ []) m3
@@ -309,6 +319,8 @@ structure_parts names cs v n old mid new formed named parent parts =
     parts-written w Struct v old mid new us t (known_as w Struct parent.kind) parent.validity parent.put parts
     (λ others. records-read (node_of w) u us others count none ∙ ap (λ x. Ok (x, others)) same)
     (sym parent.len_is) (all_counted ∙ ap suc (count-valid u us))
+    (λ j. parent_exact Struct 0 n names v u old mid parent (valid_number-kept v) j
+    ∷ (valid_table u ++ (sym (exact-columns us) ∙ ap tables_of (sym (unflagged-trees_from cs))) j))
 
 pub structure_written : (a : Tree) (names : List (List ℕ)) (cs lent : List Tree) (v : Valid) (n m : ℕ) (old mid new : List WrittenNode) → a ≡ structure names (trees_from cs) v n
     → WellFormed (structure names (trees_from cs) v n) → names_fault names ≡ None → m ≡ tree_len a → IsParent Struct 0 m names v old mid → lent ≡ cs
@@ -390,11 +402,14 @@ values-layout false n vs bs k v others is views buffers formed =
 
 pub values_written : (w : WrittenNode) (vs bs : List (List ℕ)) (k : Kind) (v : Valid) (old new : List WrittenNode) → w.kind ≡ view_kind (is_texts k)
     → w.validity ≡ valid_number v → w.length ≡ length vs → map view_bytes w.views.items ≡ vs → map (λ b. b.items) w.buffers.blocks.items ≡ bs
+    → w.size ≡ 0 → w.offset ≡ 0 → w.bytes.items ≡ [] → w.views.items ≡ map view_with vs
     → WellFormed (view_array vs bs k v) → IsPut w v old new → IsWritten old (view_array vs bs k (unflagged_valid v) ∷ []) new
-values_written w vs bs k v old new kind number len views buffers formed put =
+values_written w vs bs k v old new kind number len views buffers size begins bytes exact formed put =
     leaf-written w (view_kind (is_texts k)) v old new (view_array vs bs k (unflagged_valid v)) (known_as w (view_kind (is_texts k)) kind) number put
     (λ others. values-layout (is_texts k) (node_of w) vs bs k v others refl views (buffers-names w.buffers.blocks.items ∙ buffers) formed)
     (sym len) (leaf-count (unflagged_valid v))
+    (ap (λ n. n ∷ valid_table (unflagged_valid v))
+    (values_exact w (view_kind (is_texts k)) vs bs (valid_number v) (unflagged_valid v) kind number size len begins bytes exact buffers (valid_number-kept v)))
 
 -- ---- what each call puts
 
@@ -405,23 +420,41 @@ pub put_masked : (w : WrittenNode) (t : Tree) (old mid new : List WrittenNode) �
 put_masked w t old mid new pushed mask = record { mid = mid; first = pushed; valid = mask }
 
 pub parent_put : (w : WrittenNode) (k : NodeKind) (size len : ℕ) (names : List (List ℕ)) (v : Valid) (old new : List WrittenNode) → w.kind ≡ k → w.validity ≡ valid_number v
-    → w.size ≡ size → w.length ≡ len → map (λ (b : Vec ℕ). b.items) w.buffers.blocks.items ≡ names → IsPut w v old new → IsParent k size len names v old new
-parent_put w k size len names v old new kind number sized long named put =
-    record { node = w; kind = kind; validity = number; size_is = sized; len_is = long; names_are = named; put = put }
+    → w.size ≡ size → w.length ≡ len → w.offset ≡ 0 → w.bytes.items ≡ [] → w.views.items ≡ [] → map (λ (b : Vec ℕ). b.items) w.buffers.blocks.items ≡ names
+    → IsPut w v old new → IsParent k size len names v old new
+parent_put w k size len names v old new kind number sized long begins bytes views named put = record {
+  node = w;
+  kind = kind;
+  validity = number;
+  size_is = sized;
+  len_is = long;
+  begins = begins;
+  no_bytes = bytes;
+  no_views = views;
+  names_are = named;
+  put = put;
+}
 
 pub bits_none : (bytes : List ℕ) (from len : ℕ) → from + len ≤ 8 * length bytes → from + len < 2 ^ 64 → bits_fault bytes from len ≡ None
 bits_none bytes from len inside counted = search (rules, arith, inside, counted)
 
-pub bits_node : (w : WrittenNode) (first : ℕ) (bits : List Bool) (number offset len : ℕ) (bytes : List ℕ) → w.kind ≡ bool_kind → w.validity ≡ number → w.offset ≡ offset → w.length ≡ len
-    → w.bytes.items ≡ bytes → len ≡ length bits → offset + len ≤ 8 * length bytes → offset + len < 2 ^ 64 → offset ≡ first → offset < 8 → bits ≡ unpacked bytes offset len → IsBitsNode first bits number w
-bits_node w first bits number offset len bytes kind validity from long same count inside counted starts low is =
-    let small : offset % 8 ≡ offset = omega (arith, low) in record {
+pub bits_node : (w : WrittenNode) (first : ℕ) (bits : List Bool) (number offset len : ℕ) (bytes : List ℕ) → w.kind ≡ bool_kind → w.validity ≡ number → w.size ≡ 0 → w.offset ≡ offset
+    → w.length ≡ len → w.views.items ≡ [] → w.buffers.blocks.items ≡ [] → w.bytes.items ≡ bits_bytes (replicate offset false ++ unpacked bytes offset len) → len ≡ length bits
+    → offset + len < 2 ^ 64 → offset ≡ first → offset < 8 → bits ≡ unpacked bytes offset len → IsBitsNode first bits number w
+bits_node w first bits number offset len bytes kind validity size from long views buffers exact count counted starts low seen =
+    let is : w.bytes.items ≡ bits_bytes (replicate first false ++ bits) = exact ∙ (λ j. bits_bytes (replicate (starts j) false ++ sym seen j)) in
+    let inside : first + length bits ≤ 8 * length (bits_bytes (replicate first false ++ bits)) = omega (arith, length-begun first bits) in
+    let short : first + length bits < 2 ^ 64 = omega (arith, starts, count, counted) in record {
       kind = kind;
       number = validity;
+      size_is = size;
       len = long ∙ count;
-      begins = ap (λ k. k % 8) from ∙ small ∙ starts;
-      is = (λ j. unpacked (same j) (from j) (long j)) ∙ sym is;
-      faultless = (λ j. bits_fault (same j) (from j) (long j)) ∙ bits_none bytes offset len inside counted;
+      low = omega (arith, starts, low);
+      begins = from ∙ starts;
+      is = is;
+      no_views = views;
+      no_buffers = buffers;
+      faultless = (λ j. bits_fault (is j) ((from ∙ starts) j) ((long ∙ count) j)) ∙ bits_none (bits_bytes (replicate first false ++ bits)) first (length bits) inside short;
     }
 
 pub mask_written : (w : WrittenNode) (first : ℕ) (bits : List Bool) (v : Valid) (t : Tree) (old new : List WrittenNode) → t ≡ bools first bits v → kind_of t ≡ booleans false → IsBitsNode first bits 0 w

@@ -1,17 +1,21 @@
 -- Tables that follow one another.
 use Rattle.std.proofs.Common.{◌≡◌, ◌+◌, ◌≤◌, suc, List, [], ◌∷◌, ◌++◌, length, map, refl, sym, ◌∙◌, ap, subst, arith, rules, append_assoc, length-append, zero-add}
+use Rattle.std.specs.List.{flat_map}
 use Rattle.std.specs.Prelude.{Some, Ok}
-use Rattle.std.proofs.lemmas.List.{map-append}
+use Rattle.std.proofs.lemmas.Grind.{flat_map-append}
+use Rattle.std.proofs.lemmas.List.{append-nil, map-append}
 use Rattle.vx_tree.specs.Tree.{Tree, Valid, non_nullable, all_valid, all_invalid, by_array}
 use Rattle.vx_tree.specs.Meaning.{tree_len}
 use Rattle.vx_c.specs.declared.table.CodraskNode.{CodraskNode}
 use Rattle.vx_c.specs.declared.table.NodeKind.{NodeKind}
 use Rattle.vx_c.specs.declared.written.WrittenNode.{WrittenNode}
 use Rattle.vx_c.specs.declared.reading.TheConstants.{MAX_NODES}
-use Rattle.vx_c.specs.NodeKinds.{kind_numbered}
+use Rattle.vx_c.specs.NodeKinds.{kind_numbered, valid_number}
 use Rattle.vx_c.specs.Tables.{arrays_from, node_made, layout_made, valid_of_number, then_node, at_node, only, column_of}
+use Rattle.vx_c.specs.TablesOf.{table_of, valid_table}
 use Rattle.vx_c.specs.Unflagged.{node_count, nodes_of, unflagged_valid}
-use Rattle.vx_c.specs.Written.{AreTablesOf, IsWritten, IsPut, node_of, valid_number, valid_trees}
+use Rattle.vx_c.specs.Written.{AreTablesOf, IsWritten, IsPut, node_of, valid_trees}
+use Rattle.vx_c.proofs.ExactTables.{exact-valid}
 use Rattle.vx_c.proofs.Nodes.{node-made}
 
 -- ---- tables
@@ -57,7 +61,7 @@ append_nothing [] = refl
 append_nothing (w ∷ ws) = ap (λ xs. w ∷ xs) (append_nothing ws)
 
 pub none_written : (old : List WrittenNode) → IsWritten old [] old
-none_written old = record { more = []; put = append_nothing old; len = refl; tables = tables-none }
+none_written old = record { more = []; put = append_nothing old; len = refl; tables = tables-none; exact = refl }
 
 pub written-both : (old mid new : List WrittenNode) (ts us : List Tree) → IsWritten old ts mid → IsWritten mid us new → IsWritten old (ts ++ us) new
 written-both old mid new ts us first second = record {
@@ -66,15 +70,18 @@ written-both old mid new ts us first second = record {
   len = omega (arith, length-append first.more second.more, first.len, second.len, nodes_of-append ts us);
   tables = subst (λ ns. AreTablesOf ns (ts ++ us)) (sym (map-append node_of first.more second.more))
       (tables-both (map node_of first.more) (map node_of second.more) ts us first.tables second.tables);
+  exact = map-append node_of first.more second.more ∙ (λ j. first.exact j ++ second.exact j) ∙ sym (flat_map-append table_of ts us);
 }
 
 written-node : (w : WrittenNode) (old mid new : List WrittenNode) (ts : List Tree) (t : Tree) → mid ≡ old ++ w ∷ [] → IsWritten mid ts new
-    → ((others : List Tree) → node_made (node_of w) (ts ++ others) ≡ Ok (t ∷ others)) → node_count t ≡ suc (nodes_of ts) → IsWritten old (t ∷ []) new
-written-node w old mid new ts t first parts made count = record {
+    → ((others : List Tree) → node_made (node_of w) (ts ++ others) ≡ Ok (t ∷ others)) → node_count t ≡ suc (nodes_of ts)
+    → node_of w ∷ flat_map table_of ts ≡ table_of t → IsWritten old (t ∷ []) new
+written-node w old mid new ts t first parts made count exact = record {
   more = w ∷ parts.more;
   put = parts.put ∙ ap (λ ws. ws ++ parts.more) first ∙ append_assoc old (w ∷ []) parts.more;
   len = omega (arith, parts.len, count);
   tables = tables-node (node_of w) (map node_of parts.more) ts t parts.tables made;
+  exact = ap (λ (ns : List CodraskNode). node_of w ∷ ns) parts.exact ∙ exact ∙ sym (append-nil (table_of t));
 }
 
 -- ---- one node with its validity
@@ -103,16 +110,20 @@ valid_number-kept (by_array t) = refl
 pub parts-written : (w : WrittenNode) (k : NodeKind) (v : Valid) (old mid new : List WrittenNode) (us : List Tree) (t : Tree)
     → kind_numbered (node_of w).kind ≡ Some k → w.validity ≡ valid_number v → IsPut w v old mid → IsWritten mid us new
     → ((others : List Tree) → layout_made k (node_of w) (unflagged_valid v) (us ++ others) ≡ Ok (t, others)) → tree_len t ≡ w.length
-    → node_count t ≡ suc (nodes_of (valid_trees (unflagged_valid v) ++ us)) → IsWritten old (t ∷ []) new
-parts-written w k v old mid new us t known number put parts made len count =
+    → node_count t ≡ suc (nodes_of (valid_trees (unflagged_valid v) ++ us))
+    → node_of w ∷ (valid_table (unflagged_valid v) ++ flat_map table_of us) ≡ table_of t → IsWritten old (t ∷ []) new
+parts-written w k v old mid new us t known number put parts made len count exact =
     let u = unflagged_valid v in
     let all : IsWritten put.mid (valid_trees u ++ us) new = written-both put.mid mid new (valid_trees u) us put.valid parts in
     written-node w old put.mid new (valid_trees u ++ us) t put.first all
     (λ others. node-read (node_of w) k u us others t known (number ∙ valid_number-kept v) (made others) len) count
+    (ap (λ (ns : List CodraskNode). node_of w ∷ ns) (exact-valid u us) ∙ exact)
 
 pub leaf-written : (w : WrittenNode) (k : NodeKind) (v : Valid) (old new : List WrittenNode) (t : Tree)
     → kind_numbered (node_of w).kind ≡ Some k → w.validity ≡ valid_number v → IsPut w v old new
     → ((others : List Tree) → layout_made k (node_of w) (unflagged_valid v) others ≡ Ok (t, others)) → tree_len t ≡ w.length
-    → node_count t ≡ suc (nodes_of (valid_trees (unflagged_valid v) ++ [])) → IsWritten old (t ∷ []) new
-leaf-written w k v old new t known number put made len count =
+    → node_count t ≡ suc (nodes_of (valid_trees (unflagged_valid v) ++ [])) → node_of w ∷ valid_table (unflagged_valid v) ≡ table_of t
+    → IsWritten old (t ∷ []) new
+leaf-written w k v old new t known number put made len count exact =
     parts-written w k v old new new [] t known number put (none_written new) made len count
+    (ap (λ (ns : List CodraskNode). node_of w ∷ ns) (append-nil (valid_table (unflagged_valid v))) ∙ exact)

@@ -9,7 +9,7 @@ pub mod Answers
 pub mod ColumnSteps
 pub mod Steps
 pub mod Unflagged
-pub mod Written
 pub mod TablesOf
+pub mod Written
 pub mod WorkedTables
 pub mod Runs

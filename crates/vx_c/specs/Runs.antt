@@ -22,12 +22,15 @@ use Rattle.vx_c.specs.declared.faults.CodraskRunFault.{CodraskRunFault}
 use Rattle.vx_c.specs.declared.reading.TheConstants.{MAX_NODES}
 use Rattle.vx_c.specs.declared.running.TheConstants.{MAX_STEPS}
 use Rattle.vx_c.specs.declared.steps.CodraskStep.{CodraskStep}
+use Rattle.vx_c.specs.declared.table.CodraskNode.{CodraskNode}
 use Rattle.vx_c.specs.declared.table.CodraskTable.{CodraskTable}
 use Rattle.vx_c.specs.Tables.{NodeFault, too_many_nodes, too_many_steps, refused, column_of}
 use Rattle.vx_c.specs.Answers.{IsFormFault, IsTableFault, error_place, node_error_number, node_error_place, fault_of}
 use Rattle.vx_c.specs.ColumnSteps.{HasColumnRun, IsColumnStop}
 use Rattle.vx_c.specs.Steps.{IsStepOf, step_form_fault}
+use Rattle.vx_c.specs.TablesOf.{table_of}
 use Rattle.vx_c.specs.Unflagged.{unflagged, least_count, node_count}
+use Rattle.vx_c.specs.Written.{plainly}
 
 -- ---- what is run
 
@@ -90,6 +93,15 @@ pub record IsMade (tables : List CodraskTable) (steps : List CodraskStep) (wante
   pub ran : HasColumnRun taken columns results
   pub formed : All AllFormed results
   pub written : AllZip (IsMadeOf results) wanted (map column_in made)
+
+-- nodes at no place are the table of the column that they are
+abbrev pub AreExact : List CodraskNode → Type 0
+AreExact nodes = (t : Tree) → column_of nodes ≡ Ok t → nodes ≡ table_of t
+
+-- a table has the bytes of the table of its column, and no others: whatever column it is, its nodes are that table, wherever their
+-- blocks lie
+abbrev pub IsExactTable : CodraskTable → Type 0
+IsExactTable table = (t : Tree) → column_in table ≡ Ok t → map plainly table.nodes.now ≡ table_of t
 
 -- ---- why a run is refused
 

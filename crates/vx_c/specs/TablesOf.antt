@@ -15,10 +15,9 @@ use Rattle.vx_c.specs.declared.table.CodraskNode.{CodraskNode}
 use Rattle.vx_c.specs.declared.table.CodraskView.{CodraskView}
 use Rattle.vx_c.specs.declared.table.NodeKind.{NodeKind}
 use Rattle.vx_c.specs.declared.table.NodeKind.TheVariants.{Bool as bool_kind, Number, FixedSizeList, ListView, Struct}
-use Rattle.vx_c.specs.NodeKinds.{kind_number}
+use Rattle.vx_c.specs.NodeKinds.{kind_number, view_kind, valid_number}
 use Rattle.vx_c.specs.Tables.{names_fault, column_of}
 use Rattle.vx_c.specs.Unflagged.{unflagged, node_count}
-use Rattle.vx_c.specs.Written.{valid_number, view_kind}
 
 -- ---- one node
 

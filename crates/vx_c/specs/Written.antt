@@ -1,13 +1,14 @@
 -- The tables of arrays, as they are written.
-use Rattle.std.specs.Prelude.{◌≡◌, ◌+◌, ◌%◌, ◌++◌, ℕ, Bool, true, false, List, [], ◌∷◌, length, map, Ok, None}
-use Rattle.vx_base.specs.Bits.{unpacked}
-use Rattle.vx_tree.specs.Tree.{Tree, Valid, non_nullable, all_valid, all_invalid, by_array}
+use Rattle.std.specs.Prelude.{◌≡◌, ◌+◌, ◌<◌, ◌++◌, ℕ, Bool, false, List, [], ◌∷◌, length, map, replicate, Ok, None}
+use Rattle.std.specs.List.{flat_map}
+use Rattle.vx_tree.specs.Tree.{Tree, Valid, by_array}
 use Rattle.vx_c.specs.declared.table.CodraskNode.{CodraskNode}
 use Rattle.vx_c.specs.declared.table.NodeKind.{NodeKind}
 use Rattle.vx_c.specs.declared.table.NodeKind.TheVariants as kind
 use Rattle.vx_c.specs.declared.written.WrittenNode.{WrittenNode}
-use Rattle.vx_c.specs.NodeKinds.{kind_number}
+use Rattle.vx_c.specs.NodeKinds.{kind_number, valid_number}
 use Rattle.vx_c.specs.Tables.{arrays_from, bits_fault}
+use Rattle.vx_c.specs.TablesOf.{bits_bytes, table_of}
 use Rattle.vx_c.specs.Unflagged.{unflagged_valid, nodes_of}
 
 -- ---- nodes, wherever their blocks lie
@@ -46,27 +47,17 @@ AreTablesOf nodes arrays =
     (i : ℕ) (rest : List CodraskNode) (others : List Tree) → arrays_from (length nodes + i) rest ≡ Ok others
     → arrays_from i (nodes ++ rest) ≡ Ok (arrays ++ others)
 
--- the tables of these arrays were put after some nodes
+-- the tables of these arrays were put after some nodes, each node with the bytes that it has there and no others
 pub record IsWritten (old : List WrittenNode) (arrays : List Tree) (new : List WrittenNode) : Type 0 where
   pub more : List WrittenNode
   pub put : new ≡ old ++ more
   pub len : length more ≡ nodes_of arrays
   pub tables : AreTablesOf (map node_of more) arrays
+  pub exact : map node_of more ≡ flat_map table_of arrays
 
 -- ---- one node
 
--- the kind of texts, else of byte lists
-abbrev pub view_kind : Bool → NodeKind
-view_kind true = kind.Utf8
-view_kind false = kind.Binary
-
--- the number of a validity, and its array
-abbrev pub valid_number : Valid → ℕ
-valid_number non_nullable = 0
-valid_number all_valid = 1
-valid_number all_invalid = 2
-valid_number (by_array t) = 3
-
+-- the array of a validity
 abbrev pub valid_trees : Valid → List Tree
 valid_trees (by_array t) = t ∷ []
 valid_trees _ = []
@@ -84,14 +75,22 @@ pub record IsParent (k : NodeKind) (size len : ℕ) (names : List (List ℕ)) (v
   pub validity : node.validity ≡ valid_number v
   pub size_is : node.size ≡ size
   pub len_is : node.length ≡ len
+  pub begins : node.offset ≡ 0
+  pub no_bytes : node.bytes.items ≡ []
+  pub no_views : node.views.items ≡ []
   pub names_are : map (λ b. b.items) node.buffers.blocks.items ≡ names
   pub put : IsPut node v old new
 
--- a node of truth values that begin at a bit of their first byte, under the validity of a number
+-- a node of truth values that begin at a bit of their first byte, under the validity of a number: no bit is set before them or
+-- after them, and there are as many bytes as they need
 pub record IsBitsNode (first : ℕ) (bits : List Bool) (validity : ℕ) (node : WrittenNode) : Type 0 where
   pub kind : node.kind ≡ kind.Bool
   pub number : node.validity ≡ validity
+  pub size_is : node.size ≡ 0
   pub len : node.length ≡ length bits
-  pub begins : node.offset % 8 ≡ first
-  pub is : unpacked node.bytes.items node.offset node.length ≡ bits
+  pub low : first < 8
+  pub begins : node.offset ≡ first
+  pub is : node.bytes.items ≡ bits_bytes (replicate first false ++ bits)
+  pub no_views : node.views.items ≡ []
+  pub no_buffers : node.buffers.blocks.items ≡ []
   pub faultless : bits_fault node.bytes.items node.offset node.length ≡ None

@@ -1,6 +1,6 @@
 //! Laws of tables. The functions do nothing: their contracts are the laws.
 
-ghost use Rattle.std.specs.Prelude.{◌≡◌, List, Ok, Some};
+ghost use Rattle.std.specs.Prelude.{◌≡◌, List, Ok, Some, map};
 ghost use Rattle.vx_base.specs.Kinds.{Kind};
 ghost use Rattle.vx_base.specs.Refusals.{out_of_bounds};
 ghost use Rattle.vx_base.specs.Rows.{Row};
@@ -11,10 +11,12 @@ ghost use Rattle.vx_tree.specs.Tree.{Tree};
 ghost use Rattle.vx_tree.specs.Worked.{signed_numbers, some_booleans, overlapping_lists};
 ghost use Rattle.vx_pack.specs.Packed.{IsPacked};
 ghost use Rattle.vx_c.specs.ColumnSteps.{RunsAreRuns, StopsAreStops};
-ghost use Rattle.vx_c.specs.Runs.{IsReadBack};
+ghost use Rattle.vx_c.specs.Runs.{IsReadBack, IsExactTable, column_in};
 ghost use Rattle.vx_c.specs.Tables.{column_of, table_fault, refused, unknown_kind, missing_nodes, not_one_array};
 ghost use Rattle.vx_c.specs.TablesOf.{TablesAreRead};
 ghost use Rattle.vx_c.specs.Unflagged.{IsLeastCount, unflagged};
+ghost use Rattle.vx_c.specs.Written.{plainly};
+ghost use Rattle.vx_c.specs.declared.table.CodraskTable.{CodraskTable};
 ghost use Rattle.vx_c.specs.WorkedTables.{numbers_table, nulls_table, overlapping_table, long_list_table};
 ghost use Rattle.vx_c.specs.WorkedTables.{two_faults_table, lone_list_table, two_columns_table};
 
@@ -64,4 +66,12 @@ pub fn runs_of_steps_are_runs()
 pub fn packed_arrays_are_read_back_as_they_are()
     ensures plain { (k : Kind) (rs : List Row) (t : Tree) → IsPacked k rs t → IsPlain t }
     ensures read { (t r : Tree) → IsPlain t → IsReadBack t (Ok r) → r ≡ unflagged t }
+{}
+
+/// Two tables that are the same column, each exact, have the same nodes with the same bytes,
+/// wherever their blocks lie. So equal columns go out as equal bytes, and equal rows of one type do
+/// where the last step packs them.
+pub fn exact_tables_of_a_column_are_the_same()
+    ensures { (a b : CodraskTable) (t : Tree) → IsExactTable a → IsExactTable b → column_in a ≡ Ok t → column_in b ≡ Ok t
+        → map plainly a.nodes.now ≡ map plainly b.nodes.now }
 {}

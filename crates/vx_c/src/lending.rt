@@ -2,7 +2,6 @@
 
 ghost use Rattle.std.specs.Prelude.{◌≡◌, ◌≤◌, [], length, map};
 ghost use Rattle.std.specs.Vec.{vec_capacity};
-ghost use Rattle.vx_c.specs.Tables.{column_of};
 ghost use Rattle.vx_c.specs.Written.{plainly, node_of};
 
 use crate::table::{CodraskBytes, CodraskNode, CodraskTable};
@@ -52,9 +51,8 @@ fn lend_node(node: WrittenNode) -> CodraskNode<'static>
 }
 
 // The table, in blocks that C has.
-#[tactic(auto, using(crate::proofs::SameNodes::lent_column))]
 fn lend_table(table: WrittenTable) -> CodraskTable<'static>
-    ensures { column_of result.nodes.now ≡ column_of (map node_of table.nodes.items) }
+    ensures { map plainly result.nodes.now ≡ map node_of table.nodes.items }
 {
     let WrittenTable {
         mut nodes,
@@ -74,7 +72,7 @@ pub(crate) fn lend_tables(
 ) -> &'static [CodraskTable<'static>]
     requires empty { room.items ≡ [] }
     requires fits { length tables.items ≤ vec_capacity room }
-    ensures { map (λ t. column_of t.nodes.now) result.now ≡ map (λ t. column_of (map node_of t.nodes.items)) tables.items }
+    ensures { map (λ t. map plainly t.nodes.now) result.now ≡ map (λ t. map node_of t.nodes.items) tables.items }
 {
     while let Some(table) = tables.pop() {
         room.push_reserved(lend_table(table));

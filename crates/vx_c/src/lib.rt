@@ -5,18 +5,20 @@
 //! table on `stack` and makes each by `layouts`; and `passing`, which tells of most tables without
 //! arrays, by `parts` and the loops of `lent_*`. A run is `running`: `steps` and `column_steps` are
 //! what is done, `counting` tells how many nodes a result needs, `writing` makes its table
-//! (`written`), and `lending` hands the blocks over. `laws` are for callers.
+//! (`written`, its bits by `table_bits`), and `lending` hands the blocks over. `laws` are for
+//! callers.
 //!
 //! Three walks recurse: `#[cycle(nodes)]` (`counting`) and `write` (`writing`) down an array, and
 //! `least` (`counting`) down a data type. Reading a table does not.
 #![tactic(auto)]
 
+ghost use Rattle.std.specs.List.{All};
 ghost use Rattle.std.specs.Prelude.{◌≡◌, ◌<◌, List, None};
 ghost use Rattle.vx_c.specs.Tables.{table_fault};
 ghost use Rattle.vx_c.specs.Told.{AreToldBy, HaveOrder};
 ghost use Rattle.vx_c.specs.declared.table.CodraskNode.{CodraskNode};
 ghost use Rattle.vx_c.specs.Answers.{IsAnswer, TakesMemory};
-ghost use Rattle.vx_c.specs.Runs.{IsMade, IsToldOf, no_run_fault};
+ghost use Rattle.vx_c.specs.Runs.{IsMade, IsExactTable, IsToldOf, no_run_fault};
 
 mod column_steps;
 mod counting;
@@ -34,6 +36,7 @@ mod running;
 mod stack;
 mod steps;
 mod table;
+mod table_bits;
 mod writing;
 mod written;
 
@@ -88,12 +91,13 @@ pub extern "C" fn codrask_passes(alloc: Global, nodes: &[CodraskNode<'_>]) -> u3
 /// Runs steps on the columns of tables, and writes the tables of the arrays that are asked for, in
 /// plain layouts: the arrays are the columns, then one for each step. Answers 0 where that is done.
 /// `made` then has the tables, in blocks of `malloc` that are the caller's: each slice that is not
-/// empty is one. Else the answer is the number of the first fault, and `fault` says where it is: of
-/// the tables, then of the steps, then of the step that is refused, then of what is asked for. It
-/// is 1 where memory was refused, which is all that `fault` says then: room for the lists of a run
-/// is asked for first. `made` is then as it was. An array whose table would have more than 4096
-/// nodes is refused before any is written, and before it is made plain where its data type needs so
-/// many.
+/// empty is one. The columns fix each byte of them: equal columns go out as equal bytes, and no bit
+/// is set before the first of some truth values or after the last one. Else the answer is the
+/// number of the first fault, and `fault` says where it is: of the tables, then of the steps, then
+/// of the step that is refused, then of what is asked for. It is 1 where memory was refused, which
+/// is all that `fault` says then: room for the lists of a run is asked for first. `made` is then as
+/// it was. An array whose table would have more than 4096 nodes is refused before any is written,
+/// and before it is made plain where its data type needs so many.
 #[tactic(auto, using(crate::proofs::RunParts::told_run))]
 #[unsafe(no_mangle)]
 pub extern "C" fn codrask_run(
@@ -105,6 +109,7 @@ pub extern "C" fn codrask_run(
     fault: &mut CodraskRunFault,
 ) -> u32
     ensures made { result ≡ 0 → IsMade tables.now steps.now wanted.now made.new.tables.now }
+    ensures bytes { result ≡ 0 → All IsExactTable made.new.tables.now }
     ensures none { result ≡ 0 → fault.new ≡ no_run_fault }
     ensures fault { 0 < result → IsToldOf tables.now steps.now wanted.now fault.new }
     ensures number { result ≡ fault.new.number }

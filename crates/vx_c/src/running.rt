@@ -6,7 +6,8 @@ ghost use Rattle.vx_tree.specs.Fitting.{AllFormed};
 ghost use Rattle.vx_c.specs.ColumnSteps.{HasColumnRun};
 ghost use Rattle.vx_c.specs.Tables.{column_of};
 ghost use Rattle.vx_c.specs.Written.{node_of};
-ghost use Rattle.vx_c.specs.Runs.{AreColumns, AreSteps, IsMade, IsMadeOf, IsRunError, IsNoTable, AreColumnsOr, AreStepsOr, IsRanOr, AreTablesOr};
+ghost use Rattle.vx_c.specs.Runs.{AreColumns, AreSteps, IsMade, IsMadeOf, AreExact, IsExactTable, IsRunError, IsNoTable, AreColumnsOr, AreStepsOr};
+ghost use Rattle.vx_c.specs.Runs.{IsRanOr, AreTablesOr};
 
 use crate::column_steps::ColumnStep;
 use crate::counting::{left_by_array, left_by_kind};
@@ -26,7 +27,7 @@ use vx_tree::ArrayRef;
 pub(crate) const MAX_STEPS: usize = 1024;
 
 // Runs steps on the columns of tables, and gives the tables of the arrays that are asked for.
-#[tactic(auto, using(crate::proofs::RunParts::run_parts))]
+#[tactic(auto, using(crate::proofs::RunParts::run_parts, crate::proofs::ExactRuns::exact_lent))]
 pub(crate) fn run_tables(
     alloc: Global,
     tables: &[CodraskTable<'_>],
@@ -34,6 +35,7 @@ pub(crate) fn run_tables(
     wanted: &[usize],
 ) -> Result<&'static [CodraskTable<'static>], RunError>
     ensures ok { IfOk result (λ made. IsMade tables.now steps.now wanted.now made.now) }
+    ensures exact { IfOk result (λ made. All IsExactTable made.now) }
     ensures err { IfErr result (IsRunError tables.now steps.now wanted.now) }
 {
     let columns = columns_of(alloc, tables)?;
@@ -127,13 +129,14 @@ fn all_formed(arrays: &[ArrayRef])
 }
 
 // The tables of the arrays that are asked for.
-#[tactic(auto, using(crate::proofs::RunParts::tables_read, crate::proofs::RunParts::no_table))]
+#[tactic(auto, using(crate::proofs::RunParts::tables_read, crate::proofs::RunParts::no_table, crate::proofs::ExactRuns::exact_more))]
 fn tables_of(
     alloc: Global,
     results: &[ArrayRef],
     wanted: &[usize],
 ) -> Result<Vec<WrittenTable>, RunError>
     ensures ok { IfOk result (λ made. AllZip (IsMadeOf results.now) wanted.now (map (λ t. column_of (map node_of t.nodes.items)) made.items)) }
+    ensures exact { IfOk result (λ made. All (λ t. AreExact (map node_of t.nodes.items)) made.items) }
     ensures err { IfErr result (AreTablesOr results.now wanted.now) }
 {
     let mut tables = Vec::with_capacity(alloc, wanted.len())?;
@@ -151,6 +154,7 @@ fn tables_of(
 #[tactic(auto, using(crate::proofs::RunParts::table_parts))]
 fn table_of(alloc: Global, results: &[ArrayRef], position: usize) -> Result<WrittenTable, NodeError>
     ensures ok { IfOk result (λ table. IsMadeOf results.now position (column_of (map node_of table.nodes.items))) }
+    ensures exact { IfOk result (λ table. AreExact (map node_of table.nodes.items)) }
     ensures err { IfErr result (IsNoTable results.now position) }
 {
     let array = results.get(position).ok_or(VortexError::OutOfBounds {

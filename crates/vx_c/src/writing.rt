@@ -12,9 +12,12 @@ ghost use Rattle.vx_tree.specs.Tree.{bools, primitive, view_array};
 ghost use Rattle.vx_c.specs.declared.table.NodeKind.TheVariants.{FixedSizeList, ListView, Struct};
 ghost use Rattle.vx_c.specs.Tables.{view_bytes, names_fault};
 ghost use Rattle.vx_c.specs.Unflagged.{unflagged, unflagged_valid};
-ghost use Rattle.vx_c.specs.Written.{IsWritten, IsPut, IsParent, IsBitsNode, valid_number, view_kind};
+ghost use Rattle.vx_c.specs.NodeKinds.{valid_number, view_kind};
+ghost use Rattle.vx_c.specs.TablesOf.{view_with};
+ghost use Rattle.vx_c.specs.Written.{IsWritten, IsPut, IsParent, IsBitsNode};
 
 use crate::table::{CodraskView, NodeKind};
+use crate::table_bits::bits_bytes;
 use crate::written::{WrittenBuffers, WrittenNode};
 use std::alloc::Global;
 use vx_base::{BitBuffer, Buffer, ByteBuffer, DType, FieldNames, PType, VortexError};
@@ -160,8 +163,7 @@ fn put_bits(
     Ok(put(alloc, node, validity, nodes)?)
 }
 
-// A node of truth values under the validity of a number.
-#[tactic(auto, using(crate::proofs::WrittenLayouts::bits_node))]
+// A node of truth values under the validity of a number, with no other bit set in its bytes.
 fn bits_node(alloc: Global, bits: &BitBuffer, validity: u32) -> Result<WrittenNode, VortexError>
     ensures { Gives result (IsBitsNode bits.now.offset bits.now.bits validity) }
 {
@@ -172,7 +174,7 @@ fn bits_node(alloc: Global, bits: &BitBuffer, validity: u32) -> Result<WrittenNo
         size: 0,
         length,
         offset,
-        bytes: Vec::from_slice(alloc, bytes.as_slice())?,
+        bytes: bits_bytes(alloc, bytes.as_slice(), offset, length)?,
         views: Vec::new(alloc),
         buffers: WrittenBuffers::none(alloc),
     })
@@ -316,9 +318,9 @@ fn number_of(validity: &Validity) -> u32
 }
 
 // Copies of views.
-#[tactic(auto, using(crate::proofs::Moved::views_more))]
 fn view_list(alloc: Global, views: &[BinaryView]) -> Result<Vec<CodraskView>, VortexError>
-    ensures { Gives result (λ copies. map view_bytes copies.items ≡ views.now) }
+    ensures read { Gives result (λ copies. map view_bytes copies.items ≡ views.now) }
+    ensures bytes { IfOk result (λ copies. copies.items ≡ map view_with views.now) }
 {
     let mut copies = Vec::with_capacity(alloc, views.len())?;
     for view in views {
@@ -329,7 +331,8 @@ fn view_list(alloc: Global, views: &[BinaryView]) -> Result<Vec<CodraskView>, Vo
 
 // A copy of a view.
 fn view_copy(view: &BinaryView) -> CodraskView
-    ensures { view_bytes result ≡ view.now }
+    ensures read { view_bytes result ≡ view.now }
+    ensures bytes { result ≡ view_with view.now }
 {
     CodraskView {
         bytes: view.as_u128().to_le_bytes(),

@@ -7,4 +7,4 @@ use Rattle.vx_c.proofs.writing.put_lists.Goals as goal
 pub returns : goal.returns
 returns c =
     parent_put _ c.args.kind c.args.size c.args.length [] (valid_of c.args.validity.now) c.args.nodes.now.items c.put.new.nodes.items refl c.number_of.ensures
-    refl refl (ap (map (λ (b : Vec ℕ). b.items)) c.none.ensures) c.in_ok-put.ensures
+    refl refl refl c.new.ensures.items c.new-2.ensures.items (ap (map (λ (b : Vec ℕ). b.items)) c.none.ensures) c.in_ok-put.ensures
