@@ -8,13 +8,17 @@ ghost use Rattle.vx_tree.specs.Shapes.{shape_of, selected_shape};
 ghost use Rattle.vx_tree.specs.Faults.{length_fault};
 ghost use Rattle.vx_tree.specs.Operations.{IsSelected, filtered};
 
-use crate::array::{ArrayRef, Layout};
+use crate::array::{ArrayRef, Layout, Validity};
 use crate::laws::fewer_rows_are_countable;
 use std::alloc::Global;
 use vx_base::{Mask, Selection, VortexError};
 
-// How many rows runs have in the mean at most where positions are quicker, for however many columns.
+// How many rows runs have in the mean where bits are gathered one by one as fast as run by run.
 const SHORT: usize = 3;
+
+// How many positions are written out at most. More take longer in memory that is fresh from the system
+// than they save.
+const MOST: usize = 1 << 16;
 
 impl ArrayRef {
     /// The rows at which the mask is true, in their order, in the same layout and of the same data
@@ -41,14 +45,13 @@ impl ArrayRef {
     }
 
     // The rows at which the mask, which has one boolean a row, is true. Where its runs are short,
-    // their positions are written out once for all columns of records: runs cost a step for each
-    // column and run.
+    // their positions may be written out once for all columns of records.
     fn filter_within(&self, alloc: Global, mask: &Mask) -> Result<ArrayRef, VortexError>
         requires { length mask.now ≡ tree_len self.now }
         ensures { Gives result (IsSelected self.now (trues mask.now)) }
     {
         fewer_rows_are_countable(self);
-        if self.has_short_runs(mask) {
+        if self.gains_by_positions(mask) {
             let positions = mask.true_positions(alloc)?;
             return self.select_within(alloc, &Selection::at_positions(&positions));
         }
@@ -56,13 +59,35 @@ impl ArrayRef {
         self.select_within(alloc, &selection)
     }
 
-    // Whether the runs of true rows have fewer rows in the mean than there are columns to share their
-    // positions, and fewer than three.
-    fn has_short_runs(&self, mask: &Mask) -> bool {
+    // Whether positions are worth their memory: where two columns have bits, of which each run costs
+    // several times what a position does. Runs of numbers cost no more than their positions.
+    fn gains_by_positions(&self, mask: &Mask) -> bool {
         let Layout::Struct { columns, .. } = self.layout() else {
             return false;
         };
-        let short = columns.len().min(SHORT);
-        short > 1 && mask.runs().len() > mask.true_count() / short
+        let count = mask.true_count();
+        count <= MOST && mask.runs().len() > count / SHORT && columns_with_bits(columns) > 1
     }
+
+    // Whether the rows are truth values, or bits tell which of them are null.
+    fn has_bits(&self) -> bool {
+        match self.layout() {
+            Layout::Bool { .. } => true,
+            Layout::Primitive { validity, .. } => matches!(validity, Validity::Array(_)),
+            Layout::Constant { .. } | Layout::Dict { .. } => false,
+            Layout::FixedSizeList { validity, .. } => matches!(validity, Validity::Array(_)),
+            Layout::ListView { validity, .. } => matches!(validity, Validity::Array(_)),
+            Layout::VarBinView { validity, .. } => matches!(validity, Validity::Array(_)),
+            Layout::Struct { validity, .. } => matches!(validity, Validity::Array(_)),
+        }
+    }
+}
+
+// How many of these columns have bits.
+fn columns_with_bits(columns: &[ArrayRef]) -> usize {
+    let mut count: usize = 0;
+    for column in columns {
+        count = count.saturating_add(usize::from(column.has_bits()));
+    }
+    count
 }

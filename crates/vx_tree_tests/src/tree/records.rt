@@ -111,8 +111,8 @@ fn keeps(alloc: Global, bits: &[bool], places: &[usize]) -> Result<bool, VortexE
     Ok(true)
 }
 
-// Of two columns, runs of fewer than two rows in the mean are gathered by positions, and longer ones
-// run by run.
+// Of two columns of truth values, runs of fewer than three rows in the mean are gathered by
+// positions, and longer ones run by run.
 #[test]
 fn filter_of_records(rt: HostRuntime) {
     let (t, f) = (true, false);
@@ -121,6 +121,7 @@ fn filter_of_records(rt: HostRuntime) {
     assert!(rt; keeps(rt.alloc(), &[f, f, t, f, f], &[2]).expect(&rt, "made"));
     assert!(rt; keeps(rt.alloc(), &[t, t, f, t, t], &[0, 1, 3, 4]).expect(&rt, "made"));
     assert!(rt; keeps(rt.alloc(), &[f, f, t, t, f], &[2, 3]).expect(&rt, "made"));
+    assert!(rt; keeps(rt.alloc(), &[f, t, t, t, f], &[1, 2, 3]).expect(&rt, "made"));
     assert!(rt; keeps(rt.alloc(), &[f, f, f, f, f], &[]).expect(&rt, "made"));
 }
 
