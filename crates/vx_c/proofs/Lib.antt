@@ -8,8 +8,6 @@ pub mod Names
 pub mod Unflagged
 pub mod WrittenTables
 pub mod WrittenLayouts
-pub mod PackedBytes
-pub mod MaskedBits
 pub mod ExactTables
 pub mod TablesRead
 pub mod SameNodes
@@ -31,3 +29,4 @@ pub mod PartLists
 pub mod PartsMade
 pub mod NodesPassed
 pub mod TablesPassed
+pub mod PackedTables

@@ -29,12 +29,13 @@ use Rattle.vx_c.specs.declared.table.NodeKind.{NodeKind}
 use Rattle.vx_c.specs.declared.table.NodeKind.TheVariants.{Bool as bool_kind, Number, FixedSizeList, ListView, Struct}
 use Rattle.vx_c.specs.NodeKinds.{kind_numbered, view_kind, valid_number}
 use Rattle.vx_c.specs.Tables.{bits_fault, names_fault, node_made, layout_made, view_bytes, buffers_in, column_of}
-use Rattle.vx_c.specs.TablesOf.{view_with, bytes_with, bits_bytes, bits_node, bytes_node, views_node, parent_node, table_of, tables_of, valid_table}
+use Rattle.vx_c.specs.TablesOf.{view_with, bytes_with, bits_node, bytes_node, views_node, parent_node, table_of, tables_of, valid_table}
 use Rattle.vx_c.specs.TablesOf.{IsHeld, AreHeld, IsHeldValid}
 use Rattle.vx_c.specs.Unflagged.{unflagged, unflagged_trees, unflagged_valid, node_count, trees_count, valid_count}
 use Rattle.vx_c.specs.Written.{AreTablesOf, valid_trees}
 use Rattle.vx_c.proofs.LayoutParts.{made_by}
-use Rattle.vx_c.proofs.PackedBytes.{length-begun, unpacked-begun}
+use Rattle.vx_pack.specs.BitBytes.{bits_bytes}
+use Rattle.vx_pack.proofs.PackedBytes.{length-begun, unpacked-begun}
 use Rattle.vx_c.proofs.Sixteen.{le_bytes_16}
 use Rattle.vx_c.proofs.Unflagged.{kept_len, unflagged-trees_from}
 use Rattle.vx_c.proofs.WrittenLayouts.{known, validity_none, bits_none, whole_none, count_none, lists_none, length-unflagged, column_count-from, struct_none, records-read, values-layout}

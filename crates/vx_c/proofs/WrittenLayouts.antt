@@ -37,12 +37,13 @@ use Rattle.vx_c.specs.declared.written.WrittenNode.{WrittenNode}
 use Rattle.vx_c.specs.NodeKinds.{kind_numbered, kind_number, view_kind, valid_number}
 use Rattle.vx_c.specs.Tables.{unless, layout_made, records_made, views_made, buffers_in, views_in, view_bytes, bits_fault, names_fault, missing_nodes}
 use Rattle.vx_c.specs.Unflagged.{unflagged, unflagged_trees, unflagged_valid, trees_count, valid_count, nodes_of}
-use Rattle.vx_c.specs.TablesOf.{view_with, parent_node, bits_bytes, table_of, tables_of, valid_table}
+use Rattle.vx_pack.specs.BitBytes.{bits_bytes}
+use Rattle.vx_c.specs.TablesOf.{view_with, parent_node, table_of, tables_of, valid_table}
 use Rattle.vx_c.specs.Written.{IsWritten, IsPut, IsParent, IsBitsNode, node_of, valid_trees}
 use Rattle.vx_c.proofs.ExactTables.{exact-columns, exact-three, bits_exact, numbers_exact, values_exact, parent_exact}
 use Rattle.vx_c.proofs.LayoutParts.{made_by}
 use Rattle.vx_c.proofs.Names.{columns_taken, values_faultless}
-use Rattle.vx_c.proofs.PackedBytes.{length-begun, unpacked-begun}
+use Rattle.vx_pack.proofs.PackedBytes.{length-begun, unpacked-begun}
 use Rattle.vx_c.proofs.Unflagged.{kept_len, kept_kind, kept_row, kept_valid, kept_nullable, unflagged-trees_from, trees_count-from}
 use Rattle.vx_c.proofs.WrittenTables.{parts-written, leaf-written, none_written, written-both, valid_number-kept}
 

@@ -2,13 +2,13 @@
 use Rattle.std.specs.Prelude.{◌≡◌, ◌+◌, ◌*◌, ◌/◌, ◌^◌, ◌<◌, ◌≤◌, ◌++◌, ℕ, Bool, false, List, [], ◌∷◌, length, map}
 use Rattle.std.specs.Prelude.{replicate, take, drop, Ok, None}
 use Rattle.std.specs.List.{range_with_len}
-use Rattle.vx_base.specs.Bits.{byte_of}
 use Rattle.vx_base.specs.Integers.{numbers}
 use Rattle.vx_tree.specs.Fitting.{AllFormed}
 use Rattle.vx_tree.specs.Meaning.{tree_len, is_texts}
 use Rattle.vx_tree.specs.Plain.{IsPlain}
 use Rattle.vx_tree.specs.Tree.{Tree, bools, primitive, constant, dictionary, fixed_list, list_view, structure, view_array}
 use Rattle.vx_tree.specs.Tree.{Trees, no_trees, tree, Valid, non_nullable, all_valid, all_invalid, by_array}
+use Rattle.vx_pack.specs.BitBytes.{bits_bytes}
 use Rattle.vx_c.specs.declared.reading.TheConstants.{MAX_NODES}
 use Rattle.vx_c.specs.declared.table.CodraskBytes.{CodraskBytes}
 use Rattle.vx_c.specs.declared.table.CodraskNode.{CodraskNode}
@@ -52,10 +52,6 @@ views_node k v vs cs = node_numbered (kind_number k) (valid_number v) (length vs
 -- a node whose parts follow: the size of each list, and names
 abbrev pub parent_node : NodeKind → Valid → ℕ → ℕ → List (List ℕ) → CodraskNode
 parent_node k v len each names = node_numbered (kind_number k) (valid_number v) len each 0 [] [] names
-
--- booleans, eight to a byte, the first of them its least significant bit
-abbrev pub bits_bytes : List Bool → List ℕ
-bits_bytes bits = map (λ j. byte_of (take 8 (drop (8 * j) bits))) (range_with_len 0 ((length bits + 7) / 8))
 
 -- a node of booleans that begin at a bit of the first byte, which is false before it
 abbrev pub bits_node : Valid → ℕ → List Bool → CodraskNode

@@ -8,7 +8,8 @@ use Rattle.vx_c.specs.declared.table.NodeKind.TheVariants as kind
 use Rattle.vx_c.specs.declared.written.WrittenNode.{WrittenNode}
 use Rattle.vx_c.specs.NodeKinds.{kind_number, valid_number}
 use Rattle.vx_c.specs.Tables.{arrays_from, bits_fault}
-use Rattle.vx_c.specs.TablesOf.{bits_bytes, table_of}
+use Rattle.vx_pack.specs.BitBytes.{bits_bytes}
+use Rattle.vx_c.specs.TablesOf.{table_of}
 use Rattle.vx_c.specs.Unflagged.{unflagged_valid, nodes_of}
 
 -- ---- nodes, wherever their blocks lie

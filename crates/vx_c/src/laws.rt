@@ -69,9 +69,16 @@ pub fn packed_arrays_are_read_back_as_they_are()
 {}
 
 /// Two tables that are the same column, each exact, have the same nodes with the same bytes,
-/// wherever their blocks lie. So equal columns go out as equal bytes, and equal rows of one type do
-/// where the last step packs them.
+/// wherever their blocks lie. So equal columns go out as equal bytes.
 pub fn exact_tables_of_a_column_are_the_same()
     ensures { (a b : CodraskTable) (t : Tree) → IsExactTable a → IsExactTable b → column_in a ≡ Ok t → column_in b ≡ Ok t
+        → map plainly a.nodes.now ≡ map plainly b.nodes.now }
+{}
+
+/// Equal rows of one data type go out as equal bytes, where they are packed: of two tables of packed
+/// arrays that runs wrote, the nodes are the same, with the same bytes, wherever their blocks lie.
+pub fn packed_rows_go_out_as_equal_bytes()
+    ensures { (a b : CodraskTable) (k : Kind) (rs : List Row) (t u : Tree) → IsPacked k rs t → IsPacked k rs u
+        → IsReadBack t (column_in a) → IsReadBack u (column_in b) → IsExactTable a → IsExactTable b
         → map plainly a.nodes.now ≡ map plainly b.nodes.now }
 {}

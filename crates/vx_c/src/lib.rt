@@ -5,7 +5,7 @@
 //! table on `stack` and makes each by `layouts`; and `passing`, which tells of most tables without
 //! arrays, by `parts` and the loops of `lent_*`. A run is `running`: `steps` and `column_steps` are
 //! what is done, `counting` tells how many nodes a result needs, `writing` makes its table
-//! (`written`, its bits by `table_bits`), and `lending` hands the blocks over. `laws` are for
+//! (`written`), and `lending` hands the blocks over. `laws` are for
 //! callers.
 //!
 //! Three walks recurse: `#[cycle(nodes)]` (`counting`) and `write` (`writing`) down an array, and
@@ -36,7 +36,6 @@ mod running;
 mod stack;
 mod steps;
 mod table;
-mod table_bits;
 mod writing;
 mod written;
 

@@ -17,10 +17,10 @@ ghost use Rattle.vx_c.specs.TablesOf.{view_with};
 ghost use Rattle.vx_c.specs.Written.{IsWritten, IsPut, IsParent, IsBitsNode};
 
 use crate::table::{CodraskView, NodeKind};
-use crate::table_bits::bits_bytes;
 use crate::written::{WrittenBuffers, WrittenNode};
 use std::alloc::Global;
 use vx_base::{BitBuffer, Buffer, ByteBuffer, DType, FieldNames, PType, VortexError};
+use vx_pack::bits_bytes;
 use vx_tree::{ArrayRef, Layout, Validity};
 use vx_views::BinaryView;
 

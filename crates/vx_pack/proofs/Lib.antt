@@ -13,6 +13,8 @@ pub mod PieceRows
 pub mod PiecesRead
 pub mod PresentRows
 pub mod StoredBits
+pub mod PackedBytes
+pub mod MaskedBits
 pub mod ListPieces
 pub mod FieldPieces
 pub mod CountBytes

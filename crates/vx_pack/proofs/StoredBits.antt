@@ -31,11 +31,6 @@ bits_part bits start n within =
     ∙ ap (λ m. map (bool_at bits) (range_with_len start m)) size
     ∙ map_range_same (bool_at bits) (λ i. bool_at bits (start + i)) start 0 n (λ j l. ap (bool_at bits) (omega arith))
 
-pub both_same : (bits : List Bool) → both bits bits ≡ bits
-both_same [] = refl
-both_same (true ∷ bits) = ap (λ bs. true ∷ bs) (both_same bits)
-both_same (false ∷ bits) = ap (λ bs. false ∷ bs) (both_same bits)
-
 both_maps : (f g : ℕ → Bool) (ks : List ℕ) → both (map f ks) (map g ks) ≡ map (λ i. f i && g i) ks
 both_maps f g [] = refl
 both_maps f g (k ∷ ks) = ap (λ bs. (f k && g k) ∷ bs) (both_maps f g ks)

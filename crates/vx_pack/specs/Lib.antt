@@ -5,6 +5,7 @@ pub mod Lists
 pub mod Records
 pub mod Numbers
 pub mod StoredBits
+pub mod BitBytes
 pub mod Packed
 pub mod Pieces
 pub mod PackedLaws

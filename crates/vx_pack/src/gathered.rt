@@ -15,8 +15,9 @@ ghost use Rattle.vx_base.specs.Selections.{bytes_of_position};
 ghost use Rattle.vx_pack.specs.StoredLists.{AreListBytes, all_positions, stored_sizes, stored_starts};
 
 use crate::count_bytes::sum_of_counts;
+use crate::exact_bits::ExactBits;
 use crate::list_runs::extend_with_lists;
-use crate::packed_bits::{push_present, push_same, push_truths, zero_padded};
+use crate::packed_bits::{push_present, push_same, push_truths};
 use crate::packed_numbers::push_numbers;
 use crate::packed_texts::{finished_texts, push_texts};
 use crate::pieces::Piece;
@@ -168,7 +169,7 @@ impl Gathered {
         let validity = validity_from(alloc, dtype, present)?;
         match leaf {
             Leaf::Truths(bits) => {
-                let bits = zero_padded(alloc, bits)?;
+                let bits = ExactBits::of(alloc, bits)?.into_buffer(alloc)?;
                 ArrayRef::bools(alloc, bits, validity)
             }
             Leaf::Numbers(ptype, bytes) => {
@@ -192,6 +193,9 @@ fn validity_from(
 {
     match dtype.nullability() {
         Nullability::NonNullable => Ok(Validity::NonNullable),
-        Nullability::Nullable => Validity::from_buffer(alloc, zero_padded(alloc, present)?),
+        Nullability::Nullable => {
+            let present = ExactBits::of(alloc, present)?.into_buffer(alloc)?;
+            Validity::from_buffer(alloc, present)
+        }
     }
 }

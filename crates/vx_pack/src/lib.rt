@@ -6,14 +6,17 @@
 //! default rows between them) and `pack_rows`, which packs pieces. The files `packed_*` pack one
 //! kind of column each, `gathered` values that come list by list; `stored_bits`, `stored_numbers`
 //! and `stored_lists` tell what can be read as it lies: `list_runs` gathers the numbers of lists,
-//! and `lists_anywhere` compares lists. `laws` are for callers.
+//! and `lists_anywhere` compares lists. `exact_bits` leaves no bit beside those of rows. `laws` are
+//! for callers.
 //!
 //! Two walks go down a data type: `#[cycle(same)]` and `pack`. Three follow codes or layouts:
 //! `place_of` in `places`, `truth` in `truths`, and `one_row`.
 #![tactic(auto)]
 
+mod bit_bytes;
 mod codes;
 mod count_bytes;
+mod exact_bits;
 mod fields;
 mod gathered;
 mod joined_lists;
@@ -50,5 +53,6 @@ mod texts;
 mod truths;
 mod values;
 
+pub use crate::bit_bytes::bits_bytes;
 pub use crate::pack::Pack;
 pub use crate::rows_equal::RowsEqual;

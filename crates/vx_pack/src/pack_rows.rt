@@ -66,7 +66,7 @@ fn pack_truths(
     ensures err { let kind = dtype_meaning dtype.now in
         IfErr result (IsPackRefused kind (pieces_rows kind pieces.now)) }
 {
-    let bits = truth_bits(alloc, dtype, pieces, len)?;
+    let bits = truth_bits(alloc, dtype, pieces, len)?.into_buffer(alloc)?;
     let validity = validity_of(alloc, dtype, pieces, len)?;
     ArrayRef::bools(alloc, bits, validity)
 }

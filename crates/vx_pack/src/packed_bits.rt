@@ -1,6 +1,6 @@
 // Bits, one for each row that is packed.
 
-ghost use Rattle.std.specs.Prelude.{◌≡◌, ◌<◌, ◌≤◌, ◌+◌, ◌^◌, ◌++◌, ◌∷◌, ◌&&◌, [], true, length, map, replicate, IsTrue, IfOk};
+ghost use Rattle.std.specs.Prelude.{◌≡◌, ◌<◌, ◌≤◌, ◌+◌, ◌^◌, ◌++◌, ◌∷◌, ◌&&◌, [], true, length, map, replicate, IsTrue};
 ghost use Rattle.std.specs.List.{All, range_with_len};
 ghost use Rattle.vx_base.specs.Bits.{bool_at};
 ghost use Rattle.vx_base.specs.DTypes.{dtype_meaning};
@@ -13,6 +13,7 @@ ghost use Rattle.vx_tree.specs.Validities.{valid_from};
 ghost use Rattle.vx_pack.specs.Packed.{packed_valid};
 ghost use Rattle.vx_pack.specs.Pieces.{ArePieces, IsPiece, piece_len, piece_rows, pieces_rows};
 
+use crate::exact_bits::ExactBits;
 use crate::parts::Part;
 use crate::pieces::Piece;
 use crate::presence::presence_of;
@@ -31,16 +32,15 @@ pub(crate) fn truth_bits(
     dtype: &DType,
     pieces: &[Piece],
     len: usize,
-) -> Result<BitBuffer, VortexError>
+) -> Result<ExactBits, VortexError>
     requires { ArePieces (dtype_meaning dtype.now) pieces.now len }
-    ensures bits { Gives result (λ b. b.bits ≡ map truth_of (pieces_rows (dtype_meaning dtype.now) pieces.now)) }
-    ensures offset { IfOk result (λ b. b.offset ≡ 0) }
+    ensures { Gives result (λ b. b ≡ map truth_of (pieces_rows (dtype_meaning dtype.now) pieces.now)) }
 {
     let mut bits = BitBufferMut::with_capacity(alloc, len)?;
     for piece in pieces {
         push_truths(alloc, &mut bits, dtype, *piece)?;
     }
-    zero_padded(alloc, bits)
+    ExactBits::of(alloc, bits)
 }
 
 // Those of a piece, at the end of the bits.
@@ -143,7 +143,8 @@ fn nullable_validity(
     if len > 0 && have_presence(dtype, pieces, false) {
         return Ok(Validity::AllInvalid);
     }
-    Validity::from_buffer(alloc, present_bits(alloc, dtype, pieces, len)?)
+    let bits = present_bits(alloc, dtype, pieces, len)?;
+    Validity::from_buffer(alloc, bits.into_buffer(alloc)?)
 }
 
 // Whether the layouts tell that all rows are there, or that all are null, as is asked.
@@ -166,17 +167,16 @@ fn present_bits(
     dtype: &DType,
     pieces: &[Piece],
     len: usize,
-) -> Result<BitBuffer, VortexError>
+) -> Result<ExactBits, VortexError>
     requires nullable { is_nullable_kind (dtype_meaning dtype.now) ≡ true }
     requires pieces { ArePieces (dtype_meaning dtype.now) pieces.now len }
-    ensures bits { Gives result (λ b. b.bits ≡ map is_present (pieces_rows (dtype_meaning dtype.now) pieces.now)) }
-    ensures offset { IfOk result (λ b. b.offset ≡ 0) }
+    ensures { Gives result (λ b. b ≡ map is_present (pieces_rows (dtype_meaning dtype.now) pieces.now)) }
 {
     let mut bits = BitBufferMut::with_capacity(alloc, len)?;
     for piece in pieces {
         push_present(alloc, &mut bits, dtype, *piece)?;
     }
-    zero_padded(alloc, bits)
+    ExactBits::of(alloc, bits)
 }
 
 // The same of a piece, at the end of the bits.
@@ -254,14 +254,4 @@ fn push_range(
         ++ map (λ i. bool_at source.now.bits (start + i)) (range_with_len 0 len)) }
 {
     bits.append_slice(source, start, start + len)
-}
-
-// The bits, which begin with a byte, and of which none after the last row is set: where bits are
-// copied some may be.
-pub(crate) fn zero_padded(alloc: Global, bits: BitBufferMut) -> Result<BitBuffer, VortexError>
-    ensures bits { Gives result (λ b. b.bits ≡ bits) }
-    ensures offset { IfOk result (λ b. b.offset ≡ 0) }
-{
-    let bits = bits.freeze()?;
-    bits.and_zero_padded(alloc, &bits)
 }

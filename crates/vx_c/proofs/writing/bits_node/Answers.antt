@@ -1,6 +1,6 @@
 use Rattle.std.proofs.Common.{◌∙◌, ◌++◌, ℕ, List, false, length, replicate, refl, sym, ap}
 use Rattle.vx_base.specs.Bits.{PackedBits, unpacked}
-use Rattle.vx_c.specs.TablesOf.{bits_bytes}
+use Rattle.vx_pack.specs.BitBytes.{bits_bytes}
 use Rattle.vx_c.proofs.WrittenLayouts.{bits_node}
 use Rattle.vx_c.proofs.writing.bits_node.Goals as goal
 

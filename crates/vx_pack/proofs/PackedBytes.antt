@@ -1,4 +1,4 @@
--- Booleans that are packed eight to a byte, as a table has them.
+-- Booleans that are packed eight to a byte.
 use Rattle.std.proofs.Common.{ℕ, zero, suc, ◌+◌, ◌-◌, ◌*◌, ◌/◌, ◌%◌, ◌^◌, ◌<◌, ◌≤◌, ◌≡◌, Bool, true, false, cond, eqb, List, ◌++◌, length, replicate, take, drop, get_or, refl, sym, ◌∙◌, ap, zero-add, inl, inr, arith, length-append}
 use Rattle.std.specs.Int.{bit_at}
 use Rattle.std.proofs.lemmas.List.{get_or-take, get_or-drop, get_or-append_right, get_or_append_left, get_or_past, get_or_default, get_or-replicate, length-replicate, length-take, same_lists, ext_get_or}
@@ -10,7 +10,7 @@ use Rattle.std.proofs.Math.Pow.{pow_mono}
 use lib.Lanes.{mask_l}
 use Rattle.vx_base.specs.Bits.{bit_of, unpacked, bool_at, byte_of}
 use Rattle.vx_base.proofs.PackedBits.{length_unpacked, get_unpacked}
-use Rattle.vx_c.specs.TablesOf.{bits_bytes}
+use Rattle.vx_pack.specs.BitBytes.{bits_bytes}
 
 -- the eight booleans of a byte, or fewer
 abbrev eight : List Bool → ℕ → List Bool
@@ -113,3 +113,24 @@ bytes_of_bits bs cs b n long small before within after =
 -- a bit of the first bytes
 pub bit_of-cut : (bs : List ℕ) (n k : ℕ) → k / 8 < n → bit_of (take n bs) k ≡ bit_of bs k
 bit_of-cut bs n k inside = ap (λ (b : ℕ). eqb (bit_at b (k % 8)) 1) (get_or-take n bs (k / 8) 0 inside)
+
+-- ---- the bytes of bits that begin with a byte
+
+-- they hold these bits
+pub exact_bits : (bs cs : List ℕ) (first n : ℕ) → first ≡ 0 → cs ≡ bits_bytes (replicate first false ++ unpacked bs first n)
+    → unpacked cs 0 n ≡ unpacked bs first n
+exact_bits bs cs zero n none is =
+    let bits = unpacked bs 0 n in
+    ap (λ (xs : List ℕ). unpacked xs 0 n) is ∙ ap (λ m. unpacked (bits_bytes bits) 0 m) (sym (length_unpacked bs 0 n)) ∙ unpacked-begun 0 bits
+exact_bits bs cs (suc k) n none is = absurd (omega (arith, none))
+
+-- and no others
+pub exact_bytes : (bs cs : List ℕ) (first n : ℕ) → first ≡ 0 → cs ≡ bits_bytes (replicate first false ++ unpacked bs first n)
+    → cs ≡ bits_bytes (unpacked cs 0 n)
+exact_bytes bs cs zero n none is = is ∙ ap bits_bytes (sym (exact_bits bs cs zero n none is))
+exact_bytes bs cs (suc k) n none is = absurd (omega (arith, none))
+
+-- there are as many as they need
+pub exact_len : (bs cs : List ℕ) (first n : ℕ) → first ≡ 0 → cs ≡ bits_bytes (replicate first false ++ unpacked bs first n) → n ≤ 8 * length cs
+exact_len bs cs first n none is =
+    omega (arith, ap length is ∙ length-begun first (unpacked bs first n), length_unpacked bs first n)

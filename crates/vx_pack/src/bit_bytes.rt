@@ -1,17 +1,18 @@
-// Bits as a table has them: no other bit of their bytes is set.
+// Bits in bytes of their own, in which no other bit is set.
 
 ghost use Rattle.std.specs.Prelude.{ℕ, ◌≡◌, ◌≤◌, ◌<◌, ◌+◌, ◌*◌, ◌^◌, ◌++◌, false, length, replicate};
 ghost use Rattle.vx_base.specs.Bits.{bit_of, unpacked};
 ghost use Rattle.vx_base.specs.Bytes.{AreBytes};
 ghost use Rattle.vx_base.specs.Refusals.{Gives};
-ghost use Rattle.vx_c.specs.TablesOf.{bits_bytes};
+ghost use Rattle.vx_pack.specs.BitBytes.{bits_bytes};
 
 use std::alloc::Global;
 use vx_base::VortexError;
 
-// The bytes of `count` bits of these, from bit `first` of the first byte on: as many as they need,
-// and no bit is set before them or after them. Fails only for want of memory.
-pub(crate) fn bits_bytes(
+/// The bytes of `count` bits of these, from bit `first` of the first byte on: as many as they need,
+/// and no bit is set before them or after them. Asks that `first` is below 8, and that there are
+/// so many bits. Fails only for want of memory. For the crates above.
+pub fn bits_bytes(
     alloc: Global,
     bytes: &[u8],
     first: usize,

@@ -1,9 +1,9 @@
 use Rattle.std.proofs.Common.{◌≡◌, ◌+◌, ◌/◌, ◌++◌, ◌<◌, ◌≤◌, ℕ, List, false, length, take, drop, sym, ◌∙◌, ap, arith}
 use Rattle.std.proofs.lemmas.List.{length-take-le}
 use Rattle.vx_base.specs.Bits.{bit_of}
-use Rattle.vx_c.proofs.PackedBytes.{bytes_of_bits, bit_of-cut}
-use Rattle.vx_c.proofs.MaskedBits.{all_written}
-use Rattle.vx_c.proofs.table_bits.bits_bytes.Goals as goal
+use Rattle.vx_pack.proofs.PackedBytes.{bytes_of_bits, bit_of-cut}
+use Rattle.vx_pack.proofs.MaskedBits.{all_written}
+use Rattle.vx_pack.proofs.bit_bytes.bits_bytes.Goals as goal
 
 pub returns : goal.returns
 returns c =
