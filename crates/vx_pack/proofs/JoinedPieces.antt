@@ -30,7 +30,7 @@ use Rattle.vx_pack.specs.Pieces.{AreAllItems, AreElements, AreJoined, AreListPie
 pub AreJoined-nil : (item : Kind) → AreJoined item [] []
 AreJoined-nil item = record { each = All-nil (IsPiece item); rows = refl }
 
-AreJoined-append : (item : Kind) (rs ss : List Row) (ps qs : List Piece) → AreJoined item rs ps → AreJoined item ss qs
+pub AreJoined-append : (item : Kind) (rs ss : List Row) (ps qs : List Piece) → AreJoined item rs ps → AreJoined item ss qs
     → AreJoined item (rs ++ ss) (ps ++ qs)
 AreJoined-append item rs ss ps qs first second = record {
   each = All-append (IsPiece item) ps qs first.each second.each;

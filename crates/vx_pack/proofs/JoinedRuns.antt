@@ -26,7 +26,7 @@ items_of_list : (item : Kind) (b c : ℕ) (r : Row) → is_list r ≡ true → i
 items_of_list item b c (items rs) l = refl
 items_of_list item b c _ l = absurd (cc)
 
-all_items_of_lists : (item : Kind) (b c : ℕ) (rs : List Row) → All (λ r. is_list r ≡ true) rs
+pub all_items_of_lists : (item : Kind) (b c : ℕ) (rs : List Row) → All (λ r. is_list r ≡ true) rs
     → flat_map (items_or_blank item b) rs ≡ flat_map (items_or_blank item c) rs
 all_items_of_lists item b c [] h = refl
 all_items_of_lists item b c (r ∷ rs) h =

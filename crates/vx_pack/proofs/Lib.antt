@@ -44,6 +44,7 @@ pub mod ReadCounts
 pub mod NarrowCounts
 pub mod StoredLists
 pub mod JoinedRuns
+pub mod RunPieces
 pub mod SameJoined
 pub mod SameElements
 pub mod ListItems

@@ -1,9 +1,11 @@
 -- Rows that are packed: those of parts, and default rows between them.
-use Rattle.std.specs.Prelude.{◌≡◌, ◌<◌, ◌^◌, ℕ, List, [], ◌∷◌, map, sum}
+use Rattle.std.specs.Prelude.{◌≡◌, ◌<◌, ◌^◌, ℕ, List, [], ◌∷◌, ◌++◌, map, sum}
 use Rattle.std.specs.List.{All, flat_map, range_with_len}
 use Rattle.vx_base.specs.Defaults.{default_row}
 use Rattle.vx_base.specs.Kinds.{Kind, fixed_lists}
 use Rattle.vx_base.specs.Rows.{Row}
+use Rattle.vx_tree.specs.Meaning.{kind_of, row_at}
+use Rattle.vx_tree.specs.Tree.{Tree}
 use Rattle.vx_pack.specs.Packed.{field_or_default, items_or_blank}
 use Rattle.vx_pack.specs.Parts.{IsPart, IsWithin, part_len, part_row}
 use Rattle.vx_pack.specs.declared.parts.Part.{Part}
@@ -63,6 +65,10 @@ pub record AreListPieces (item : Kind) (blank : ℕ) (rs : List Row) (ps : List 
 pub record AreJoined (item : Kind) (rs : List Row) (ps : List Piece) : Type 0 where
   pub each : All (IsPiece item) ps
   pub rows : pieces_rows item ps ≡ rs
+
+-- the rows of an array at positions, as pieces at the end of others
+abbrev pub ArePushedRows : Tree → List ℕ → List Piece → List Piece → Type 0
+ArePushedRows e ks before after = (more : List Piece) × AreJoined (kind_of e) (map (row_at e) ks) more × (after ≡ before ++ more)
 
 -- the rows of all lists of a part, one list after another
 pub record AreAllItems (item : Kind) (size : ℕ) (k : Kind) (p q : Part) : Type 0 where

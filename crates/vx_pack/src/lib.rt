@@ -6,8 +6,8 @@
 //! default rows between them) and `pack_rows`, which packs pieces. The files `packed_*` pack one
 //! kind of column each, `gathered` values that come list by list; `stored_bits`, `stored_numbers`
 //! and `stored_lists` tell what can be read as it lies: `list_runs` gathers the numbers of lists,
-//! and `lists_anywhere` compares lists. `exact_bits` leaves no bit beside those of rows. `laws` are
-//! for callers.
+//! `run_pieces` their rows, and `lists_anywhere` compares lists. `exact_bits` leaves no bit beside
+//! those of rows. `laws` are for callers.
 //!
 //! Two walks go down a data type: `#[cycle(same)]` and `pack`. Three follow codes or layouts:
 //! `place_of` in `places`, `truth` in `truths`, and `one_row`.
@@ -39,6 +39,7 @@ mod pieces;
 mod places;
 mod presence;
 mod rows_equal;
+mod run_pieces;
 mod same_bytes;
 mod same_elements;
 mod same_leaves;

@@ -11,6 +11,7 @@ ghost use Rattle.vx_pack.specs.Pieces.{AreElements, AreJoined, AreListPieces, Ar
 ghost use Rattle.vx_pack.specs.declared.pieces.Piece.{Piece as Pieces};
 
 use crate::pieces::Piece;
+use crate::run_pieces::push_runs;
 use std::alloc::Global;
 use vx_base::{DType, VortexError};
 
@@ -36,7 +37,8 @@ pub(crate) fn fixed_list_pieces<'a>(
 }
 
 // The rows of lists, so many default rows where one is null: one piece for all lists of a piece
-// where they stand end to end, else one a list.
+// where they stand end to end, one for each run where offsets and sizes stand as numbers, else one
+// a list.
 pub(crate) fn joined_pieces<'a>(
     alloc: Global,
     dtype: &DType,
@@ -70,10 +72,13 @@ fn push_joined<'a>(
 {
     match piece.joined_items() {
         Some(items) => lists.push(items)?,
-        None => {
-            lists.reserve(piece.len())?;
-            push_lists(lists, dtype, piece, blank)?;
-        }
+        None => match piece.stored_lists() {
+            Some(stored) => push_runs(lists, stored)?,
+            None => {
+                lists.reserve(piece.len())?;
+                push_lists(lists, dtype, piece, blank)?;
+            }
+        },
     }
     Ok(())
 }

@@ -7,12 +7,13 @@ ghost use Rattle.vx_base.specs.Integers.{Holds};
 ghost use Rattle.vx_base.specs.Kinds.{Kind, integers, is_nullable_kind, records};
 ghost use Rattle.vx_base.specs.Refusals.{Gives};
 ghost use Rattle.vx_base.specs.Rows.{is_present, truth_of};
+ghost use Rattle.vx_tree.specs.Meaning.{tree_len};
 ghost use Rattle.vx_tree.specs.Values.{bytes_in};
 ghost use Rattle.vx_pack.specs.Lists.{IsItemOf};
 ghost use Rattle.vx_pack.specs.Packed.{bytes_of_numbers, has_bytes, items_or_blank, number_or_zero};
 ghost use Rattle.vx_pack.specs.Pieces.{AreJoined, IsFieldPiece, IsListPiece, IsPiece, IsWithinPiece, blank_of, piece_len, piece_row, piece_rows};
 ghost use Rattle.vx_pack.specs.Records.{kind_at};
-ghost use Rattle.vx_pack.specs.StoredLists.{AreStoredLists};
+ghost use Rattle.vx_pack.specs.StoredLists.{AreListBytes, AreStoredLists};
 ghost use Rattle.vx_pack.specs.StoredNumbers.{AreStoredNumbers};
 
 use crate::parts::Part;
@@ -151,7 +152,9 @@ impl<'a> Piece<'a> {
     // The lists that the rows are, where offsets and sizes stand as numbers and no row is null.
     pub fn stored_lists(self) -> Option<StoredLists<'a>>
         requires { IsWithinPiece self }
-        ensures { IfSome result (λ s. (item k : Kind) → IsItemOf item k → IsPiece k self.entry →
+        ensures bytes { IfSome result (λ s. AreListBytes s.offset_type s.offsets.now s.size_type s.sizes.now
+            (tree_len s.elements.now)) }
+        ensures lists { IfSome result (λ s. (item k : Kind) → IsItemOf item k → IsPiece k self.entry →
             AreStoredLists item (piece_rows k self.entry) s) }
     {
         match self {

@@ -1,7 +1,7 @@
-// Lists of lists that stand end to end, and such as do not.
+// Lists of lists and of records that stand end to end, in runs, and such as do not.
 
 use super::expect_packed;
-use crate::layouts::{counts, lists_at};
+use crate::layouts::{counts, lists_at, records};
 use std::process::Abort;
 use vx_tree::ArrayRef;
 
@@ -48,5 +48,39 @@ fn lists_of_lists_that_overlap(rt: HostRuntime) {
          (numbers i32 3 plain 00000000 01000000 03000000) \
          (numbers i32 3 plain 01000000 02000000 02000000)) \
          (numbers i32 2 plain 00000000 02000000) (numbers i32 2 plain 02000000 01000000)",
+    );
+}
+
+// Lists of the records `{a:10,b:20}` to `{a:19,b:29}`.
+fn lists_of_ten(rt: &(impl Abort + AllocGlobal), offsets: &[u8], sizes: &[u8]) -> ArrayRef {
+    let first = counts(rt, &[10, 11, 12, 13, 14, 15, 16, 17, 18, 19]);
+    let second = counts(rt, &[20, 21, 22, 23, 24, 25, 26, 27, 28, 29]);
+    lists_at(rt, records(rt, &["a", "b"], first, second), offsets, sizes)
+}
+
+#[test]
+fn lists_of_records_in_runs(rt: HostRuntime) {
+    // Those of records 1 to 3, 6 to 8, 0 and 0: lists without items begin anywhere.
+    let offsets = [7, 1, 9, 3, 6, 0, 8, 0, 0, 5];
+    let sizes = [0, 2, 0, 1, 2, 0, 1, 1, 1, 0];
+    expect_packed(
+        &rt,
+        lists_of_ten(&rt, &offsets, &sizes),
+        "lists [{a:u8,b:u8}] 10 plain true (records {a:u8,b:u8} 8 plain .a .b \
+         (numbers u8 8 plain 0b 0c 0d 10 11 12 0a 0a) \
+         (numbers u8 8 plain 15 16 17 1a 1b 1c 14 14)) \
+         (numbers i32 10 plain 00000000 00000000 02000000 02000000 03000000 \
+         05000000 05000000 06000000 07000000 08000000) \
+         (numbers i32 10 plain 00000000 02000000 00000000 01000000 02000000 \
+         00000000 01000000 01000000 01000000 00000000)",
+    );
+    // No list has items.
+    expect_packed(
+        &rt,
+        lists_of_ten(&rt, &[3, 1, 2], &[0, 0, 0]),
+        "lists [{a:u8,b:u8}] 3 plain true (records {a:u8,b:u8} 0 plain .a .b \
+         (numbers u8 0 plain) (numbers u8 0 plain)) \
+         (numbers i32 3 plain 00000000 00000000 00000000) \
+         (numbers i32 3 plain 00000000 00000000 00000000)",
     );
 }

@@ -10,12 +10,12 @@ use Rattle.vx_pack.proofs.list_counts.push_counts.Goals as goal
 pub push_stored_counts-requires-clause-sizes : goal.push_stored_counts-requires-clause-sizes
 push_stored_counts-requires-clause-sizes c =
     let k = dtype_meaning c.args.dtype.now in
-    (c.in-Some.ensures (item_of k) k (items_of_lists k c.requires.lists) c.requires.piece).lists.sizes
+    (c.in-Some.ensures.lists (item_of k) k (items_of_lists k c.requires.lists) c.requires.piece).lists.sizes
 
 pub push_stored_counts-requires-clause-room : goal.push_stored_counts-requires-clause-room
 push_stored_counts-requires-clause-room c =
     let k = dtype_meaning c.args.dtype.now in
-    let stored = c.in-Some.ensures (item_of k) k (items_of_lists k c.requires.lists) c.requires.piece in (
+    let stored = c.in-Some.ensures.lists (item_of k) k (items_of_lists k c.requires.lists) c.requires.piece in (
       c.requires.room.0,
       c.requires.room.1,
       omega (arith, c.requires.room.2, ap sum stored.sizes, sum-list_sizes (item_of k) (piece_rows k c.args.piece)),
@@ -24,7 +24,7 @@ push_stored_counts-requires-clause-room c =
 pub returns-in-Some : goal.returns-in-Some
 returns-in-Some c =
     let k = dtype_meaning c.args.dtype.now in
-    let stored = c.in-Some.ensures (item_of k) k (items_of_lists k c.requires.lists) c.requires.piece in
+    let stored = c.in-Some.ensures.lists (item_of k) k (items_of_lists k c.requires.lists) c.requires.piece in
     MatchResult-weaker c.push_stored_counts.result c.push_stored_counts.ensures
     (λ u told ns h.
     subst (λ xs. AreListCounts c.args.counts.now.total (ns ++ xs) c.push_stored_counts.new.counts) stored.sizes (told ns h))

@@ -11,14 +11,14 @@ use Rattle.vx_pack.proofs.list_counts.total_with.Goals as goal
 pub total_with_counts-requires-clause-counts : goal.total_with_counts-requires-clause-counts
 total_with_counts-requires-clause-counts c =
     let k = dtype_meaning c.args.dtype.now in
-    (c.in-Some.ensures (item_of k) k (items_of_lists k c.requires.lists) c.requires.piece).lists.sizes
+    (c.in-Some.ensures.lists (item_of k) k (items_of_lists k c.requires.lists) c.requires.piece).lists.sizes
 
 pub returns-in-Some : goal.returns-in-Some
 returns-in-Some c =
     let k = dtype_meaning c.args.dtype.now in
     let p = c.args.piece in
     let s = c.in-Some.lists in
-    let stored = c.in-Some.ensures (item_of k) k (items_of_lists k c.requires.lists) c.requires.piece in
+    let stored = c.in-Some.ensures.lists (item_of k) k (items_of_lists k c.requires.lists) c.requires.piece in
     let count : sum (counts_of s.size_type s.sizes.now) ≡ length (list_items k (piece_rows k p)) =
     ap sum stored.sizes ∙ sum-list_sizes (item_of k) (piece_rows k p) in
     MatchResult-weaker c.total_with_counts.result c.total_with_counts.ensures

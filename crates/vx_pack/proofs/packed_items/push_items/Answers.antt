@@ -20,13 +20,13 @@ pub plain_numbers-requires : goal.plain_numbers-requires
 plain_numbers-requires c =
     let k = dtype_meaning c.args.dtype.now in
     let item = dtype_meaning c.args.items.now in
-    (c.in-Some.ensures item k (lists_items k item c.requires.lists.0 c.requires.lists.1) c.requires.piece).kind
+    (c.in-Some.ensures.lists item k (lists_items k item c.requires.lists.0 c.requires.lists.1) c.requires.piece).kind
 
 pub push_list_numbers-requires-clause-rows : goal.push_list_numbers-requires-clause-rows
 push_list_numbers-requires-clause-rows c =
     let k = dtype_meaning c.args.dtype.now in
     let item = dtype_meaning c.args.items.now in
-    let stored = c.in-Some.ensures item k (lists_items k item c.requires.lists.0 c.requires.lists.1) c.requires.piece in
+    let stored = c.in-Some.ensures.lists item k (lists_items k item c.requires.lists.0 c.requires.lists.1) c.requires.piece in
     let rows = piece_rows k c.args.piece in (
       c.requires.rows.0,
       c.requires.rows.1,
@@ -46,7 +46,7 @@ push_list_numbers-requires-clause-lists c =
     let item = dtype_meaning c.args.items.now in
     let s = c.in-Some.lists in
     let t = c.in-Some-plain_numbers.ptype in
-    let stored = c.in-Some.ensures item k (lists_items k item c.requires.lists.0 c.requires.lists.1) c.requires.piece in
+    let stored = c.in-Some.ensures.lists item k (lists_items k item c.requires.lists.0 c.requires.lists.1) c.requires.piece in
     let elements = c.in-Some-plain_numbers.ensures.1 in
     subst (AreListBytes s.offset_type s.offsets.now s.size_type s.sizes.now)
     (sym (ap (λ n. n / byte_width t) elements.len ∙ whole_numbers t _)) stored.lists
@@ -58,7 +58,7 @@ returns-in-Some-plain_numbers c =
     let s = c.in-Some.lists in
     let t = c.in-Some-plain_numbers.ptype in
     let bs = c.in-Some-plain_numbers.elements.now in
-    let stored = c.in-Some.ensures item k (lists_items k item c.requires.lists.0 c.requires.lists.1) c.requires.piece in
+    let stored = c.in-Some.ensures.lists item k (lists_items k item c.requires.lists.0 c.requires.lists.1) c.requires.piece in
     let elements = c.in-Some-plain_numbers.ensures.1 in
     let rows = piece_rows k c.args.piece in
     let items : list_items k rows ≡ flat_map (items_or_blank item 0) rows =
