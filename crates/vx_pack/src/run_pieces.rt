@@ -65,6 +65,7 @@ fn typed_run_count<O: NativePType, S: NativePType>(offsets: &[u8], sizes: &[u8])
     ensures { result ≤ length (numbers S.PTYPE sizes.now) }
 {
     let mut runs = 0;
+    // No list that has items begins there.
     let mut end = usize::MAX;
     for i in 0..number_count(sizes, S::PTYPE) {
         let offset = count_of_bytes::<O>(offsets, i);
