@@ -1,5 +1,5 @@
 -- Packed arrays, as a run writes them.
-use Rattle.std.proofs.Common.{◌≡◌, List, map, sym, ◌∙◌, ap, subst}
+use Rattle.std.proofs.Common.{◌≡◌, List, map, ◌∙◌, ap, subst}
 use Rattle.std.specs.Prelude.{Ok}
 use Rattle.vx_base.specs.Kinds.{Kind}
 use Rattle.vx_base.specs.Rows.{Row}

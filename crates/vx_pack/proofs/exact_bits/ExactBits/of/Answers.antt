@@ -1,4 +1,4 @@
-use Rattle.std.proofs.Common.{◌≡◌, ◌∙◌, ◌+◌, ◌<◌, ◌^◌, List, ℕ, ap, sym, arith}
+use Rattle.std.proofs.Common.{◌≡◌, ◌∙◌, List, ℕ, ap, sym, arith}
 use Rattle.vx_base.specs.Bits.{unpacked}
 use Rattle.vx_pack.proofs.PackedBytes.{exact_bits, exact_bytes, exact_len}
 use Rattle.vx_pack.proofs.exact_bits.ExactBits.of.Goals as goal
