@@ -1,13 +1,12 @@
 // Lists of steps on records.
 
-use crate::step_arrays::{
-    has_numbers, has_record, ints, list_of, names, one_of_two_records, taken,
-};
+use crate::step_arrays::{has_record, names, one_of_two_records, taken};
 use std::alloc::Global;
 use std::test::Fail;
 use vx_base::{FieldName, VortexError};
 use vx_run::{Step, run};
 use vx_structs::{StructArray, StructArrayExt};
+use vx_test_help::{has_numbers_or_nulls, ints, one_column};
 use vx_tree::{ArrayRef, TypedArray};
 
 // More levels than the stack of `rt try` has room for, where each is let go by the one above it.
@@ -90,7 +89,7 @@ fn null_records_become_records_of_nulls(rt: HostRuntime) {
     };
     let kept = taken(alloc, keep).expect(&rt, "made");
     assert!(rt; has_record(alloc, &kept, 1, None).expect(&rt, "made"));
-    assert!(rt; has_numbers(&column_a(alloc, kept).expect(&rt, "made"), &[Some(1), None]));
+    assert!(rt; has_numbers_or_nulls(&column_a(alloc, kept).expect(&rt, "made"), &[Some(1), None]));
 }
 
 #[test]
@@ -115,7 +114,7 @@ fn steps_on_records_are_refused(rt: HostRuntime) {
 fn positions_come_before_layouts(rt: HostRuntime) -> Result<(), Fail> {
     let alloc = rt.alloc();
     for (array, index) in [(7usize, 7usize), (0, 9)] {
-        let numbers = list_of(alloc, ints(alloc, &[5u8])?)?;
+        let numbers = one_column(alloc, ints(alloc, &[5u8])?)?;
         let Err(fault) = run(alloc, numbers, &[with_b(alloc, array, 9)?]) else {
             assert!(rt; false);
             return Ok(());
@@ -128,7 +127,7 @@ fn positions_come_before_layouts(rt: HostRuntime) -> Result<(), Fail> {
 #[test]
 fn refused_step_gives_the_records_back(rt: HostRuntime) -> Result<(), Fail> {
     let alloc = rt.alloc();
-    let mut arrays = list_of(alloc, one_of_two_records(alloc)?)?;
+    let mut arrays = one_column(alloc, one_of_two_records(alloc)?)?;
     arrays.push(ints(alloc, &[8i32, 9])?)?;
     let steps = [with_b(alloc, 0, 1)?, without(alloc, 2, "z")?];
     let Err(fault) = run(alloc, arrays, &steps) else {
@@ -138,7 +137,7 @@ fn refused_step_gives_the_records_back(rt: HostRuntime) -> Result<(), Fail> {
     assert_eq!(rt; fault.step, 1);
     assert_eq!(rt; fault.error, VortexError::UnknownField);
     assert_eq!(rt; fault.arrays.len(), 3);
-    assert!(rt; has_numbers(&fault.arrays[1], &[Some(8), Some(9)]));
+    assert!(rt; has_numbers_or_nulls(&fault.arrays[1], &[Some(8), Some(9)]));
     let wanted = [("a", Some(1)), ("b", Some(8))];
     assert!(rt; has_record(alloc, &fault.arrays[2], 0, Some(&wanted))?);
     assert!(rt; has_record(alloc, &fault.arrays[0], 0, Some(&[("a", Some(1))]))?);
@@ -153,7 +152,11 @@ fn records_that_are_nested_deeply_are_let_go(rt: HostRuntime) -> Result<(), Fail
         steps.push(with_b(alloc, 0, column)?)?;
     }
     steps.push(without(alloc, 0, "z")?)?;
-    let Err(fault) = run(alloc, list_of(alloc, one_of_two_records(alloc)?)?, &steps) else {
+    let Err(fault) = run(
+        alloc,
+        one_column(alloc, one_of_two_records(alloc)?)?,
+        &steps,
+    ) else {
         assert!(rt; false);
         return Ok(());
     };

@@ -1,24 +1,12 @@
 // Arrays that lists of steps are taken on, and what is asked of the results.
 
 use std::alloc::Global;
-use vx_base::{BitBuffer, FieldName, FieldNames, NativePType, VortexError};
-use vx_leaves::{BoolArray, PrimitiveArray};
+use vx_base::{FieldName, FieldNames, VortexError};
 use vx_lists::{ListViewArray, ListViewArrayExt};
 use vx_run::{Step, run};
 use vx_structs::{StructArray, StructArrayExt};
+use vx_test_help::{bools, has_numbers_or_nulls, ints, one_column};
 use vx_tree::{ArrayRef, TypedArray, Validity};
-
-// Numbers, none of them null.
-pub(crate) fn ints<T: NativePType>(alloc: Global, items: &[T]) -> Result<ArrayRef, VortexError> {
-    let items = items.iter().copied();
-    Ok(PrimitiveArray::from_iter(alloc, items)?.into_array())
-}
-
-// Truth values, none of them null.
-pub(crate) fn bools(alloc: Global, items: &[bool]) -> Result<ArrayRef, VortexError> {
-    let bits = BitBuffer::from_bools(alloc, items)?;
-    Ok(BoolArray::from_bit_buffer(alloc, bits)?.into_array())
-}
 
 // The lists [1, 2, 3] and [2, 3], over elements that they share.
 pub(crate) fn shared_lists(alloc: Global) -> Result<ArrayRef, VortexError> {
@@ -31,24 +19,17 @@ pub(crate) fn shared_lists(alloc: Global) -> Result<ArrayRef, VortexError> {
 
 // The record {a:1}, and a null one that has 2 in the column.
 pub(crate) fn one_of_two_records(alloc: Global) -> Result<ArrayRef, VortexError> {
-    let column = list_of(alloc, ints(alloc, &[1u8, 2])?)?;
+    let column = one_column(alloc, ints(alloc, &[1u8, 2])?)?;
     let validity = Validity::Array(bools(alloc, &[true, false])?);
     let names = FieldNames::try_new(alloc, &["a"])?;
     let records = StructArray::try_new(alloc, names, column.into_iter(), 2, validity)?;
     Ok(records.into_array())
 }
 
-// A list of one array.
-pub(crate) fn list_of(alloc: Global, array: ArrayRef) -> Result<Vec<ArrayRef>, VortexError> {
-    let mut arrays = Vec::new(alloc);
-    arrays.push(array)?;
-    Ok(arrays)
-}
-
 // One array of each kind: the numbers 5, 6, 7 as array 0, the truth values true, false, true as
 // array 1, two lists as array 2, two records as array 3 and the indices 1, 0 as array 4.
 pub(crate) fn of_each_kind(alloc: Global) -> Result<Vec<ArrayRef>, VortexError> {
-    let mut arrays = list_of(alloc, ints(alloc, &[5i32, 6, 7])?)?;
+    let mut arrays = one_column(alloc, ints(alloc, &[5i32, 6, 7])?)?;
     arrays.push(bools(alloc, &[true, false, true])?)?;
     arrays.push(shared_lists(alloc)?)?;
     arrays.push(one_of_two_records(alloc)?)?;
@@ -70,19 +51,6 @@ pub(crate) fn names(alloc: Global, texts: &[&str]) -> Result<Vec<FieldName>, Vor
     Ok(names)
 }
 
-// Whether these are the numbers of an array, `None` where null.
-pub(crate) fn has_numbers(array: &ArrayRef, wanted: &[Option<i128>]) -> bool {
-    if !array.dtype().is_int() || array.len() != wanted.len() {
-        return false;
-    }
-    for (i, number) in wanted.iter().enumerate() {
-        if array.int_at(i) != *number {
-            return false;
-        }
-    }
-    true
-}
-
 // Whether an array is one list of these numbers.
 pub(crate) fn is_one_list(
     alloc: Global,
@@ -96,7 +64,7 @@ pub(crate) fn is_one_list(
         return Ok(false);
     }
     let elements = lists.list_elements_at(alloc, 0)?;
-    Ok(has_numbers(&elements, wanted))
+    Ok(has_numbers_or_nulls(&elements, wanted))
 }
 
 // Whether a row of records is null, for `None`, or has these fields of numbers in this order.

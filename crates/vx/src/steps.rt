@@ -1,14 +1,14 @@
 // Lists of steps on arrays.
 
 use crate::step_arrays::{
-    bools, has_numbers, has_record, ints, is_one_list, list_of, names, of_each_kind, positions,
-    shared_lists, taken,
+    has_record, is_one_list, names, of_each_kind, positions, shared_lists, taken,
 };
 use std::alloc::Global;
 use std::test::Fail;
 use vx_base::{DType, FieldName, PType, VortexError};
 use vx_lists::{ListViewArray, ListViewRebuildMode};
 use vx_run::{Step, run};
+use vx_test_help::{bools, has_numbers_or_nulls, ints, one_column};
 use vx_tree::{ArrayRef, TypedArray};
 
 // Whether an array has these numbers after one step on two arrays, of which it comes last.
@@ -19,10 +19,10 @@ fn makes(
     step: Step,
     wanted: &[Option<i128>],
 ) -> Result<bool, VortexError> {
-    let mut arrays = list_of(alloc, first)?;
+    let mut arrays = one_column(alloc, first)?;
     arrays.push(second)?;
     match run(alloc, arrays, &[step]) {
-        Ok(results) => Ok(results.len() == 3 && has_numbers(&results[2], wanted)),
+        Ok(results) => Ok(results.len() == 3 && has_numbers_or_nulls(&results[2], wanted)),
         Err(fault) => Err(fault.error),
     }
 }
@@ -42,7 +42,7 @@ fn refused_step_gives_the_arrays_back(rt: HostRuntime) -> Result<(), Fail> {
         },
         Step::Narrow { array: 0 },
     ];
-    let Err(fault) = run(alloc, list_of(alloc, shared_lists(alloc)?)?, &steps) else {
+    let Err(fault) = run(alloc, one_column(alloc, shared_lists(alloc)?)?, &steps) else {
         assert!(rt; false);
         return Ok(());
     };
@@ -59,12 +59,12 @@ fn refused_step_gives_the_arrays_back(rt: HostRuntime) -> Result<(), Fail> {
 #[test]
 fn no_steps_leave_the_arrays(rt: HostRuntime) -> Result<(), Fail> {
     let alloc = rt.alloc();
-    let Ok(results) = run(alloc, list_of(alloc, ints(alloc, &[7u8, 8])?)?, &[]) else {
+    let Ok(results) = run(alloc, one_column(alloc, ints(alloc, &[7u8, 8])?)?, &[]) else {
         assert!(rt; false);
         return Ok(());
     };
     assert_eq!(rt; results.len(), 1);
-    assert!(rt; has_numbers(&results[0], &[Some(7), Some(8)]));
+    assert!(rt; has_numbers_or_nulls(&results[0], &[Some(7), Some(8)]));
     Ok(())
 }
 
@@ -76,7 +76,7 @@ fn position_without_an_array_is_refused(rt: HostRuntime) -> Result<(), Fail> {
         start: 0,
         end: 0,
     };
-    let Err(fault) = run(alloc, list_of(alloc, ints(alloc, &[7u8, 8])?)?, &[step]) else {
+    let Err(fault) = run(alloc, one_column(alloc, ints(alloc, &[7u8, 8])?)?, &[step]) else {
         assert!(rt; false);
         return Ok(());
     };
@@ -110,8 +110,10 @@ fn a_step_by_itself(rt: HostRuntime) -> Result<(), Fail> {
         indices: 4,
     };
     let made = step.apply(alloc, &arrays)?;
-    assert!(rt; has_numbers(&made, &[Some(6), Some(5)]));
-    assert!(rt; arrays.len() == 5 && has_numbers(&arrays[0], &[Some(5), Some(6), Some(7)]));
+    assert!(rt; has_numbers_or_nulls(&made, &[Some(6), Some(5)]));
+    assert!(rt;
+        arrays.len() == 5 && has_numbers_or_nulls(&arrays[0], &[Some(5), Some(6), Some(7)])
+    );
     let refused = Step::Narrow { array: 2 }.apply(alloc, &arrays);
     assert!(rt; matches!(refused, Err(VortexError::MismatchedTypes)));
     let missing = Step::Canonical { array: 5 }.apply(alloc, &arrays);
@@ -160,7 +162,7 @@ fn steps_keep_rows(rt: HostRuntime) {
 fn mask_of_numbers_is_refused(rt: HostRuntime) -> Result<(), Fail> {
     let alloc = rt.alloc();
     let step = Step::Filter { array: 0, mask: 0 };
-    let Err(fault) = run(alloc, list_of(alloc, ints(alloc, &[7u8, 8])?)?, &[step]) else {
+    let Err(fault) = run(alloc, one_column(alloc, ints(alloc, &[7u8, 8])?)?, &[step]) else {
         assert!(rt; false);
         return Ok(());
     };
@@ -284,13 +286,13 @@ fn array_steps(alloc: Global) -> Result<Vec<Step>, VortexError> {
 // Whether the results of the first seven steps have the numbers that they should have.
 fn are_array_results(results: &[ArrayRef]) -> bool {
     results.len() > 11
-        && has_numbers(&results[5], &[Some(6), Some(7)])
-        && has_numbers(&results[6], &[Some(7), Some(6)])
-        && has_numbers(&results[7], &[Some(5), Some(7)])
-        && has_numbers(&results[8], &[Some(5), Some(7), Some(7), Some(6)])
-        && has_numbers(&results[9], &[Some(5), None, Some(7)])
-        && has_numbers(&results[10], &[Some(5), None, Some(7)])
-        && has_numbers(&results[11], &[Some(5), None, Some(7)])
+        && has_numbers_or_nulls(&results[5], &[Some(6), Some(7)])
+        && has_numbers_or_nulls(&results[6], &[Some(7), Some(6)])
+        && has_numbers_or_nulls(&results[7], &[Some(5), Some(7)])
+        && has_numbers_or_nulls(&results[8], &[Some(5), Some(7), Some(7), Some(6)])
+        && has_numbers_or_nulls(&results[9], &[Some(5), None, Some(7)])
+        && has_numbers_or_nulls(&results[10], &[Some(5), None, Some(7)])
+        && has_numbers_or_nulls(&results[11], &[Some(5), None, Some(7)])
 }
 
 #[test]
@@ -310,7 +312,7 @@ fn a_list_of_twelve_steps_of_all_kinds(rt: HostRuntime) -> Result<(), Fail> {
         return Ok(());
     };
     let elements = [Some(1), Some(2), Some(3), Some(2), Some(3)];
-    assert!(rt; has_numbers(lists.elements(), &elements));
+    assert!(rt; has_numbers_or_nulls(lists.elements(), &elements));
     let wide = [("a", Some(1)), ("b", Some(7))];
     assert!(rt; has_record(alloc, &results[13], 0, Some(&wide))?);
     assert!(rt; has_record(alloc, &results[13], 1, None)?);

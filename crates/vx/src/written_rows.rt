@@ -1,12 +1,13 @@
 // The first rows of an array, written as text.
 
-use crate::step_arrays::{bools, ints, list_of, one_of_two_records, shared_lists};
+use crate::step_arrays::{one_of_two_records, shared_lists};
 use std::alloc::Global;
 use std::test::Fail;
 use vx_base::{ByteBuffer, DType, Nullability, PType, Scalar, ScalarValue, VortexError};
 use vx_leaves::DictArray;
 use vx_lists::FixedSizeListArray;
 use vx_run::{Step, WriteFault, write_rows};
+use vx_test_help::{bools, ints, one_column};
 use vx_tree::{ArrayRef, TypedArray, Validity};
 
 // Whether the rows of an array are written so, after what was written before.
@@ -24,7 +25,7 @@ fn are_written(
 
 // The numbers 5, null, 7.
 fn numbers(alloc: Global) -> Result<ArrayRef, VortexError> {
-    let mut arrays = list_of(alloc, ints(alloc, &[5i32, 6, 7])?)?;
+    let mut arrays = one_column(alloc, ints(alloc, &[5i32, 6, 7])?)?;
     arrays.push(bools(alloc, &[true, false, true])?)?;
     Step::Mask { array: 0, mask: 1 }.apply(alloc, &arrays)
 }
@@ -110,7 +111,7 @@ fn texts(alloc: Global, len: usize) -> Result<ArrayRef, VortexError> {
 #[test]
 fn texts_are_written(rt: HostRuntime) -> Result<(), Fail> {
     let alloc = rt.alloc();
-    let arrays = list_of(alloc, texts(alloc, 2)?)?;
+    let arrays = one_column(alloc, texts(alloc, 2)?)?;
     let array = Step::Canonical { array: 0 }.apply(alloc, &arrays)?;
     assert!(rt; are_written(alloc, &array, 2, "[x6869,x6869]").expect(&rt, "written"));
     assert!(rt; are_written(alloc, &array, 1, "[x6869,..] of 2").expect(&rt, "written"));
