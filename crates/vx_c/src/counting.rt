@@ -26,7 +26,7 @@ pub(crate) fn left_by_kind(dtype: &DType, nodes: usize) -> Option<usize>
     }
 }
 
-// The same of several data types.
+// How many of so many nodes are left at most by the tables of plain arrays of these data types.
 #[cycle(least)]
 fn left_by_kinds(dtypes: &[DType], nodes: usize) -> Option<usize>
     ensures { SomeIff result (least_counts (kinds_of dtypes.now) ≤ nodes) (nodes - least_counts (kinds_of dtypes.now)) }
@@ -73,7 +73,7 @@ pub(crate) fn left_by_array(array: &ArrayRef, nodes: usize) -> Option<usize>
     }
 }
 
-// The same of columns.
+// How many of so many nodes are left by the tables of columns, where they have no more.
 #[cycle(nodes)]
 fn left_by_columns(columns: &[ArrayRef], nodes: usize) -> Option<usize>
     ensures { SomeIff result (trees_count (trees_from columns.now) ≤ nodes) (nodes - trees_count (trees_from columns.now)) }
@@ -85,7 +85,7 @@ fn left_by_columns(columns: &[ArrayRef], nodes: usize) -> Option<usize>
     Some(left)
 }
 
-// The same of the array of a validity, where it has one.
+// How many of so many nodes are left by the table of the array of a validity, where it has one.
 #[cycle(nodes)]
 fn left_by_validity(validity: &Validity, nodes: usize) -> Option<usize>
     ensures { SomeIff result (valid_count (valid_of validity.now) ≤ nodes) (nodes - valid_count (valid_of validity.now)) }

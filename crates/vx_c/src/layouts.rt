@@ -196,7 +196,7 @@ fn dictionary(
     }
 }
 
-// The same where the node has no validity of its own.
+// The values on top that the codes above them name, where the node has no validity of its own.
 fn named_values(
     alloc: Global,
     _node: &CodraskNode<'_>,

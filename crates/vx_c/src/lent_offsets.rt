@@ -87,8 +87,8 @@ pub(crate) fn are_list_rows<O: NativePType, S: NativePType>(
     true
 }
 
-// The same of lists by offsets: each begins at an offset, less the first one, and has as many
-// elements as the next offset lies past that. The ends have one offset more.
+// Whether each list by offsets lies among `count` elements: it begins at an offset, less the first
+// one, and has as many elements as the next offset lies past that. The ends have one offset more.
 #[inline(never)]
 pub(crate) fn are_lists_between<P: NativePType>(starts: &[u8], ends: &[u8], count: usize) -> bool
     requires { length (numbers P.PTYPE ends.now) ≡ length (numbers P.PTYPE starts.now) + 1 }

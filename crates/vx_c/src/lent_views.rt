@@ -25,7 +25,8 @@ pub(crate) fn are_values(views: &[CodraskView], buffers: &[CodraskBytes<'_>]) ->
     true
 }
 
-// The same, and whether each buffer and each value is a text.
+// Whether each view, also of a null row, can be read and begins as it says, and each buffer and each
+// value is a text.
 pub(crate) fn are_text_views(views: &[CodraskView], buffers: &[CodraskBytes<'_>]) -> bool
     ensures { IsTrue result → (mask : List Bool) → AreSoundViews (map view_bytes views.now) mask (bytes_in buffers.now) true }
 {

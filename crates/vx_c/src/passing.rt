@@ -65,7 +65,7 @@ fn push_node<'a>(node: &CodraskNode<'a>, parts: &mut Vec<Part<'a>>) -> bool
     }
 }
 
-// The same of a node without offsets.
+// Puts what is known of the array of a node without offsets nearest, where it has no fault.
 fn push_plain<'a>(node: &CodraskNode<'a>, parts: &mut Vec<Part<'a>>) -> bool
     ensures { IsTrue result → (ts : List Tree) → AreDescribed (reverse parts.old.items) ts
         → IsDescribed (reverse parts.new.items) (node_made node.now ts) }
@@ -258,7 +258,7 @@ fn are_lists(offsets: &Part<'_>, sizes: &Part<'_>, count: usize, len: usize) -> 
     }
 }
 
-// The same of offsets of a type, where the sizes are numbers of that type.
+// Whether these are such lists, by offsets of a type, where the sizes are numbers of that type.
 fn are_by_type(ptype: PType, offsets: &[u8], sizes: &Part<'_>, count: usize, len: usize) -> bool
     ensures { IsTrue result → (o s : Tree) → HasBytes ptype offsets.now false o → Describes sizes.now s → AreLists count len o s }
 {
@@ -269,8 +269,8 @@ fn are_by_type(ptype: PType, offsets: &[u8], sizes: &Part<'_>, count: usize, len
     }
 }
 
-// The same of offsets of a type, less the first one, where the sizes lie between offsets of that
-// type.
+// Whether these are such lists, by offsets of a type, less the first one, where the sizes lie
+// between offsets of that type.
 fn are_told_by_type(ptype: PType, starts: &[u8], sizes: &Part<'_>, count: usize, len: usize) -> bool
     ensures { IsTrue result → (o s : Tree) → HasNumbers (starts_of (numbers ptype starts.now)) o → Describes sizes.now s → AreLists count len o s }
 {
@@ -281,7 +281,7 @@ fn are_told_by_type(ptype: PType, starts: &[u8], sizes: &Part<'_>, count: usize,
     }
 }
 
-// The same of offsets of one type.
+// Whether these are such lists, by offsets and sizes of one type.
 fn are_views<P: NativePType>(offsets: &[u8], sizes: &Part<'_>, count: usize, len: usize) -> bool
     ensures { IsTrue result → (o s : Tree) → HasBytes P.PTYPE offsets.now false o → Describes sizes.now s → AreLists count len o s }
 {
@@ -297,7 +297,7 @@ fn are_views<P: NativePType>(offsets: &[u8], sizes: &Part<'_>, count: usize, len
     are_plain_lists::<P>(offsets, sizes, count, len)
 }
 
-// The same of offsets of one type.
+// Whether these are such lists, by offsets of one type, less the first one, and sizes between them.
 fn are_between<P: NativePType>(starts: &[u8], sizes: &Part<'_>, count: usize, len: usize) -> bool
     ensures { IsTrue result → (o s : Tree) → HasNumbers (starts_of (numbers P.PTYPE starts.now)) o → Describes sizes.now s → AreLists count len o s }
 {
@@ -357,7 +357,8 @@ fn records_of<'a>(node: &CodraskNode<'a>, parts: &mut Vec<Part<'a>>) -> Option<P
     Some(Part::Rows(node.length))
 }
 
-// The same as `push_node`, of a node whose offsets stand for other nodes.
+// Puts what is known of the array of a node whose offsets stand for other nodes nearest, where it
+// has no fault.
 fn push_told<'a>(kind: OffsetKind, node: &CodraskNode<'a>, parts: &mut Vec<Part<'a>>) -> bool
     ensures told { IsTrue result → (told : CodraskNode) (ts : List Tree) → told_by (Some kind) node.now told
         → AreDescribed (reverse parts.old.items) ts → IsDescribed (reverse parts.new.items) (node_made told ts) }

@@ -84,7 +84,7 @@ fn canonical_dictionary(alloc: Global, array: &ArrayRef) -> Result<ArrayRef, Vor
     Ok(named)
 }
 
-// The same of the codes that are picked.
+// The canonical values, taken by the codes that are picked.
 #[cycle(canonical)]
 #[tactic(auto, using(vx_tree::proofs::Dictionaries::selected))]
 fn canonical_dictionary_at(
@@ -207,7 +207,7 @@ fn canonical_fixed_lists(alloc: Global, array: &ArrayRef) -> Result<ArrayRef, Vo
     Ok(lists)
 }
 
-// The same of the lists that are picked.
+// The lists of one size that are picked, in plain layout: no other elements are made.
 #[cycle(canonical)]
 fn canonical_fixed_lists_at(
     alloc: Global,
@@ -266,7 +266,7 @@ fn canonical_list_view(alloc: Global, array: &ArrayRef) -> Result<ArrayRef, Vort
     Ok(lists)
 }
 
-// The same of the lists that are picked: all elements are kept.
+// The lists that are picked, in plain layout: all elements are kept.
 #[cycle(canonical)]
 #[tactic(auto, using(crate::proofs::CanonicalFaults::integers_countable))]
 fn canonical_list_view_at(
@@ -341,7 +341,7 @@ fn canonical_columns(
     Ok(made)
 }
 
-// The same of the records that are picked.
+// The records that are picked, in plain layout.
 #[cycle(canonical)]
 fn canonical_struct_at(
     alloc: Global,
@@ -373,7 +373,7 @@ fn canonical_struct_at(
     Ok(records)
 }
 
-// The same of each column.
+// The rows that are picked of each column, in plain layout.
 #[cycle(canonical)]
 fn canonical_columns_at(
     alloc: Global,

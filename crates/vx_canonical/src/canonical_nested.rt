@@ -280,7 +280,7 @@ fn add_items(
     }
 }
 
-// The same; a null has so many nulls.
+// The rows of a list are added to these; a null has so many nulls.
 fn add_items_or_nulls(
     alloc: Global,
     value: &Option<ScalarValue>,

@@ -114,7 +114,7 @@ fn plain_view(
     }
 }
 
-// The same of bytes.
+// The view of these bytes, which are added to the buffers where they do not fit.
 fn view_of_bytes(
     alloc: Global,
     bytes: &ByteBuffer,

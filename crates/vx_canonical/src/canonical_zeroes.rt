@@ -132,7 +132,7 @@ pub(crate) fn missing_rows(
     blank_like(alloc, array, len, validity)
 }
 
-// The same, null where null may stand.
+// So many rows in the layout of this, which is plain, made of zeroes, and null where null may stand.
 #[cycle(blank)]
 pub(crate) fn blank_part(
     alloc: Global,
@@ -152,7 +152,7 @@ pub(crate) fn blank_part(
     blank_like(alloc, array, len, validity)
 }
 
-// The same for each column.
+// So many rows in the layout of each column, made of zeroes, and null where null may stand.
 #[cycle(blank)]
 fn blank_columns(
     alloc: Global,
@@ -197,7 +197,7 @@ pub(crate) fn is_countable(dtype: &DType, len: usize) -> bool
     }
 }
 
-// The same of each data type.
+// Whether so many rows of each data type need no more elements than can be counted.
 #[cycle(is_countable)]
 fn are_countable(dtypes: &[DType], len: usize) -> bool
     ensures { fields_overflow (kinds_of dtypes.now) len ≡ (if result then None else Some overflow) }

@@ -104,7 +104,7 @@ pub(crate) fn join_like(
     }
 }
 
-// The same of lists of one size.
+// Plain lists of one size, those of one array after another.
 #[cycle(join)]
 fn join_fixed_like(
     alloc: Global,
@@ -129,7 +129,7 @@ fn join_fixed_like(
     Ok(join_fixed_lists(alloc, joined, *size, arrays, len, validity)?)
 }
 
-// The same of lists.
+// Plain list views, the lists of one array after another.
 #[cycle(join)]
 fn join_lists_like(
     alloc: Global,
@@ -153,7 +153,7 @@ fn join_lists_like(
     Ok(join_list_views(alloc, joined, arrays, len, validity)?)
 }
 
-// The same of records.
+// Plain records, those of one array after another.
 #[cycle(join)]
 fn join_structs_like(
     alloc: Global,

@@ -87,7 +87,7 @@ fn check_records(
     check_fields(alloc, fields.fields(), values)
 }
 
-// The same of fields of these data types.
+// Whether the fields of records, which are of these data types, keep what can be made.
 #[cycle(check_kept)]
 fn check_fields(
     alloc: Global,

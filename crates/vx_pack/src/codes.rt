@@ -37,7 +37,7 @@ pub(crate) fn count_at(counts: &ArrayRef, row: usize) -> usize
     }
 }
 
-// The same in any layout.
+// The count that a row is, in any layout.
 fn count_of_row(counts: &ArrayRef, row: usize) -> usize
     requires counts { IsCounts counts.now }
     requires in_bounds { row < tree_len counts.now }

@@ -26,7 +26,7 @@ pub(crate) fn put_counts(ptype: PType, bytes: &[u8], first: usize, out: &mut [us
     call_native!(ptype, put_typed_counts(bytes, first, out))
 }
 
-// The same of counts of one type.
+// Puts as many of these counts of one type as there is room for, from one on.
 #[inline(never)]
 fn put_typed_counts<T: NativePType>(bytes: &[u8], first: usize, out: &mut [usize])
     requires counts { AreCountBytes T.PTYPE bytes.now }
@@ -47,7 +47,7 @@ pub(crate) fn sum_of_counts(ptype: PType, counts: &[u8]) -> usize
     call_native!(ptype, sum_of_typed(counts))
 }
 
-// The same of counts of one type.
+// All these counts of one type together: asks that they can be counted.
 #[inline(never)]
 fn sum_of_typed<T: NativePType>(counts: &[u8]) -> usize
     requires counts { AreCountBytes T.PTYPE counts.now }
@@ -76,7 +76,7 @@ pub(crate) fn total_with_counts(
     call_native!(ptype, total_with_typed(counts, before, limit))
 }
 
-// The same of counts of one type.
+// So many, and all these counts of one type. Refuses `Overflow` where they are more than the limit.
 #[inline(never)]
 fn total_with_typed<T: NativePType>(
     counts: &[u8],

@@ -91,7 +91,7 @@ fn record_at(array: &ArrayRef, row: usize) -> Option<Records<'_>>
     }
 }
 
-// The same of records whose columns stand beside each other.
+// The record that a row is, where it is one, of records whose columns stand beside each other.
 fn record_of_columns(array: &ArrayRef, row: usize) -> Option<Records<'_>>
     requires layout { is_struct array.now ≡ true }
     requires in_bounds { row < tree_len array.now }

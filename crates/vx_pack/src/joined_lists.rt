@@ -77,7 +77,7 @@ fn joined_run(
     call_native!(offset_type, joined_run_from(offsets, size_type, sizes, len))
 }
 
-// The same by offsets of one type.
+// Where lists begin and end, by offsets of one type, where they stand end to end.
 fn joined_run_from<O: NativePType>(
     offsets: &[u8],
     size_type: PType,
@@ -91,7 +91,8 @@ fn joined_run_from<O: NativePType>(
     call_native!(size_type, joined_typed_run::<O>(offsets, sizes, len))
 }
 
-// The same by offsets of one type and sizes of another.
+// Where lists begin and end, by offsets of one type and sizes of another, where they stand end to
+// end.
 #[inline(never)]
 fn joined_typed_run<O: NativePType, S: NativePType>(
     offsets: &[u8],

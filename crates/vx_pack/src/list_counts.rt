@@ -134,7 +134,7 @@ fn push_counts(counts: &mut ListCounts, dtype: &DType, piece: Piece) -> Result<(
     }
 }
 
-// The same of lists whose sizes stand as bytes of a type.
+// Those of lists whose sizes stand as bytes of a type, at the end of the others.
 fn push_stored_counts(
     counts: &mut ListCounts,
     ptype: PType,
@@ -154,7 +154,7 @@ fn push_stored_counts(
     }
 }
 
-// The same where the type is known, one by one.
+// Those of lists whose sizes are of one type, put at the end one by one.
 #[inline(never)]
 fn push_typed_counts<T: NativePType>(
     counts: &mut ListCounts,
@@ -173,7 +173,8 @@ fn push_typed_counts<T: NativePType>(
     Ok(())
 }
 
-// The same where the narrow type has offsets and sizes: those of a block at a time.
+// Those of lists whose sizes are of one type, where the narrow type has offsets and sizes: a block
+// of lists at a time.
 #[inline(never)]
 fn push_narrow_counts<T: NativePType>(
     counts: &mut ListCounts,
@@ -196,7 +197,7 @@ fn push_narrow_counts<T: NativePType>(
     Ok(())
 }
 
-// The same of so many lists from one on.
+// Those of a block: of so many lists, from one on.
 fn push_block<T: NativePType>(
     counts: &mut ListCounts,
     sizes: &[u8],
@@ -263,7 +264,7 @@ fn narrow_bytes(count: usize) -> [u8; NARROW]
     (count as u32).to_le_bytes()
 }
 
-// The same of a piece, each list looked at by itself.
+// Those of a piece, at the end of the others, each list looked at by itself.
 fn push_each_count(counts: &mut ListCounts, dtype: &DType, piece: Piece) -> Result<(), VortexError>
     requires lists { AreLists (dtype_meaning dtype.now) }
     requires piece { IsPiece (dtype_meaning dtype.now) piece }
@@ -408,7 +409,7 @@ impl<'a> Piece<'a> {
         self.list_or_blank(i, 0).len()
     }
 
-    // The same of each row, where the layout says that all rows are one.
+    // How many items the list has that each row is, where the layout says that all rows are one.
     fn one_len(self) -> Option<usize>
         requires { IsWithinPiece self }
         ensures { IfSome result (λ size. (k : Kind) → AreLists k → IsPiece k self.entry →

@@ -94,7 +94,7 @@ fn put_runs(
     )
 }
 
-// The same by offsets of one type.
+// Puts where lists begin and end, by offsets of one type, and tells how many elements they have.
 fn put_runs_from<O: NativePType>(
     offsets: &[u8],
     size_type: PType,
@@ -112,7 +112,8 @@ fn put_runs_from<O: NativePType>(
     call_native!(size_type, put_typed_runs::<O>(offsets, sizes, first, runs))
 }
 
-// The same by offsets of one type and sizes of another.
+// Puts where lists begin and end, by offsets of one type and sizes of another, and tells how many
+// elements they have.
 #[inline(never)]
 fn put_typed_runs<O: NativePType, S: NativePType>(
     offsets: &[u8],

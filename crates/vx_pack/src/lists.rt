@@ -71,7 +71,7 @@ fn list_at(array: &ArrayRef, row: usize) -> Option<Part<'_>>
     }
 }
 
-// The same in any layout.
+// The rows of the list that a row is, where it is one, in any layout.
 fn list_of_place(array: &ArrayRef, row: usize) -> Option<Part<'_>>
     requires { row < tree_len array.now }
     ensures { (item : Kind) → IsItemOf item (kind_of array.now) →
@@ -87,7 +87,7 @@ fn list_of_place(array: &ArrayRef, row: usize) -> Option<Part<'_>>
     }
 }
 
-// The same of lists of one size.
+// The rows of the list that a row is, where it is one, of lists of one size.
 fn list_of_size(array: &ArrayRef, row: usize) -> Option<Part<'_>>
     requires layout { is_fixed_list array.now ≡ true }
     requires in_bounds { row < tree_len array.now }
@@ -111,7 +111,7 @@ fn list_of_size(array: &ArrayRef, row: usize) -> Option<Part<'_>>
     Some(part_of(elements, row * size, size))
 }
 
-// The same of a list view.
+// The rows of the list that a row is, where it is one, of a list view.
 #[inline(always)]
 fn list_of_view(array: &ArrayRef, row: usize) -> Option<Part<'_>>
     requires layout { is_list_view array.now ≡ true }

@@ -36,7 +36,7 @@ pub(crate) fn same_lists_anywhere(items: &DType, a: &StoredLists, b: &StoredList
     Some(same_blocks(elements, *a, *b))
 }
 
-// The same over these elements.
+// Whether as many lists over these elements are the same, a block at a time.
 fn same_blocks(elements: Elements, a: StoredLists, b: StoredLists) -> bool
     requires readable { AreReadable elements }
     requires first { AreListBytes a.offset_type a.offsets.now a.size_type a.sizes.now (first_len elements) }
@@ -56,7 +56,7 @@ fn same_blocks(elements: Elements, a: StoredLists, b: StoredLists) -> bool
     true
 }
 
-// The same of so many lists from one on.
+// Whether the lists of a block are the same: so many, from one on.
 fn same_block(
     elements: Elements,
     a: StoredLists,
@@ -113,7 +113,7 @@ fn same_lists(
     )
 }
 
-// The same by offsets of one type.
+// Whether the lists of a block are those of the second column from one on, by offsets of one type.
 fn same_lists_from<O: NativePType>(
     elements: Elements,
     block: Block,
@@ -135,7 +135,8 @@ fn same_lists_from<O: NativePType>(
     )
 }
 
-// The same by offsets of one type and sizes of another.
+// Whether the lists of a block are those of the second column from one on, by offsets of one type
+// and sizes of another.
 #[inline(never)]
 fn same_typed_lists<O: NativePType, S: NativePType>(
     elements: Elements,

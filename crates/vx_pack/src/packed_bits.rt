@@ -124,8 +124,8 @@ pub(crate) fn validity_of(
     }
 }
 
-// The same where null may stand: no bit is made where the layouts tell that all rows are there, or
-// that none is.
+// The simplest validity of rows where null may stand: no bit is made where the layouts tell that all
+// rows are there, or that none is.
 fn nullable_validity(
     alloc: Global,
     dtype: &DType,
@@ -179,7 +179,7 @@ fn present_bits(
     ExactBits::of(alloc, bits)
 }
 
-// The same of a piece, at the end of the bits.
+// Which rows of a piece are not null, at the end of the bits.
 pub(crate) fn push_present(
     alloc: Global,
     bits: &mut BitBufferMut,
@@ -206,7 +206,7 @@ pub(crate) fn push_present(
     }
 }
 
-// The same, each row looked at by itself.
+// Which rows of a piece are not null, each looked at by itself.
 fn push_each_present(
     alloc: Global,
     bits: &mut BitBufferMut,

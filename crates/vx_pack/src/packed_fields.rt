@@ -81,7 +81,7 @@ fn whole_field<'a>(fields: &StructFields, piece: Piece<'a>, place: usize) -> Opt
     }
 }
 
-// The same, record by record.
+// The field of the records of a piece, at the end of the column, record by record.
 fn push_each_field<'a>(
     column: &mut Vec<Piece<'a>>,
     fields: &StructFields,

@@ -76,7 +76,7 @@ fn push_items(
     }
 }
 
-// The same, each list looked at by itself.
+// The items of the lists of a piece, after the others, each list looked at by itself.
 fn push_each_list(
     alloc: Global,
     gathered: &mut Gathered,
@@ -115,7 +115,7 @@ fn heap_len(dtype: &DType, items: &DType, pieces: &[Piece]) -> usize
     total
 }
 
-// The same of the lists of a piece.
+// How many bytes of the items of the lists of a piece go into buffers, as far as views tell.
 fn heap_len_of(dtype: &DType, items: &DType, piece: Piece) -> usize
     requires lists { (n : Bool) × (dtype_meaning dtype.now ≡ lists (dtype_meaning items.now) n) }
     requires piece { IsPiece (dtype_meaning dtype.now) piece }

@@ -104,7 +104,7 @@ fn push_stored_number<const WIDTH: usize>(
     Ok(())
 }
 
-// The same, each number read by itself.
+// The bytes of the numbers of a piece, each read by itself.
 fn push_each_number(bytes: &mut Vec<u8>, ptype: PType, piece: Piece) -> Result<(), VortexError>
     requires { (n : Bool) × IsPiece (integers ptype n) piece }
     ensures { Gives result (λ _. (n : Bool) → IsPiece (integers ptype n) piece.entry → bytes.new.items

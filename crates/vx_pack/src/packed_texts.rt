@@ -139,7 +139,7 @@ fn push_views(
     Ok(())
 }
 
-// The same, each row read by itself.
+// The values of a piece, after the others, each row read by itself.
 fn push_each_text(
     alloc: Global,
     texts: &mut Filling,

@@ -23,7 +23,7 @@ impl<'a> Part<'a> {
     }
 }
 
-// The same of an array.
+// Whether the layout of an array tells that all its rows are there, or that all are null.
 pub(crate) fn presence_of(array: &ArrayRef) -> Option<bool>
     ensures { IfSome result (λ b. (i : ℕ) → is_present (row_at array.now i) ≡ b) }
 {

@@ -50,7 +50,7 @@ fn run_count(offset_type: PType, offsets: &[u8], size_type: PType, sizes: &[u8])
     call_native!(offset_type, run_count_from(offsets, size_type, sizes))
 }
 
-// The same by offsets of one type.
+// How many runs the lists stand in, by offsets of one type.
 fn run_count_from<O: NativePType>(offsets: &[u8], size_type: PType, sizes: &[u8]) -> usize
     requires { AreListBytes O.PTYPE offsets.now size_type sizes.now (2 ^ 64 - 1) }
     ensures { result ≤ length (numbers size_type sizes.now) }
@@ -58,7 +58,7 @@ fn run_count_from<O: NativePType>(offsets: &[u8], size_type: PType, sizes: &[u8]
     call_native!(size_type, typed_run_count::<O>(offsets, sizes))
 }
 
-// The same by offsets of one type and sizes of another.
+// How many runs the lists stand in, by offsets of one type and sizes of another.
 #[inline(never)]
 fn typed_run_count<O: NativePType, S: NativePType>(offsets: &[u8], sizes: &[u8]) -> usize
     requires { AreListBytes O.PTYPE offsets.now S.PTYPE sizes.now (2 ^ 64 - 1) }
@@ -107,7 +107,7 @@ fn push_each_run<'a>(
     )
 }
 
-// The same by offsets of one type.
+// The items of the lists, by offsets of one type, at the end of other pieces.
 fn push_runs_from<'a, O: NativePType>(
     lists: &mut Vec<Piece<'a>>,
     elements: &'a ArrayRef,
@@ -125,7 +125,7 @@ fn push_runs_from<'a, O: NativePType>(
     )
 }
 
-// The same by offsets of one type and sizes of another.
+// The items of the lists, by offsets of one type and sizes of another, at the end of other pieces.
 #[inline(never)]
 fn push_typed_runs<'a, O: NativePType, S: NativePType>(
     lists: &mut Vec<Piece<'a>>,

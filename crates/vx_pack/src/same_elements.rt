@@ -81,7 +81,8 @@ impl<'a> Elements<'a> {
     }
 }
 
-// The same of texts or byte lists. Not inlined, so that a loop over numbers stays small.
+// Whether so many texts or byte lists from `x` on are those from `y` on. Not inlined, so that a loop
+// over numbers stays small.
 #[inline(never)]
 fn same_texts_from(a: StoredTexts, x: usize, b: StoredTexts, y: usize, len: usize) -> bool
     requires first_read { AllResolve a }

@@ -60,7 +60,7 @@ pub(crate) fn same_values(a: StoredTexts, b: StoredTexts) -> bool
     true
 }
 
-// The same, each row read by itself.
+// Whether the bytes of texts or byte lists are the same, each row read by itself.
 fn same_each_text(a: Part, b: Part) -> bool
     requires first { IsWithin a }
     requires second { IsWithin b }

@@ -58,7 +58,7 @@ pub(crate) fn same_numbers(ptype: PType, a: Part, b: Part) -> bool
     first == second
 }
 
-// The same, each number read by itself.
+// Whether numbers are the same, each read by itself.
 fn same_each_number(a: Part, b: Part) -> bool
     requires first_ints { AreNumbers a }
     requires second_ints { AreNumbers b }

@@ -32,7 +32,7 @@ pub(crate) fn same_rows(dtype: &DType, a: Part, b: Part) -> bool
     same_by_kind(dtype, a, b)
 }
 
-// The same, all rows compared.
+// Whether rows of a data type are the same, all of them compared.
 #[cycle(same)]
 fn same_by_kind(dtype: &DType, a: Part, b: Part) -> bool
     requires first { IsPart (dtype_meaning dtype.now) a }
@@ -71,9 +71,9 @@ fn same_lists(dtype: &DType, a: Part, b: Part) -> bool
     true
 }
 
-// The same of lists that stand by offsets and sizes on both sides, none of them null: by their
-// sizes, and the items of all, where they stand end to end; else a block at a time, where elements
-// can be compared so. Not inlined, so that the frame of each level of lists stays small.
+// Whether lists are the same that stand by offsets and sizes on both sides, none of them null: by
+// their sizes, and the items of all, where they stand end to end; else a block at a time, where
+// elements can be compared so. Not inlined, so that the frame of each level of lists stays small.
 #[cycle(same)]
 #[inline(never)]
 fn same_stored_lists(dtype: &DType, a: Part, b: Part) -> Option<bool>
@@ -151,7 +151,7 @@ fn same_records(dtype: &DType, a: Part, b: Part) -> bool
     same_fields(dtype.as_struct_fields(), first, second)
 }
 
-// The same, record by record.
+// Whether records are the same, each looked at by itself.
 #[cycle(same)]
 fn same_each_record(dtype: &DType, a: Part, b: Part) -> bool
     requires records { is_records (dtype_meaning dtype.now) ≡ true }

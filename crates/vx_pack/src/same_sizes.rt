@@ -17,7 +17,7 @@ pub(crate) fn same_sizes(a_type: PType, a: &[u8], b_type: PType, b: &[u8]) -> bo
     call_native!(a_type, same_sizes_from(a, b_type, b))
 }
 
-// The same by sizes of one type.
+// Whether as many sizes of one type and of another are the same.
 fn same_sizes_from<A: NativePType>(a: &[u8], b_type: PType, b: &[u8]) -> bool
     requires first { AreCountBytes A.PTYPE a.now }
     requires second { AreCountBytes b_type b.now }
@@ -27,7 +27,7 @@ fn same_sizes_from<A: NativePType>(a: &[u8], b_type: PType, b: &[u8]) -> bool
     call_native!(b_type, same_typed_sizes::<A>(a, b))
 }
 
-// The same by sizes of one type and of another.
+// Whether as many sizes are the same, where both types are known.
 #[inline(never)]
 fn same_typed_sizes<A: NativePType, B: NativePType>(a: &[u8], b: &[u8]) -> bool
     requires first { AreCountBytes A.PTYPE a.now }

@@ -61,7 +61,7 @@ impl<'a> Part<'a> {
         })
     }
 
-    // The same where no row is null.
+    // The views, where the rows stand so and none is null.
     pub fn full_texts(self) -> Option<StoredTexts<'a>>
         requires { IsWithin self }
         ensures { IfSome result (AreFullTexts self.entry) }
@@ -72,7 +72,7 @@ impl<'a> Part<'a> {
 }
 
 impl<'a> Piece<'a> {
-    // The same of a piece.
+    // The views of a piece, where its rows stand so.
     pub fn stored_texts(self) -> Option<StoredTexts<'a>>
         requires { IsWithinPiece self }
         ensures { IfSome result (λ s. (k : Kind) → has_bytes k ≡ true → IsPiece k self.entry → AreValuesIn k self.entry s) }

@@ -66,7 +66,7 @@ fn append_numbers(
     }
 }
 
-// The same of the values that codes name.
+// Appends the bytes of a number for each code: that of the value it names, where that is not null.
 fn append_named(
     alloc: Global,
     values: &ArrayRef,
@@ -94,7 +94,8 @@ fn append_named(
     Ok(append_picked(ptype, bytes.as_slice(), &positions.selection(), before)?)
 }
 
-// The same, of which no value is made that no code names. Asks that there are values.
+// Appends the bytes of a number for each code, and makes no value plain that no code names. Asks
+// that there are values.
 fn append_few_named(
     alloc: Global,
     values: &ArrayRef,

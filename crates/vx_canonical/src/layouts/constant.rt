@@ -48,7 +48,7 @@ pub(crate) fn canonical_constant(alloc: Global, array: &ArrayRef) -> Result<Arra
     Ok(row.select_within(alloc, &Selection::repeated(0, *len))?)
 }
 
-// The same, as often as rows are picked.
+// The one row in plain layout, taken as often as rows are picked.
 #[tactic(auto, using(crate::proofs::CanonicalWithin::no_parts))]
 pub(crate) fn canonical_constant_at(
     alloc: Global,

@@ -31,7 +31,7 @@ pub(crate) fn canonical_leaf(alloc: Global, array: &ArrayRef) -> Result<ArrayRef
     }
 }
 
-// The same of the rows that are picked.
+// The rows that are picked of booleans, numbers, texts or byte lists, in plain layout.
 pub(crate) fn canonical_leaf_at(
     alloc: Global,
     array: &ArrayRef,

@@ -76,7 +76,8 @@ fn add_numbers(
     call_native!(ptype, add_sums(bytes, base, out))
 }
 
-// The same for numbers of one type.
+// Each of these numbers of one type further by `base` is added to the bytes, as a number of type
+// U64.
 fn add_sums<T: NativePType>(bytes: &[u8], base: usize, out: &mut Vec<u8>) -> Result<(), VortexError>
     requires positions { All (λ z. pos 0 ≤ℤ z) (numbers T.PTYPE bytes.now) }
     requires short { All (λ z. base + unsigned_abs z < 2 ^ 64) (numbers T.PTYPE bytes.now) }
