@@ -1,5 +1,5 @@
 -- Default rows of a kind, by layout.
-use Rattle.std.proofs.Common.{ℕ, zero, suc, ◌+◌, ◌*◌, ◌<◌, ◌≡◌, Bool, true, false, List, [], ◌∷◌, length, replicate, refl, sym, ◌∙◌, ap, add-zero, arith}
+use Rattle.std.proofs.Common.{ℕ, zero, suc, ◌+◌, ◌*◌, ◌<◌, ◌≡◌, Bool, true, false, List, [], ◌∷◌, length, replicate, refl, sym, ◌∙◌, ap, subst, add-zero, arith}
 use Rattle.std.specs.Prelude.{pos}
 use Rattle.vx_base.specs.declared.dtypes.DType.{DType}
 use Rattle.vx_base.specs.DTypes.{kinds_of as dtype_kinds}
@@ -36,6 +36,9 @@ list_defaults t e k size n a h =
       kind = λ i. fixed_lists (h.kind i) size false;
       rows = λ i l. ap items (rows_range-same (row_at e) (default_row k) (i * size) size (λ j m. h.rows (i * size + j) (place_within i j n size l m)));
     })
+
+pub own_defaults : (k : Kind) (n : ℕ) (t : Tree) → AreDefaults k n t → AreDefaults (kind_of t) n t
+own_defaults k n t h = subst (λ j. AreDefaults j n t) (sym h.kind) h
 
 -- one row of a dictionary
 pub repeated_defaults : (t c v : Tree) (k : Kind) (n : ℕ) → t ≡ dictionary c v false → IsZeroCodes n non_nullable c → AreDefaults k 1 v → AreDefaults k n t

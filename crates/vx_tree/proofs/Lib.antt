@@ -29,4 +29,5 @@ pub mod Validities
 pub mod Turned
 pub mod Patched
 pub mod PatchedBits
+pub mod Refusing
 pub mod Joins

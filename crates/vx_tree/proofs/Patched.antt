@@ -204,5 +204,3 @@ len_of_fits all_invalid n h = tt
 len_of_fits (by_array t) n h = h.len
 
 pub ruleset patches = (len_of_fits, Names-or_else_first, Names-or_else_second, or_else-none)
-
-pub ruleset written = (patched_nowhere, patched_by_value)

@@ -8,6 +8,9 @@ ghost use Rattle.vx_tree.specs.Formed.{WellFormed};
 ghost use Rattle.vx_tree.specs.Fitting.{AllFormed};
 ghost use Rattle.vx_tree.specs.Parts.{tree_of};
 
+use crate::layouts::dict::dictionary_dtype;
+use crate::layouts::fixed_size_list::fixed_lists_dtype;
+use crate::layouts::list_view::lists_dtype;
 use crate::layouts::structure::{all_known, record_dtype};
 use crate::layouts::var_bin_view::known_views;
 use std::alloc::Global;
@@ -326,27 +329,18 @@ impl Layout {
                 ..
             } => Ok(DType::Primitive(*ptype, validity.nullability())),
             Layout::Constant { scalar, .. } => scalar.dtype().try_clone(alloc),
-            Layout::Dict { codes, values, .. } => {
-                let dtype = values.dtype().try_clone(alloc)?;
-                Ok(dtype.union_nullability(codes.dtype().nullability()))
-            }
+            Layout::Dict { codes, values, .. } => dictionary_dtype(alloc, codes, values),
             Layout::FixedSizeList {
                 elements,
                 size,
                 validity,
                 ..
-            } => {
-                let items = Rc::new(alloc, elements.dtype().try_clone(alloc)?)?;
-                Ok(DType::FixedSizeList(items, *size, validity.nullability()))
-            }
+            } => fixed_lists_dtype(alloc, elements, *size, validity.nullability()),
             Layout::ListView {
                 elements,
                 validity,
                 ..
-            } => {
-                let items = Rc::new(alloc, elements.dtype().try_clone(alloc)?)?;
-                Ok(DType::List(items, validity.nullability()))
-            }
+            } => lists_dtype(alloc, elements, validity.nullability()),
             Layout::VarBinView { dtype, .. } => dtype.try_clone(alloc),
             Layout::Struct {
                 names,

@@ -1,11 +1,13 @@
 // Rows of a data type where none is given, by layout: items and fields are made once, however many
 // rows there are.
 
-ghost use Rattle.std.specs.Prelude.{false};
+ghost use Rattle.std.specs.Prelude.{◌≡◌, false};
 ghost use Rattle.vx_base.specs.DTypes.{dtype_meaning, field_kinds, field_names};
 ghost use Rattle.vx_base.specs.Kinds.{fixed_lists, records};
 ghost use Rattle.vx_base.specs.Refusals.{Gives};
-ghost use Rattle.vx_tree.specs.Meaning.{kind_of};
+ghost use Rattle.vx_tree.specs.Tree.{non_nullable, structure};
+ghost use Rattle.vx_tree.specs.Meaning.{kind_of, trees_from};
+ghost use Rattle.vx_tree.specs.Formed.{IsStruct};
 ghost use Rattle.vx_tree.specs.DefaultRows.{AreDefaults, AreDefaultColumns};
 
 use crate::array::{ArrayRef, Validity};
@@ -56,9 +58,7 @@ fn default_lists(
         }
         None => {
             let elements = defaults_of(alloc, items, width)?;
-            let list = ArrayRef::fixed_size_list(alloc, elements, size, Validity::NonNullable, 1)?;
-            let codes = ArrayRef::zero_codes(alloc, len, &Validity::NonNullable)?;
-            ArrayRef::dictionary(alloc, codes, list, false)
+            repeated_list(alloc, elements, size, len)
         }
     }
 }
@@ -73,8 +73,7 @@ fn default_records(
     ensures { Gives result (AreDefaults (records (field_names fields.now) (field_kinds fields.now) false) len) }
 {
     let columns = default_columns(alloc, fields.fields(), len)?;
-    let names = fields.names().try_clone(alloc)?;
-    ArrayRef::structure(alloc, names, columns, Validity::NonNullable, len)
+    records_of(alloc, fields, columns, len)
 }
 
 // A column of `len` default rows for each of these data types.
@@ -91,6 +90,45 @@ fn default_columns(
         columns.push(defaults_of(alloc, dtype, len)?)?;
     }
     Ok(columns)
+}
+
+// One list, of all these elements, `len` times.
+fn repeated_list(
+    alloc: Global,
+    elements: ArrayRef,
+    size: u32,
+    len: usize,
+) -> Result<ArrayRef, VortexError>
+    requires { AreDefaults (kind_of elements) size elements }
+    ensures { Gives result (AreDefaults (fixed_lists (kind_of elements) size false) len) }
+{
+    let list = ArrayRef::fixed_size_list(alloc, elements, size, Validity::NonNullable, 1)?;
+    match ArrayRef::zero_codes(alloc, len, &Validity::NonNullable) {
+        Ok(codes) => ArrayRef::dictionary(alloc, codes, list, false),
+        Err(error) => {
+            drop(list);
+            Err(error)
+        }
+    }
+}
+
+// `len` records of these columns, under the names of the fields.
+fn records_of(
+    alloc: Global,
+    fields: &StructFields,
+    columns: Vec<ArrayRef>,
+    len: usize,
+) -> Result<ArrayRef, VortexError>
+    requires { IsStruct (field_names fields.now) (trees_from columns.items) len }
+    ensures { Gives result (λ a. a ≡ structure (field_names fields.now) (trees_from columns.items) non_nullable len) }
+{
+    match fields.names().try_clone(alloc) {
+        Ok(names) => ArrayRef::structure(alloc, names, columns, Validity::NonNullable, len),
+        Err(error) => {
+            drop(columns);
+            Err(error)
+        }
+    }
 }
 
 // `len` default rows of a data type, as a constant.

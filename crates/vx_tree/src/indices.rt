@@ -44,14 +44,14 @@ impl ArrayRef {
         ensures refuses { Refuses result (indices_fault len self.now) }
     {
         if self.is_repeated() {
-            return Ok(self.one_position(len)?);
+            return self.one_position(len);
         }
         match self.layout() {
             Layout::Primitive {
                 ptype,
                 bytes,
                 validity,
-            } => Ok(number_indices(alloc, *ptype, bytes.as_slice(), validity, len)?),
+            } => number_indices(alloc, *ptype, bytes.as_slice(), validity, len),
             _ => Ok(Indices::of_positions(self.positions(alloc, len)?)),
         }
     }

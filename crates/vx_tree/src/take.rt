@@ -40,8 +40,17 @@ impl ArrayRef {
             return Err(VortexError::MismatchedTypes);
         }
         let positions = indices.indices(alloc, self.len())?;
-        let validity = indices.validity(alloc)?;
-        Ok(self.take_at(alloc, &positions, &validity)?)
+        let validity = match indices.validity(alloc) {
+            Ok(validity) => validity,
+            Err(error) => {
+                drop(positions);
+                return Err(error);
+            }
+        };
+        let taken = self.take_at(alloc, &positions, &validity);
+        drop(validity);
+        drop(positions);
+        Ok(taken?)
     }
 
     // The rows at these positions, null where the validity is not true: everywhere, where there are

@@ -9,8 +9,12 @@ ghost use Rattle.vx_tree.specs.Slots.{keeps_parts, under_validity, validity_of};
 ghost use Rattle.vx_tree.specs.Operations.{IsNulled};
 
 use crate::array::{ArrayRef, Layout, Validity};
-use crate::layouts::structure::share_columns;
-use crate::layouts::var_bin_view::views_over;
+use crate::layouts::bool::bools_under;
+use crate::layouts::fixed_size_list::fixed_lists_under;
+use crate::layouts::list_view::lists_under;
+use crate::layouts::primitive::numbers_under;
+use crate::layouts::structure::records_under;
+use crate::layouts::var_bin_view::same_views_under;
 use std::alloc::Global;
 use vx_base::VortexError;
 
@@ -22,48 +26,37 @@ impl ArrayRef {
         ensures { Gives result (λ a. a ≡ under_validity self.now (valid_of validity)) }
     {
         match self.layout() {
-            Layout::Bool { bits, .. } => ArrayRef::bools(alloc, bits.try_clone(alloc)?, validity),
-            Layout::Primitive { ptype, bytes, .. } => {
-                ArrayRef::primitive(alloc, *ptype, bytes.try_clone(alloc)?, validity)
-            }
+            Layout::Bool { bits, .. } => bools_under(alloc, bits, validity),
+            Layout::Primitive { ptype, bytes, .. } => numbers_under(alloc, *ptype, bytes, validity),
             Layout::FixedSizeList {
                 elements,
                 size,
                 len,
                 ..
-            } => {
-                let elements = elements.try_clone(alloc)?;
-                ArrayRef::fixed_size_list(alloc, elements, *size, validity, *len)
-            }
+            } => fixed_lists_under(alloc, elements, *size, validity, *len),
             Layout::ListView {
                 elements,
                 offsets,
                 sizes,
                 flag,
                 ..
-            } => {
-                let elements = elements.try_clone(alloc)?;
-                let offsets = offsets.try_clone(alloc)?;
-                let sizes = sizes.try_clone(alloc)?;
-                ArrayRef::list_view(alloc, elements, offsets, sizes, validity, *flag)
-            }
+            } => lists_under(alloc, elements, offsets, sizes, validity, *flag),
             Layout::Struct {
                 names,
                 columns,
                 len,
                 ..
-            } => {
-                let names = names.try_clone(alloc)?;
-                let columns = share_columns(alloc, columns)?;
-                ArrayRef::structure(alloc, names, columns, validity, *len)
-            }
+            } => records_under(alloc, names, columns, validity, *len),
             Layout::VarBinView {
                 views,
                 buffers,
                 dtype,
                 ..
-            } => views_over(alloc, views.try_clone(alloc)?, buffers, dtype, validity),
-            Layout::Constant { .. } | Layout::Dict { .. } => self.try_clone(alloc),
+            } => same_views_under(alloc, views, buffers, dtype, validity),
+            Layout::Constant { .. } | Layout::Dict { .. } => {
+                drop(validity);
+                self.try_clone(alloc)
+            }
         }
     }
 

@@ -102,3 +102,21 @@ impl ArrayRef {
         }
     }
 }
+
+// These truth values, shared, under this validity.
+pub(crate) fn bools_under(
+    alloc: Global,
+    bits: &BitBuffer,
+    validity: Validity,
+) -> Result<ArrayRef, VortexError>
+    requires { ValidFits (valid_of validity) (length bits.now.bits) }
+    ensures { Gives result (λ a. a ≡ bools bits.now.offset bits.now.bits (valid_of validity)) }
+{
+    match bits.try_clone(alloc) {
+        Ok(bits) => ArrayRef::bools(alloc, bits, validity),
+        Err(error) => {
+            drop(validity);
+            Err(error)
+        }
+    }
+}

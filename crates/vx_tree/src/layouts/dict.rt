@@ -3,7 +3,8 @@
 ghost use Rattle.std.specs.Prelude.{◌≡◌, ◌<◌, ◌≤◌, ◌-◌, ℕ, true, false, IfSome, IsSome, is_some};
 ghost use Rattle.vx_base.specs.Refusals.{Gives};
 ghost use Rattle.vx_base.specs.ValueRows.{row_under};
-ghost use Rattle.vx_base.specs.Kinds.{booleans, is_integers, is_plain_integers};
+ghost use Rattle.vx_base.specs.DTypes.{dtype_meaning};
+ghost use Rattle.vx_base.specs.Kinds.{booleans, is_integers, is_nullable_kind, is_plain_integers, or_nullable};
 ghost use Rattle.vx_base.specs.Rows.{is_present, position_in};
 ghost use Rattle.vx_tree.specs.Tree.{by_array, dictionary};
 ghost use Rattle.vx_tree.specs.Layouts.{is_dictionary};
@@ -17,7 +18,7 @@ use crate::array::{ArrayRef, Layout, Validity};
 use crate::indices::to_position;
 use crate::validity::constant_truth;
 use std::alloc::Global;
-use vx_base::{ScalarValue, Selection, VortexError};
+use vx_base::{DType, ScalarValue, Selection, VortexError};
 
 impl ArrayRef {
     /// The values at the positions that the codes name, null where a code is null. Asks that the
@@ -220,4 +221,16 @@ impl ArrayRef {
         };
         Ok(Validity::Array(constant_truth(alloc, truth, codes.len())?))
     }
+}
+
+// The data type of these values, null where one of these codes may be.
+pub(crate) fn dictionary_dtype(
+    alloc: Global,
+    codes: &ArrayRef,
+    values: &ArrayRef,
+) -> Result<DType, VortexError>
+    ensures { Gives result (λ d. dtype_meaning d ≡ or_nullable (is_nullable_kind (kind_of codes.now)) (kind_of values.now)) }
+{
+    let dtype = values.dtype().try_clone(alloc)?;
+    Ok(dtype.union_nullability(codes.dtype().nullability()))
 }

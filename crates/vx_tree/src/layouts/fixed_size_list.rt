@@ -1,6 +1,8 @@
 // Lists of one size, one after another.
 
 ghost use Rattle.std.specs.Prelude.{◌≡◌, ◌<◌, ◌≤◌, ◌-◌, ℕ, true, false, length, None};
+ghost use Rattle.vx_base.specs.DTypes.{dtype_meaning, is_nullable};
+ghost use Rattle.vx_base.specs.Kinds.{fixed_lists};
 ghost use Rattle.vx_base.specs.Refusals.{Gives};
 ghost use Rattle.vx_base.specs.ValueRows.{row_under};
 ghost use Rattle.vx_tree.specs.Tree.{fixed_list};
@@ -13,7 +15,8 @@ ghost use Rattle.vx_tree.specs.Operations.{IsSlice, IsSelected, IsNulls, AreBelo
 
 use crate::array::{ArrayRef, Layout, Validity};
 use std::alloc::Global;
-use vx_base::{ScalarValue, ScalarValues, Selection, VortexError};
+use std::rc::Rc;
+use vx_base::{DType, Nullability, ScalarValue, ScalarValues, Selection, VortexError};
 
 impl ArrayRef {
     /// Lists of `size` elements each, null where the validity is false. Asks that there are `len`
@@ -100,8 +103,16 @@ impl ArrayRef {
         let width = *size as usize;
         let len = selection.len();
         let picked = selection.lists(alloc, width)?;
-        let elements = elements.select_within(alloc, &picked)?;
-        let validity = validity.select_within(alloc, selection)?;
+        let elements = elements.select_within(alloc, &picked);
+        drop(picked);
+        let elements = elements?;
+        let validity = match validity.select_within(alloc, selection) {
+            Ok(validity) => validity,
+            Err(error) => {
+                drop(elements);
+                return Err(error);
+            }
+        };
         let layout = Layout::FixedSizeList {
             elements,
             size: *size,
@@ -168,4 +179,37 @@ impl ArrayRef {
         let values = ScalarValues::from_vec(alloc, values)?;
         Ok(Some(ScalarValue::List(values)))
     }
+}
+
+// Lists of these elements, shared, under this validity.
+pub(crate) fn fixed_lists_under(
+    alloc: Global,
+    elements: &ArrayRef,
+    size: u32,
+    validity: Validity,
+    len: usize,
+) -> Result<ArrayRef, VortexError>
+    requires { WellFormed (fixed_list elements.now size (valid_of validity) len) }
+    ensures { Gives result (λ a. a ≡ fixed_list elements.now size (valid_of validity) len) }
+{
+    match elements.try_clone(alloc) {
+        Ok(elements) => ArrayRef::fixed_size_list(alloc, elements, size, validity, len),
+        Err(error) => {
+            drop(validity);
+            Err(error)
+        }
+    }
+}
+
+// The data type of lists of so many of these elements.
+pub(crate) fn fixed_lists_dtype(
+    alloc: Global,
+    elements: &ArrayRef,
+    size: u32,
+    nullability: Nullability,
+) -> Result<DType, VortexError>
+    ensures { Gives result (λ d. dtype_meaning d ≡ fixed_lists (kind_of elements.now) size (is_nullable nullability)) }
+{
+    let items = Rc::new(alloc, elements.dtype().try_clone(alloc)?)?;
+    Ok(DType::FixedSizeList(items, size, nullability))
 }

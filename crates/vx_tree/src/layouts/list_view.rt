@@ -1,6 +1,8 @@
 // Lists that lie anywhere among shared elements.
 
 ghost use Rattle.std.specs.Prelude.{◌≡◌, ◌<◌, ◌≤◌, ◌-◌, ℕ, true, false};
+ghost use Rattle.vx_base.specs.DTypes.{dtype_meaning, is_nullable};
+ghost use Rattle.vx_base.specs.Kinds.{lists};
 ghost use Rattle.vx_base.specs.Refusals.{Gives};
 ghost use Rattle.vx_base.specs.Rows.{count_in};
 ghost use Rattle.vx_base.specs.ValueRows.{row_under};
@@ -14,7 +16,8 @@ ghost use Rattle.vx_tree.specs.Operations.{IsSlice, IsSelected, IsNulls, AreBelo
 use crate::array::{ArrayRef, Layout, Validity};
 use crate::indices::to_position;
 use std::alloc::Global;
-use vx_base::{ScalarValue, ScalarValues, Selection, VortexError, int_at};
+use std::rc::Rc;
+use vx_base::{DType, Nullability, ScalarValue, ScalarValues, Selection, VortexError, int_at};
 
 impl ArrayRef {
     /// Lists, null where the validity is false. Asks that offsets and sizes are counts, as many of
@@ -102,9 +105,30 @@ impl ArrayRef {
             unreachable!();
         };
         let elements = elements.try_clone(alloc)?;
-        let offsets = offsets.select_within(alloc, selection)?;
-        let sizes = sizes.select_within(alloc, selection)?;
-        let validity = validity.select_within(alloc, selection)?;
+        let offsets = match offsets.select_within(alloc, selection) {
+            Ok(offsets) => offsets,
+            Err(error) => {
+                drop(elements);
+                return Err(error);
+            }
+        };
+        let sizes = match sizes.select_within(alloc, selection) {
+            Ok(sizes) => sizes,
+            Err(error) => {
+                drop(elements);
+                drop(offsets);
+                return Err(error);
+            }
+        };
+        let validity = match validity.select_within(alloc, selection) {
+            Ok(validity) => validity,
+            Err(error) => {
+                drop(elements);
+                drop(offsets);
+                drop(sizes);
+                return Err(error);
+            }
+        };
         let layout = Layout::ListView {
             elements,
             offsets,
@@ -185,4 +209,54 @@ impl ArrayRef {
             None => unreachable!(),
         }
     }
+}
+
+// Lists of these parts, shared, under this validity.
+pub(crate) fn lists_under(
+    alloc: Global,
+    elements: &ArrayRef,
+    offsets: &ArrayRef,
+    sizes: &ArrayRef,
+    validity: Validity,
+    flag: bool,
+) -> Result<ArrayRef, VortexError>
+    requires { WellFormed (list_view elements.now offsets.now sizes.now (valid_of validity) flag) }
+    ensures { Gives result (λ a. a ≡ list_view elements.now offsets.now sizes.now (valid_of validity) flag) }
+{
+    let elements = match elements.try_clone(alloc) {
+        Ok(elements) => elements,
+        Err(error) => {
+            drop(validity);
+            return Err(error);
+        }
+    };
+    let offsets = match offsets.try_clone(alloc) {
+        Ok(offsets) => offsets,
+        Err(error) => {
+            drop(elements);
+            drop(validity);
+            return Err(error);
+        }
+    };
+    match sizes.try_clone(alloc) {
+        Ok(sizes) => ArrayRef::list_view(alloc, elements, offsets, sizes, validity, flag),
+        Err(error) => {
+            drop(offsets);
+            drop(elements);
+            drop(validity);
+            Err(error)
+        }
+    }
+}
+
+// The data type of lists of these elements.
+pub(crate) fn lists_dtype(
+    alloc: Global,
+    elements: &ArrayRef,
+    nullability: Nullability,
+) -> Result<DType, VortexError>
+    ensures { Gives result (λ d. dtype_meaning d ≡ lists (kind_of elements.now) (is_nullable nullability)) }
+{
+    let items = Rc::new(alloc, elements.dtype().try_clone(alloc)?)?;
+    Ok(DType::List(items, nullability))
 }

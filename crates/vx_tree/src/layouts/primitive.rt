@@ -200,3 +200,22 @@ impl ArrayRef {
         ArrayRef::dictionary(alloc, codes, code, false)
     }
 }
+
+// These numbers, shared, under this validity.
+pub(crate) fn numbers_under(
+    alloc: Global,
+    ptype: PType,
+    bytes: &ByteBuffer,
+    validity: Validity,
+) -> Result<ArrayRef, VortexError>
+    requires { WellFormed (primitive ptype bytes.now (valid_of validity)) }
+    ensures { Gives result (λ a. a ≡ primitive ptype bytes.now (valid_of validity)) }
+{
+    match bytes.try_clone(alloc) {
+        Ok(bytes) => ArrayRef::primitive(alloc, ptype, bytes, validity),
+        Err(error) => {
+            drop(validity);
+            Err(error)
+        }
+    }
+}

@@ -273,10 +273,7 @@ fn column_dtypes(alloc: Global, columns: &[ArrayRef]) -> Result<Vec<DType>, Vort
 }
 
 // The same columns, shared.
-pub(crate) fn share_columns(
-    alloc: Global,
-    columns: &[ArrayRef],
-) -> Result<Vec<ArrayRef>, VortexError>
+fn share_columns(alloc: Global, columns: &[ArrayRef]) -> Result<Vec<ArrayRef>, VortexError>
     ensures { Gives result (λ cs. cs.items ≡ columns.now) }
 {
     let mut shared = Vec::with_capacity(alloc, columns.len())?;
@@ -299,4 +296,33 @@ fn default_columns(
         made.push(column.default_rows(alloc, len)?)?;
     }
     Ok(made)
+}
+
+// Records of these columns, shared, under this validity.
+pub(crate) fn records_under(
+    alloc: Global,
+    names: &FieldNames,
+    columns: &[ArrayRef],
+    validity: Validity,
+    len: usize,
+) -> Result<ArrayRef, VortexError>
+    requires fits { ValidFits (valid_of validity) len }
+    requires columns { IsStruct names.now (trees_from columns.now) len }
+    ensures { Gives result (λ a. a ≡ structure names.now (trees_from columns.now) (valid_of validity) len) }
+{
+    let names = match names.try_clone(alloc) {
+        Ok(names) => names,
+        Err(error) => {
+            drop(validity);
+            return Err(error);
+        }
+    };
+    match share_columns(alloc, columns) {
+        Ok(columns) => ArrayRef::structure(alloc, names, columns, validity, len),
+        Err(error) => {
+            drop(names);
+            drop(validity);
+            Err(error)
+        }
+    }
 }

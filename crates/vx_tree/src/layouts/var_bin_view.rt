@@ -5,6 +5,7 @@ ghost use Rattle.std.specs.Prelude.{MatchOption, replicate, if◌then◌else◌}
 ghost use Rattle.std.specs.List.{range_with_len};
 ghost use Rattle.vx_base.specs.Refusals.{Gives};
 ghost use Rattle.vx_base.specs.DTypes.{dtype_meaning};
+ghost use Rattle.vx_base.specs.Kinds.{or_nullable};
 ghost use Rattle.vx_base.specs.Bytes.{AreBytes};
 ghost use Rattle.vx_base.specs.MaskRuns.{is_in_run, is_in_runs, AreRuns};
 ghost use Rattle.vx_views.specs.Views.{IsView, buffer_at, view_of};
@@ -12,7 +13,7 @@ ghost use Rattle.vx_tree.specs.Tree.{view_array};
 ghost use Rattle.vx_tree.specs.Layouts.{is_view_array};
 ghost use Rattle.vx_base.specs.Rows.{null};
 ghost use Rattle.vx_base.specs.ValueRows.{option_row, row_under};
-ghost use Rattle.vx_tree.specs.Meaning.{tree_len, kind_of, row_at, is_valid_at, is_texts, valid_mask, value_row};
+ghost use Rattle.vx_tree.specs.Meaning.{tree_len, kind_of, row_at, is_valid_at, is_texts, nullable, valid_mask, value_row};
 ghost use Rattle.vx_tree.specs.Values.{bytes_in};
 ghost use Rattle.vx_tree.specs.Formed.{ValidFits, WellFormed};
 ghost use Rattle.vx_tree.specs.Fitting.{AreViews};
@@ -102,10 +103,30 @@ impl ArrayRef {
             unreachable!();
         };
         let views = gather_items(alloc, views.as_slice(), selection)?;
-        let buffers = share_buffers(alloc, buffers)?;
-        let dtype = dtype.try_clone(alloc)?;
-        let validity = validity.select_within(alloc, selection)?;
-        ArrayRef::var_bin_view(alloc, views, buffers, dtype, validity)
+        let buffers = match share_buffers(alloc, buffers) {
+            Ok(buffers) => buffers,
+            Err(error) => {
+                drop(views);
+                return Err(error);
+            }
+        };
+        let dtype = match dtype.try_clone(alloc) {
+            Ok(dtype) => dtype,
+            Err(error) => {
+                drop(views);
+                drop(buffers);
+                return Err(error);
+            }
+        };
+        match validity.select_within(alloc, selection) {
+            Ok(validity) => ArrayRef::var_bin_view(alloc, views, buffers, dtype, validity),
+            Err(error) => {
+                drop(views);
+                drop(buffers);
+                drop(dtype);
+                Err(error)
+            }
+        }
     }
 
     pub(crate) fn nulled_views(
@@ -127,12 +148,14 @@ impl ArrayRef {
             unreachable!();
         };
         let validity = validity.nulled(alloc, nulls, views.len())?;
-        let shared = views.try_clone(alloc)?;
-        let views = views_under(alloc, shared, &validity)?;
-        let dtype = dtype
-            .try_clone(alloc)?
-            .union_nullability(nulls.nullability());
-        views_over(alloc, views, buffers, &dtype, validity)
+        let shared = match views.try_clone(alloc) {
+            Ok(shared) => shared,
+            Err(error) => {
+                drop(validity);
+                return Err(error);
+            }
+        };
+        nullable_views(alloc, shared, buffers, dtype, nulls, validity)
     }
 
     // The texts or the byte lists that are picked, null where this validity is not true: the views
@@ -158,13 +181,17 @@ impl ArrayRef {
             unreachable!();
         };
         let selected = validity.select_within(alloc, selection)?;
-        let nulled = selected.nulled(alloc, nulls, selection.len())?;
-        let gathered = gather_items(alloc, views.as_slice(), selection)?;
-        let made = views_under(alloc, gathered, &nulled)?;
-        let dtype = dtype
-            .try_clone(alloc)?
-            .union_nullability(nulls.nullability());
-        views_over(alloc, made, buffers, &dtype, nulled)
+        let nulled = selected.nulled(alloc, nulls, selection.len());
+        drop(selected);
+        let nulled = nulled?;
+        let gathered = match gather_items(alloc, views.as_slice(), selection) {
+            Ok(gathered) => gathered,
+            Err(error) => {
+                drop(nulled);
+                return Err(error);
+            }
+        };
+        nullable_views(alloc, gathered, buffers, dtype, nulls, nulled)
     }
 
     pub(crate) fn null_views(
@@ -250,8 +277,44 @@ fn value_of_kind(dtype: &DType, value: ByteBuffer) -> ScalarValue
     }
 }
 
+// Texts or byte lists of these views, empty where the validity is not true, over the buffers, which
+// are shared. The data type is nullable where it was, or where the nulls are.
+fn nullable_views(
+    alloc: Global,
+    views: Buffer<BinaryView>,
+    buffers: &[ByteBuffer],
+    dtype: &DType,
+    nulls: &Validity,
+    validity: Validity,
+) -> Result<ArrayRef, VortexError>
+    requires fits { ValidFits (valid_of validity) (length views) }
+    requires formed { WellFormed (view_array (map (valid_view views (valid_mask (valid_of validity) (length views))) (range_with_len 0 (length views)))
+        buffers.now (or_nullable (nullable (valid_of nulls.now)) (dtype_meaning dtype.now)) (valid_of validity)) }
+    ensures { Gives result (λ a. a ≡ view_array (map (valid_view views (valid_mask (valid_of validity) (length views))) (range_with_len 0 (length views)))
+        buffers.now (or_nullable (nullable (valid_of nulls.now)) (dtype_meaning dtype.now)) (valid_of validity)) }
+{
+    let views = match views_under(alloc, views, &validity) {
+        Ok(views) => views,
+        Err(error) => {
+            drop(validity);
+            return Err(error);
+        }
+    };
+    let dtype = match dtype.try_clone(alloc) {
+        Ok(dtype) => dtype.union_nullability(nulls.nullability()),
+        Err(error) => {
+            drop(views);
+            drop(validity);
+            return Err(error);
+        }
+    };
+    let array = views_over(alloc, views, buffers, &dtype, validity);
+    drop(dtype);
+    array
+}
+
 // Texts or byte lists of these views, over the buffers, which are shared.
-pub(crate) fn views_over(
+fn views_over(
     alloc: Global,
     views: Buffer<BinaryView>,
     buffers: &[ByteBuffer],
@@ -261,9 +324,43 @@ pub(crate) fn views_over(
     requires { WellFormed (view_array views buffers.now (dtype_meaning dtype.now) (valid_of validity)) }
     ensures { Gives result (λ a. a ≡ view_array views buffers.now (dtype_meaning dtype.now) (valid_of validity)) }
 {
-    let dtype = dtype.try_clone(alloc)?;
-    let buffers = share_buffers(alloc, buffers)?;
-    ArrayRef::var_bin_view(alloc, views, buffers, dtype, validity)
+    let dtype = match dtype.try_clone(alloc) {
+        Ok(dtype) => dtype,
+        Err(error) => {
+            drop(views);
+            drop(validity);
+            return Err(error);
+        }
+    };
+    match share_buffers(alloc, buffers) {
+        Ok(buffers) => ArrayRef::var_bin_view(alloc, views, buffers, dtype, validity),
+        Err(error) => {
+            drop(dtype);
+            drop(views);
+            drop(validity);
+            Err(error)
+        }
+    }
+}
+
+// Texts or byte lists of these views and buffers, which are shared, under this validity.
+pub(crate) fn same_views_under(
+    alloc: Global,
+    views: &Buffer<BinaryView>,
+    buffers: &[ByteBuffer],
+    dtype: &DType,
+    validity: Validity,
+) -> Result<ArrayRef, VortexError>
+    requires { WellFormed (view_array views.now buffers.now (dtype_meaning dtype.now) (valid_of validity)) }
+    ensures { Gives result (λ a. a ≡ view_array views.now buffers.now (dtype_meaning dtype.now) (valid_of validity)) }
+{
+    match views.try_clone(alloc) {
+        Ok(views) => views_over(alloc, views, buffers, dtype, validity),
+        Err(error) => {
+            drop(validity);
+            Err(error)
+        }
+    }
 }
 
 /// Empty texts or byte lists, over the buffers, which are shared. For the crates above.

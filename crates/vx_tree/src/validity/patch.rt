@@ -91,7 +91,6 @@ impl Validity {
     // `len` rows, overwritten one after another at the positions that the indices name, less the
     // offset, by the rows of the patches. No bit is written where none is overwritten, or all of
     // them are one value and stay it. Asks that each index names a position.
-    #[tactic(auto, using(crate::proofs::Patched::written))]
     fn patched_at(
         &self,
         alloc: Global,
@@ -114,10 +113,16 @@ impl Validity {
             return Ok(Validity::Array(constant_truth(alloc, value, len)?));
         }
         let bits = self.bits(alloc, len)?;
-        let values = patches.bits(alloc, count)?;
-        let mut truths = PatchedBits::copy_of(alloc, bits)?;
-        indices.write_patches(&mut truths, offset, &values);
-        told_by(alloc, truths.freeze(alloc)?)
+        let values = match patches.bits(alloc, count) {
+            Ok(values) => values,
+            Err(error) => {
+                drop(bits);
+                return Err(error);
+            }
+        };
+        let patched = indices.patched_bits(alloc, bits, offset, &values);
+        drop(values);
+        told_by(alloc, patched?)
     }
 
     // The one value that `len` rows of this and `count` rows of the other have, where the states or
@@ -220,6 +225,25 @@ impl ArrayRef {
             Some(number) => check_number(number, row, offset, len),
             None => unreachable!(),
         }
+    }
+
+    // These booleans, overwritten one after another at the positions that the rows name, less the
+    // offset. Asks that each row names one.
+    fn patched_bits(
+        &self,
+        alloc: Global,
+        bits: BitBuffer,
+        offset: usize,
+        values: &BitBuffer,
+    ) -> Result<BitBuffer, VortexError>
+        requires ints { is_plain_integers (kind_of self.now) ≡ true }
+        requires named { patch_positions_fault offset (length bits.bits) self.now ≡ None }
+        requires as_many { length values.now.bits ≡ tree_len self.now }
+        ensures { Gives result (λ b. b.bits ≡ overwritten bits.bits (patch_positions offset self.now) values.now.bits) }
+    {
+        let mut truths = PatchedBits::copy_of(alloc, bits)?;
+        self.write_patches(&mut truths, offset, values);
+        truths.freeze(alloc)
     }
 
     // Overwrites booleans, one after another, at the positions that the rows name, less the offset.

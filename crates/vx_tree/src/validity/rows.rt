@@ -8,15 +8,17 @@ ghost use Rattle.vx_base.specs.Kinds.{booleans};
 ghost use Rattle.vx_base.specs.Refusals.{Gives, Refuses};
 ghost use Rattle.vx_base.specs.Trues.{trues};
 ghost use Rattle.vx_tree.specs.Tree.{by_array};
-ghost use Rattle.vx_tree.specs.Meaning.{kind_of, is_valid_at};
+ghost use Rattle.vx_tree.specs.Meaning.{tree_len, kind_of, is_valid_at};
+ghost use Rattle.vx_tree.specs.Named.{AreIndices};
 ghost use Rattle.vx_tree.specs.Parts.{valid_of};
 ghost use Rattle.vx_tree.specs.Faults.{take_fault, valid_type_fault};
 ghost use Rattle.vx_tree.specs.Formed.{ValidFits};
-ghost use Rattle.vx_tree.specs.Operations.{IsValidSlice, IsValidSelected};
+ghost use Rattle.vx_tree.specs.Operations.{IsValidSlice, IsValidSelected, IsValidityOf};
 ghost use Rattle.vx_tree.specs.Validities.{opposite, IsOpposite, IsValidTaken, valid_position_fault, valid_slice_fault};
 ghost use Rattle.vx_tree.specs.Validities.{valid_filter_fault, valid_take_fault};
 
 use crate::array::{ArrayRef, Validity};
+use crate::indices::Indices;
 use crate::validity::{constant_truth, never_true, told_by};
 use std::alloc::Global;
 use std::ops::Range;
@@ -175,15 +177,39 @@ fn take_truths(alloc: Global, array: &ArrayRef, indices: &ArrayRef) -> Result<Va
         return Err(VortexError::MismatchedTypes);
     }
     let positions = indices.indices(alloc, array.len())?;
-    let nulls = indices.validity(alloc)?;
+    let nulls = match indices.validity(alloc) {
+        Ok(nulls) => nulls,
+        Err(error) => {
+            drop(positions);
+            return Err(error);
+        }
+    };
+    let truths = truths_at(alloc, array, indices, &positions, &nulls);
+    drop(nulls);
+    drop(positions);
+    Ok(truths?)
+}
+
+// The rows at these positions, which are those of the indices, and false where their validity is
+// not true.
+fn truths_at(
+    alloc: Global,
+    array: &ArrayRef,
+    indices: &ArrayRef,
+    positions: &Indices,
+    nulls: &Validity,
+) -> Result<Validity, VortexError>
+    requires kind { kind_of array.now ≡ booleans false }
+    requires positions { AreIndices indices.now (tree_len array.now) positions.now }
+    requires nulls { IsValidityOf indices.now (valid_of nulls.now) }
+    ensures { Gives result (λ w. IsValidTaken (by_array array.now) indices.now (valid_of w)) }
+{
     let len = indices.len();
     if array.is_empty() {
-        let none = never_true(alloc, len)?;
-        return Ok(none);
+        return never_true(alloc, len);
     }
     let selected = array.select_within(alloc, &positions.selection())?;
-    let validity = Validity::Array(selected).nulled(alloc, &nulls, len)?;
-    Ok(validity)
+    Validity::Array(selected).nulled(alloc, nulls, len)
 }
 
 // True where the array is false: of rows that are all one a constant.
@@ -196,23 +222,24 @@ fn opposite_of(alloc: Global, array: &ArrayRef) -> Result<Validity, VortexError>
         let opposite = constant_truth(alloc, !array.truth_at(0), array.len())?;
         return Ok(Validity::Array(opposite));
     }
-    let bits = turned(alloc, &array.plain_bits(alloc)?)?;
+    let bits = negated(alloc, array.plain_bits(alloc)?)?;
     told_by(alloc, bits)
 }
 
-// Each boolean the other way: the bytes that hold them, turned.
-fn turned(alloc: Global, bits: &BitBuffer) -> Result<BitBuffer, VortexError>
-    ensures { Gives result (λ b. b.bits ≡ map (λ i. opposite (bool_at bits.now.bits i)) (range_with_len 0 (length bits.now.bits))) }
+// Each boolean the other way: the bytes that hold them, negated.
+fn negated(alloc: Global, bits: BitBuffer) -> Result<BitBuffer, VortexError>
+    ensures { Gives result (λ b. b.bits ≡ map (λ i. opposite (bool_at bits.bits i)) (range_with_len 0 (length bits.bits))) }
 {
-    let (offset, len, bytes) = bits.try_clone(alloc)?.into_inner();
-    let bytes = bytes.slice(alloc, 0..(offset + len).div_ceil(8))?;
-    let turned = turned_bytes(alloc, bytes.as_slice())?;
-    BitBuffer::new_with_offset(alloc, ByteBuffer::from_vec(alloc, turned)?, len, offset)
+    let (offset, len, bytes) = bits.into_inner();
+    let negated = negated_bytes(alloc, &bytes.as_slice()[..(offset + len).div_ceil(8)]);
+    drop(bytes);
+    let negated = ByteBuffer::from_vec(alloc, negated?)?;
+    BitBuffer::new_with_offset(alloc, negated, len, offset)
 }
 
 // Each bit of the bytes the other way.
-fn turned_bytes(alloc: Global, bytes: &[u8]) -> Result<Vec<u8>, VortexError>
-    ensures { Gives result (λ turned. turned.items ≡ map (bit_not w8) bytes.now) }
+fn negated_bytes(alloc: Global, bytes: &[u8]) -> Result<Vec<u8>, VortexError>
+    ensures { Gives result (λ negated. negated.items ≡ map (bit_not w8) bytes.now) }
 {
     Ok(bytes.iter().map(|byte| !*byte).collect(alloc)?)
 }

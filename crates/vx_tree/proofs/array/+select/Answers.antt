@@ -21,8 +21,8 @@ pub ArrayRef::select_list_view-returns : goal.ArrayRef::select_list_view-returns
 ArrayRef::select_list_view-returns t c =
     let same = sym c.layout.ensures.parts ∙ ap tree_of c.in-ListView.is in
     Gives-weaker c.with_parts.result _ _
-    (λ a e. lists_selected c.args.self.now a c.in-ListView.elements c.in-ListView.offsets c.in-ListView.sizes c.in_ok-offsets.offsets c.in_ok-sizes.sizes
-    (valid_of c.in-ListView.validity) (valid_of c.in_ok-validity.validity) c.in-ListView.flag c.args.selection.now same (rw c.in_ok-elements.ensures at e) c.in_ok-offsets.ensures c.in_ok-sizes.ensures c.in_ok-validity.ensures)
+    (λ a e. lists_selected c.args.self.now a c.in-ListView.elements c.in-ListView.offsets c.in-ListView.sizes c.in-Ok.offsets c.in-Ok-select_within.sizes
+    (valid_of c.in-ListView.validity) (valid_of c.in-Ok-select_within-2.validity) c.in-ListView.flag c.args.selection.now same (rw c.in_ok-elements.ensures at e) c.in-Ok.ensures c.in-Ok-select_within.ensures c.in-Ok-select_within-2.ensures)
     c.with_parts.ensures
 
 pub ArrayRef::select_dictionary-returns : goal.ArrayRef::select_dictionary-returns
@@ -43,9 +43,9 @@ ArrayRef::select_fixed_lists-lists-requires-clause-countable t c =
     let same = sym c.layout.ensures.parts ∙ ap tree_of c.in-FixedSizeList.is in
     (lists_countable c.args.self.now c.in-FixedSizeList.elements c.in-FixedSizeList.size c.in-FixedSizeList.len (length c.args.selection.now) (valid_of c.in-FixedSizeList.validity) same c.requires.countable).0
 
-pub ArrayRef::select_fixed_lists-select_within-requires :
-    goal.ArrayRef::select_fixed_lists-select_within-requires
-ArrayRef::select_fixed_lists-select_within-requires t c =
+pub ArrayRef::select_fixed_lists-select_within-elements-requires :
+    goal.ArrayRef::select_fixed_lists-select_within-elements-requires
+ArrayRef::select_fixed_lists-select_within-elements-requires t c =
     let same = sym c.layout.ensures.parts ∙ ap tree_of c.in-FixedSizeList.is in
     let formed : WellFormed (fixed_list c.in-FixedSizeList.elements c.in-FixedSizeList.size (valid_of c.in-FixedSizeList.validity) c.in-FixedSizeList.len) = rw c.in-FixedSizeList.is at c.layout.ensures.formed in (
       search rules,
@@ -56,15 +56,15 @@ ArrayRef::select_fixed_lists-select_within-requires t c =
 pub ArrayRef::select_fixed_lists-with_parts-requires-clause-formed :
     goal.ArrayRef::select_fixed_lists-with_parts-requires-clause-formed
 ArrayRef::select_fixed_lists-with_parts-requires-clause-formed t c =
-    rw c.len-len.ensures (c.in_ok-validity.ensures.fits, c.in_ok-elements.ensures.len ∙ ap length c.in_ok-picked.ensures ∙ lists_long c.in-FixedSizeList.size c.args.selection.now)
+    rw c.len-len.ensures (c.in-Ok.ensures.fits, c.in_ok-elements.ensures.len ∙ ap length c.in_ok-picked.ensures ∙ lists_long c.in-FixedSizeList.size c.args.selection.now)
 
 pub ArrayRef::select_fixed_lists-returns : goal.ArrayRef::select_fixed_lists-returns
 ArrayRef::select_fixed_lists-returns t c =
     let same = sym c.layout.ensures.parts ∙ ap tree_of c.in-FixedSizeList.is in
     let S : List ℕ → Type 0 = λ qs. IsSelected c.in-FixedSizeList.elements qs c.in_ok-elements.elements in
     Gives-weaker c.with_parts.result _ _
-    (λ a e. fixed_lists_selected c.args.self.now a c.in-FixedSizeList.elements c.in_ok-elements.elements c.in-FixedSizeList.size c.in-FixedSizeList.len (valid_of c.in-FixedSizeList.validity) (valid_of c.in_ok-validity.validity)
-    c.args.selection.now same (rw c.len-len.ensures at e) (subst S c.in_ok-picked.ensures c.in_ok-elements.ensures) c.in_ok-validity.ensures)
+    (λ a e. fixed_lists_selected c.args.self.now a c.in-FixedSizeList.elements c.in_ok-elements.elements c.in-FixedSizeList.size c.in-FixedSizeList.len (valid_of c.in-FixedSizeList.validity) (valid_of c.in-Ok.validity)
+    c.args.selection.now same (rw c.len-len.ensures at e) (subst S c.in_ok-picked.ensures c.in_ok-elements.ensures) c.in-Ok.ensures)
     c.with_parts.ensures
 
 pub ArrayRef::select_views-var_bin_view-requires : goal.ArrayRef::select_views-var_bin_view-requires
@@ -73,28 +73,28 @@ ArrayRef::select_views-var_bin_view-requires t c =
     let buffers = c.in-VarBinView.buffers.items in
     let k = dtype_meaning c.in-VarBinView.dtype in
     let v = valid_of c.in-VarBinView.validity in
-    let w = valid_of c.in_ok-validity.validity in
+    let w = valid_of c.in-Ok-select_within.validity in
     let ps = c.args.selection.now in
     let same = sym c.layout.ensures.parts ∙ ap tree_of c.in-VarBinView.is in
-    let shared : c.in_ok-buffers.buffers.items ≡ buffers = c.in_ok-buffers.ensures ∙ c.deref.ensures.value in
-    let kind : dtype_meaning c.in_ok-dtype.dtype ≡ k = c.in_ok-dtype.ensures in
-    let rows = selected_rows views c.in_ok-views.views v w ps (rw c.as_slice.ensures at (c.in_ok-views.ensures [])) (rw same at c.requires.within) c.in_ok-validity.ensures in
+    let shared : c.in-Ok.buffers.items ≡ buffers = c.in-Ok.ensures ∙ c.deref.ensures.value in
+    let kind : dtype_meaning c.in-Ok-try_clone.dtype ≡ k = c.in-Ok-try_clone.ensures in
+    let rows = selected_rows views c.in_ok-views.views v w ps (rw c.as_slice.ensures at (c.in_ok-views.ensures [])) (rw same at c.requires.within) c.in-Ok-select_within.ensures in
     let formed : WellFormed (view_array views buffers k v) = rw c.in-VarBinView.is at c.layout.ensures.formed in
     rw (shared, kind) (rows_formed views buffers c.in_ok-views.views k v w _ _ rows formed)
 
-pub ArrayRef::select_views-returns : goal.ArrayRef::select_views-returns
-ArrayRef::select_views-returns t c =
+pub ArrayRef::select_views-returns-in-Ok-select_within : goal.ArrayRef::select_views-returns-in-Ok-select_within
+ArrayRef::select_views-returns-in-Ok-select_within t c =
     let views = c.in-VarBinView.views in
     let buffers = c.in-VarBinView.buffers.items in
     let k = dtype_meaning c.in-VarBinView.dtype in
     let v = valid_of c.in-VarBinView.validity in
-    let w = valid_of c.in_ok-validity.validity in
+    let w = valid_of c.in-Ok-select_within.validity in
     let ps = c.args.selection.now in
     let same = sym c.layout.ensures.parts ∙ ap tree_of c.in-VarBinView.is in
-    let shared : c.in_ok-buffers.buffers.items ≡ buffers = c.in_ok-buffers.ensures ∙ c.deref.ensures.value in
-    let kind : dtype_meaning c.in_ok-dtype.dtype ≡ k = c.in_ok-dtype.ensures in
-    let rows = selected_rows views c.in_ok-views.views v w ps (rw c.as_slice.ensures at (c.in_ok-views.ensures [])) (rw same at c.requires.within) c.in_ok-validity.ensures in
-    Gives-weaker c.var_bin_view.result _ _ (λ a e. views_selected c.args.self.now a views buffers c.in_ok-views.views k v w ps same (rw (shared, kind) at e) rows c.in_ok-validity.ensures) c.var_bin_view.ensures
+    let shared : c.in-Ok.buffers.items ≡ buffers = c.in-Ok.ensures ∙ c.deref.ensures.value in
+    let kind : dtype_meaning c.in-Ok-try_clone.dtype ≡ k = c.in-Ok-try_clone.ensures in
+    let rows = selected_rows views c.in_ok-views.views v w ps (rw c.as_slice.ensures at (c.in_ok-views.ensures [])) (rw same at c.requires.within) c.in-Ok-select_within.ensures in
+    Gives-weaker c.var_bin_view.result _ _ (λ a e. views_selected c.args.self.now a views buffers c.in_ok-views.views k v w ps same (rw (shared, kind) at e) rows c.in-Ok-select_within.ensures) c.var_bin_view.ensures
 
 pub ArrayRef::select_struct-select_columns-requires : goal.ArrayRef::select_struct-select_columns-requires
 ArrayRef::select_struct-select_columns-requires t c =

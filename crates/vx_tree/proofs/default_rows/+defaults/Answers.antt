@@ -10,7 +10,7 @@ use Rattle.vx_base.proofs.StructKinds.{struct_kind}
 use Rattle.vx_base.proofs.ValueFits.{field_depth, struct_depth}
 use Rattle.vx_tree.specs.Tree.{Tree}
 use Rattle.vx_tree.specs.DefaultRows.{AreDefaults}
-use Rattle.vx_tree.proofs.DefaultRows.{list_defaults, repeated_defaults, default_columns_fit, record_defaults}
+use Rattle.vx_tree.proofs.DefaultRows.{list_defaults, own_defaults, default_columns_fit, record_defaults}
 use Rattle.vx_tree.proofs.default_rows.+defaults.Goals as goal
 
 pub default_columns-defaults_of-requires : goal.default_columns-defaults_of-requires
@@ -33,28 +33,26 @@ default_lists-returns-in_ok-elements-in-Some t c =
     let made : AreDefaults k (c.args.len * c.args.size) elements = subst (λ n. AreDefaults k n elements) count c.in_ok-elements-in-Some.ensures in
     Gives-weaker c.fixed_size_list.result _ _ (λ a e. list_defaults a elements k c.args.size c.args.len e made) c.fixed_size_list.ensures
 
-pub default_lists-returns-in_ok-codes-in-None : goal.default_lists-returns-in_ok-codes-in-None
-default_lists-returns-in_ok-codes-in-None t c =
-    let k = dtype_meaning c.args.items.now in
-    let elements = c.in_ok-elements-in-None.elements in
-    let list = c.in_ok-list-in-None.list in
-    let once : c.args.size ≡ 1 * c.args.size = omega arith in
-    let made : AreDefaults k (1 * c.args.size) elements = subst (λ n. AreDefaults k n elements) once c.in_ok-elements-in-None.ensures in
-    let one : AreDefaults (fixed_lists k c.args.size false) 1 list = list_defaults list elements k c.args.size 1 c.in_ok-list-in-None.ensures made in
-    Gives-weaker c.dictionary.result _ _ (λ a e. repeated_defaults a c.in_ok-codes-in-None.codes list (fixed_lists k c.args.size false) c.args.len e c.in_ok-codes-in-None.ensures one) c.dictionary.ensures
+pub default_lists-repeated_list-requires : goal.default_lists-repeated_list-requires
+default_lists-repeated_list-requires t c =
+    own_defaults (dtype_meaning c.args.items.now) c.args.size c.in_ok-elements-in-None.elements c.in_ok-elements-in-None.ensures
 
-pub default_records-structure-requires-clause-columns : goal.default_records-structure-requires-clause-columns
-default_records-structure-requires-clause-columns t c =
+pub default_lists-returns-in_ok-elements-in-None : goal.default_lists-returns-in_ok-elements-in-None
+default_lists-returns-in_ok-elements-in-None t c =
+    subst (λ k. Gives c.repeated_list.result (AreDefaults (fixed_lists k c.args.size false) c.args.len)) c.in_ok-elements-in-None.ensures.kind c.repeated_list.ensures
+
+pub default_records-records_of-requires : goal.default_records-records_of-requires
+default_records-records_of-requires t c =
     let fs = c.args.fields.now in
-    rw (c.in_ok-names.ensures, c.names.ensures) (default_columns_fit (field_names fs) c.fields.result.now c.args.len c.in_ok-columns.columns.items (sym c.fields.ensures.count) c.in_ok-columns.ensures)
+    default_columns_fit (field_names fs) c.fields.result.now c.args.len c.in_ok-columns.columns.items (sym c.fields.ensures.count) c.in_ok-columns.ensures
 
 pub default_records-returns : goal.default_records-returns
 default_records-returns t c =
     let fs = c.args.fields.now in
-    Gives-weaker c.structure.result _ _
+    Gives-weaker c.records_of.result _ _
     (λ a e. subst (λ ks. AreDefaults (records (field_names fs) ks false) c.args.len a) c.fields.ensures.kinds
-    (record_defaults a (field_names fs) c.fields.result.now c.in_ok-columns.columns.items c.args.len (rw (c.in_ok-names.ensures, c.names.ensures) at e) c.in_ok-columns.ensures))
-    c.structure.ensures
+    (record_defaults a (field_names fs) c.fields.result.now c.in_ok-columns.columns.items c.args.len e c.in_ok-columns.ensures))
+    c.records_of.ensures
 
 pub defaults_of-default_records-requires : goal.defaults_of-default_records-requires
 defaults_of-default_records-requires t c =

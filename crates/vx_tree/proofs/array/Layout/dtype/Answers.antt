@@ -17,11 +17,11 @@ returns-in-Struct c = grind (arith, common_steps)
 pub returns-in-VarBinView : goal.returns-in-VarBinView
 returns-in-VarBinView c = grind (arith, common_steps)
 
-pub returns-in_ok-dtype-in-Dict : goal.returns-in_ok-dtype-in-Dict
-returns-in_ok-dtype-in-Dict c = grind (arith, common_steps)
+pub returns-in-Dict : goal.returns-in-Dict
+returns-in-Dict c = grind (arith, common_steps)
 
-pub returns-in_ok-items-in-FixedSizeList : goal.returns-in_ok-items-in-FixedSizeList
-returns-in_ok-items-in-FixedSizeList c = grind (arith, common_steps)
+pub returns-in-FixedSizeList : goal.returns-in-FixedSizeList
+returns-in-FixedSizeList c = grind (arith, common_steps)
 
-pub returns-in_ok-items-in-ListView : goal.returns-in_ok-items-in-ListView
-returns-in_ok-items-in-ListView c = grind (arith, common_steps)
+pub returns-in-ListView : goal.returns-in-ListView
+returns-in-ListView c = grind (arith, common_steps)
