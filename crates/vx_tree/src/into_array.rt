@@ -1,7 +1,9 @@
 // Truth values and numbers as arrays of which no row is null.
 
+ghost use Rattle.std.specs.Prelude.{◌≡◌};
 ghost use Rattle.vx_base.specs.Refusals.{Gives};
 ghost use Rattle.vx_tree.specs.Tree.{Tree};
+ghost use Rattle.vx_tree.specs.Becomes.{array_of_mask};
 
 use crate::array::{ArrayRef, Validity};
 use crate::validity::constant_truth;
@@ -60,13 +62,22 @@ impl IntoArray for Mask {
     ghost becomes = { λ m t. t ≡ array_of_mask m };
 
     fn into_array(self, alloc: Global) -> Result<ArrayRef, VortexError> {
-        if self.all_true() {
-            return constant_truth(alloc, true, self.len());
-        }
-        match self.values() {
-            Some(values) => values.into_array(alloc),
-            None => constant_truth(alloc, false, self.len()),
-        }
+        let array = array_of_mask(alloc, &self);
+        drop(self);
+        array
+    }
+}
+
+// The array of these rows: of booleans that are all alike a constant.
+fn array_of_mask(alloc: Global, mask: &Mask) -> Result<ArrayRef, VortexError>
+    ensures { Gives result (λ t. t ≡ array_of_mask mask.now) }
+{
+    if mask.all_true() {
+        return constant_truth(alloc, true, mask.len());
+    }
+    match mask.values() {
+        Some(values) => values.into_array(alloc),
+        None => constant_truth(alloc, false, mask.len()),
     }
 }
 

@@ -31,6 +31,8 @@ impl ArrayRef {
     {
         let nulls = Validity::Array(mask.try_clone(alloc)?);
         nulls.check(self.len())?;
-        Ok(self.nulled(alloc, &nulls)?)
+        let masked = self.nulled(alloc, &nulls);
+        drop(nulls);
+        Ok(masked?)
     }
 }

@@ -34,12 +34,14 @@ pub(crate) fn number_indices<'a>(
     ensures refuses { Refuses result (indices_fault len (primitive ptype bytes.now (valid_of validity.now))) }
 {
     match validity {
-        Validity::NonNullable => Ok(plain_indices(ptype, bytes, len)?),
-        Validity::AllValid => Ok(plain_indices(ptype, bytes, len)?),
+        Validity::NonNullable => plain_indices(ptype, bytes, len),
+        Validity::AllValid => plain_indices(ptype, bytes, len),
         Validity::AllInvalid => Ok(Indices::repeated(0, number_count(bytes, ptype))),
         Validity::Array(array) => {
             let valid = array.plain_bits(alloc)?;
-            Ok(masked_indices(alloc, ptype, bytes, &valid, len)?)
+            let indices = masked_indices(alloc, ptype, bytes, &valid, len);
+            drop(valid);
+            indices
         }
     }
 }
@@ -132,8 +134,18 @@ fn valid_numbers(
         ≡ map (number_under (numbers ptype bytes.now) valid.now.bits) (range_with_len 0 (length valid.now.bits))) }
 {
     let mut own = vec![in alloc; 0u8; bytes.len()]?;
-    call_native!(ptype, put_valid_numbers(bytes, valid, &mut own));
+    put_numbers(ptype, bytes, valid, &mut own);
     Ok(own)
+}
+
+// Writes the numbers whose bit is set, over bytes of their own, with 0 for each other.
+fn put_numbers(ptype: PType, bytes: &[u8], valid: &BitBuffer, out: &mut [u8])
+    requires bits { length valid.now.bits ≡ length (numbers ptype bytes.now) }
+    requires room { length out.old ≡ length (numbers ptype bytes.now) * byte_width ptype }
+    ensures { numbers ptype out.new
+        ≡ map (number_under (numbers ptype bytes.now) valid.now.bits) (range_with_len 0 (length valid.now.bits)) }
+{
+    call_native!(ptype, put_valid_numbers(bytes, valid, out))
 }
 
 // Writes the numbers of one type whose bit is set, over bytes of their own, with 0 for each other.

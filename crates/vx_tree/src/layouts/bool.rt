@@ -45,8 +45,13 @@ impl ArrayRef {
             unreachable!();
         };
         let bits = bits.slice(alloc, start..end)?;
-        let validity = validity.slice_within(alloc, start, end)?;
-        self.with_parts(alloc, Layout::Bool { bits, validity })
+        match validity.slice_within(alloc, start, end) {
+            Ok(validity) => self.with_parts(alloc, Layout::Bool { bits, validity }),
+            Err(error) => {
+                drop(bits);
+                Err(error)
+            }
+        }
     }
 
     #[cycle(select)]
@@ -63,8 +68,13 @@ impl ArrayRef {
             unreachable!();
         };
         let bits = gather_bits(alloc, bits, selection)?;
-        let validity = validity.select_within(alloc, selection)?;
-        self.with_parts(alloc, Layout::Bool { bits, validity })
+        match validity.select_within(alloc, selection) {
+            Ok(validity) => self.with_parts(alloc, Layout::Bool { bits, validity }),
+            Err(error) => {
+                drop(bits);
+                Err(error)
+            }
+        }
     }
 
     pub(crate) fn null_bools(
@@ -82,7 +92,13 @@ impl ArrayRef {
             unreachable!();
         };
         let validity = validity.nulls(alloc, len, nulls)?;
-        ArrayRef::bools(alloc, BitBuffer::new_unset(alloc, len)?, validity)
+        match BitBuffer::new_unset(alloc, len) {
+            Ok(bits) => ArrayRef::bools(alloc, bits, validity),
+            Err(error) => {
+                drop(validity);
+                Err(error)
+            }
+        }
     }
 
     // The value of row `i`, `None` where it is null.

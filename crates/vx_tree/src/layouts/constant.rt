@@ -42,7 +42,7 @@ impl ArrayRef {
         let Layout::Constant { scalar, .. } = self.layout() else {
             unreachable!();
         };
-        ArrayRef::constant(alloc, scalar.try_clone(alloc)?, end - start)
+        shared_constant(alloc, scalar, end - start)
     }
 
     pub(crate) fn select_constant(
@@ -57,7 +57,7 @@ impl ArrayRef {
         let Layout::Constant { scalar, .. } = self.layout() else {
             unreachable!();
         };
-        ArrayRef::constant(alloc, scalar.try_clone(alloc)?, selection.len())
+        shared_constant(alloc, scalar, selection.len())
     }
 
     // The rows at which the mask is true, of which only the number tells.
@@ -73,7 +73,7 @@ impl ArrayRef {
         let Layout::Constant { scalar, .. } = self.layout() else {
             unreachable!();
         };
-        ArrayRef::constant(alloc, scalar.try_clone(alloc)?, mask.true_count())
+        shared_constant(alloc, scalar, mask.true_count())
     }
 
     // A constant where null may not stand under the validity, else a dictionary of the one row.
@@ -141,11 +141,23 @@ fn constant_or_null(
     ensures one_value { IfOk result HasOneValue }
 {
     if !nulls.is_nullable() {
-        return ArrayRef::constant(alloc, scalar.try_clone(alloc)?, len);
+        return shared_constant(alloc, scalar, len);
     }
     let codes = ArrayRef::zero_codes(alloc, len, nulls)?;
-    let values = ArrayRef::constant(alloc, scalar.try_clone(alloc)?, 1)?;
-    ArrayRef::dictionary(alloc, codes, values, false)
+    match shared_constant(alloc, scalar, 1) {
+        Ok(values) => ArrayRef::dictionary(alloc, codes, values, false),
+        Err(error) => {
+            drop(codes);
+            Err(error)
+        }
+    }
+}
+
+// The row `len` times, its parts shared.
+fn shared_constant(alloc: Global, scalar: &Scalar, len: usize) -> Result<ArrayRef, VortexError>
+    ensures { Gives result (λ a. a ≡ constant scalar.now.kind scalar.now.row len) }
+{
+    ArrayRef::constant(alloc, scalar.try_clone(alloc)?, len)
 }
 
 /// The validity of rows that are all this one. For the crates above.

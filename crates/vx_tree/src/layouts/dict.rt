@@ -60,8 +60,13 @@ impl ArrayRef {
             unreachable!();
         };
         let codes = codes.slice_within(alloc, start, end)?;
-        let values = values.try_clone(alloc)?;
-        ArrayRef::dictionary(alloc, codes, values, false)
+        match values.try_clone(alloc) {
+            Ok(values) => ArrayRef::dictionary(alloc, codes, values, false),
+            Err(error) => {
+                drop(codes);
+                Err(error)
+            }
+        }
     }
 
     #[cycle(select)]
@@ -79,8 +84,13 @@ impl ArrayRef {
             unreachable!();
         };
         let codes = codes.select_within(alloc, selection)?;
-        let values = values.try_clone(alloc)?;
-        ArrayRef::dictionary(alloc, codes, values, false)
+        match values.try_clone(alloc) {
+            Ok(values) => ArrayRef::dictionary(alloc, codes, values, false),
+            Err(error) => {
+                drop(codes);
+                Err(error)
+            }
+        }
     }
 
     #[cycle(nulls)]
@@ -98,8 +108,13 @@ impl ArrayRef {
             unreachable!();
         };
         let codes = codes.nulled(alloc, nulls)?;
-        let values = values.try_clone(alloc)?;
-        ArrayRef::dictionary(alloc, codes, values, false)
+        match values.try_clone(alloc) {
+            Ok(values) => ArrayRef::dictionary(alloc, codes, values, false),
+            Err(error) => {
+                drop(codes);
+                Err(error)
+            }
+        }
     }
 
     #[cycle(null_rows)]
@@ -119,8 +134,13 @@ impl ArrayRef {
             unreachable!();
         };
         let codes = codes.nulls(alloc, len, nulls)?;
-        let values = values.try_clone(alloc)?;
-        ArrayRef::dictionary(alloc, codes, values, false)
+        match values.try_clone(alloc) {
+            Ok(values) => ArrayRef::dictionary(alloc, codes, values, false),
+            Err(error) => {
+                drop(codes);
+                Err(error)
+            }
+        }
     }
 
     // The position below `len` that the code of row `i` names: none where it is null.

@@ -68,7 +68,13 @@ impl ArrayRef {
         elements.known_len();
         let width = *size as usize;
         let elements = elements.slice_within(alloc, start * width, end * width)?;
-        let validity = validity.slice_within(alloc, start, end)?;
+        let validity = match validity.slice_within(alloc, start, end) {
+            Ok(validity) => validity,
+            Err(error) => {
+                drop(elements);
+                return Err(error);
+            }
+        };
         let layout = Layout::FixedSizeList {
             elements,
             size: *size,
@@ -145,8 +151,13 @@ impl ArrayRef {
             unreachable!();
         };
         let elements = elements.default_rows(alloc, len * *size as usize)?;
-        let validity = validity.nulls(alloc, len, nulls)?;
-        ArrayRef::fixed_size_list(alloc, elements, *size, validity, len)
+        match validity.nulls(alloc, len, nulls) {
+            Ok(validity) => ArrayRef::fixed_size_list(alloc, elements, *size, validity, len),
+            Err(error) => {
+                drop(elements);
+                Err(error)
+            }
+        }
     }
 
     // The list that row `i` is, `None` where it is null.

@@ -70,9 +70,30 @@ impl ArrayRef {
             unreachable!();
         };
         let elements = elements.try_clone(alloc)?;
-        let offsets = offsets.slice_within(alloc, start, end)?;
-        let sizes = sizes.slice_within(alloc, start, end)?;
-        let validity = validity.slice_within(alloc, start, end)?;
+        let offsets = match offsets.slice_within(alloc, start, end) {
+            Ok(offsets) => offsets,
+            Err(error) => {
+                drop(elements);
+                return Err(error);
+            }
+        };
+        let sizes = match sizes.slice_within(alloc, start, end) {
+            Ok(sizes) => sizes,
+            Err(error) => {
+                drop(elements);
+                drop(offsets);
+                return Err(error);
+            }
+        };
+        let validity = match validity.slice_within(alloc, start, end) {
+            Ok(validity) => validity,
+            Err(error) => {
+                drop(elements);
+                drop(offsets);
+                drop(sizes);
+                return Err(error);
+            }
+        };
         let layout = Layout::ListView {
             elements,
             offsets,
@@ -162,10 +183,30 @@ impl ArrayRef {
             unreachable!();
         };
         let elements = elements.try_clone(alloc)?;
-        let offsets = offsets.default_rows(alloc, len)?;
-        let sizes = sizes.default_rows(alloc, len)?;
-        let validity = validity.nulls(alloc, len, nulls)?;
-        ArrayRef::list_view(alloc, elements, offsets, sizes, validity, false)
+        let offsets = match offsets.default_rows(alloc, len) {
+            Ok(offsets) => offsets,
+            Err(error) => {
+                drop(elements);
+                return Err(error);
+            }
+        };
+        let sizes = match sizes.default_rows(alloc, len) {
+            Ok(sizes) => sizes,
+            Err(error) => {
+                drop(elements);
+                drop(offsets);
+                return Err(error);
+            }
+        };
+        match validity.nulls(alloc, len, nulls) {
+            Ok(validity) => ArrayRef::list_view(alloc, elements, offsets, sizes, validity, false),
+            Err(error) => {
+                drop(elements);
+                drop(offsets);
+                drop(sizes);
+                Err(error)
+            }
+        }
     }
 
     // The list that row `i` is, `None` where it is null.

@@ -64,7 +64,13 @@ impl ArrayRef {
             unreachable!();
         };
         let bytes = slice_numbers(alloc, bytes, *ptype, start..end)?;
-        let validity = validity.slice_within(alloc, start, end)?;
+        let validity = match validity.slice_within(alloc, start, end) {
+            Ok(validity) => validity,
+            Err(error) => {
+                drop(bytes);
+                return Err(error);
+            }
+        };
         let layout = Layout::Primitive {
             ptype: *ptype,
             bytes,
@@ -92,7 +98,13 @@ impl ArrayRef {
             unreachable!();
         };
         let bytes = gather_numbers(alloc, *ptype, bytes.as_slice(), selection)?;
-        let validity = validity.select_within(alloc, selection)?;
+        let validity = match validity.select_within(alloc, selection) {
+            Ok(validity) => validity,
+            Err(error) => {
+                drop(bytes);
+                return Err(error);
+            }
+        };
         let layout = Layout::Primitive {
             ptype: *ptype,
             bytes,
@@ -121,7 +133,13 @@ impl ArrayRef {
             unreachable!();
         };
         let validity = validity.nulls(alloc, len, nulls)?;
-        ArrayRef::primitive(alloc, *ptype, zero_numbers(alloc, *ptype, len)?, validity)
+        match zero_numbers(alloc, *ptype, len) {
+            Ok(bytes) => ArrayRef::primitive(alloc, *ptype, bytes, validity),
+            Err(error) => {
+                drop(validity);
+                Err(error)
+            }
+        }
     }
 
     // The value of row `i`, `None` where it is null.

@@ -71,8 +71,21 @@ impl ArrayRef {
             unreachable!();
         };
         let names = names.try_clone(alloc)?;
-        let columns = ArrayRef::slice_columns(alloc, columns, start, end)?;
-        let validity = validity.slice_within(alloc, start, end)?;
+        let columns = match ArrayRef::slice_columns(alloc, columns, start, end) {
+            Ok(columns) => columns,
+            Err(error) => {
+                drop(names);
+                return Err(error);
+            }
+        };
+        let validity = match validity.slice_within(alloc, start, end) {
+            Ok(validity) => validity,
+            Err(error) => {
+                drop(names);
+                drop(columns);
+                return Err(error);
+            }
+        };
         let layout = Layout::Struct {
             names,
             columns,
@@ -122,8 +135,21 @@ impl ArrayRef {
             unreachable!();
         };
         let names = names.try_clone(alloc)?;
-        let columns = ArrayRef::select_columns(alloc, columns, selection)?;
-        let validity = validity.select_within(alloc, selection)?;
+        let columns = match ArrayRef::select_columns(alloc, columns, selection) {
+            Ok(columns) => columns,
+            Err(error) => {
+                drop(names);
+                return Err(error);
+            }
+        };
+        let validity = match validity.select_within(alloc, selection) {
+            Ok(validity) => validity,
+            Err(error) => {
+                drop(names);
+                drop(columns);
+                return Err(error);
+            }
+        };
         let layout = Layout::Struct {
             names,
             columns,
@@ -186,9 +212,21 @@ impl ArrayRef {
             unreachable!();
         };
         let validity = validity.nulls(alloc, len, nulls)?;
-        let names = names.try_clone(alloc)?;
-        let columns = default_columns(alloc, columns, len)?;
-        ArrayRef::structure(alloc, names, columns, validity, len)
+        let names = match names.try_clone(alloc) {
+            Ok(names) => names,
+            Err(error) => {
+                drop(validity);
+                return Err(error);
+            }
+        };
+        match default_columns(alloc, columns, len) {
+            Ok(columns) => ArrayRef::structure(alloc, names, columns, validity, len),
+            Err(error) => {
+                drop(validity);
+                drop(names);
+                Err(error)
+            }
+        }
     }
 
     // The record that row `i` is, `None` where it is null.

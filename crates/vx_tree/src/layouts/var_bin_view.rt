@@ -77,10 +77,30 @@ impl ArrayRef {
             unreachable!();
         };
         let views = views.slice(alloc, start..end)?;
-        let buffers = share_buffers(alloc, buffers)?;
-        let dtype = dtype.try_clone(alloc)?;
-        let validity = validity.slice_within(alloc, start, end)?;
-        ArrayRef::var_bin_view(alloc, views, buffers, dtype, validity)
+        let buffers = match share_buffers(alloc, buffers) {
+            Ok(buffers) => buffers,
+            Err(error) => {
+                drop(views);
+                return Err(error);
+            }
+        };
+        let dtype = match dtype.try_clone(alloc) {
+            Ok(dtype) => dtype,
+            Err(error) => {
+                drop(views);
+                drop(buffers);
+                return Err(error);
+            }
+        };
+        match validity.slice_within(alloc, start, end) {
+            Ok(validity) => ArrayRef::var_bin_view(alloc, views, buffers, dtype, validity),
+            Err(error) => {
+                drop(views);
+                drop(buffers);
+                drop(dtype);
+                Err(error)
+            }
+        }
     }
 
     #[cycle(select)]
@@ -217,8 +237,16 @@ impl ArrayRef {
         let dtype = dtype
             .try_clone(alloc)?
             .union_nullability(nulls.nullability());
-        let validity = validity.nulls(alloc, len, nulls)?;
-        empty_views(alloc, len, buffers, &dtype, validity)
+        let validity = match validity.nulls(alloc, len, nulls) {
+            Ok(validity) => validity,
+            Err(error) => {
+                drop(dtype);
+                return Err(error);
+            }
+        };
+        let array = empty_views(alloc, len, buffers, &dtype, validity);
+        drop(dtype);
+        array
     }
 
     /// The bytes of row `i`, a text or a byte list, `None` where it is null: those in the view or

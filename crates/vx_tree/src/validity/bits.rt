@@ -137,7 +137,7 @@ impl Validity {
                 if !array.dtype().is_plain_bool() {
                     return Err(VortexError::MismatchedTypes);
                 }
-                Ok(array.plain_true_count(alloc)?)
+                array.plain_true_count(alloc)
             }
         }
     }
@@ -176,9 +176,11 @@ fn of_bits(
 {
     let true_count = bits.true_count();
     if true_count == bits.len() {
+        drop(bits);
         return Ok(Validity::full(nullability));
     }
     if true_count == 0 {
+        drop(bits);
         return Ok(Validity::AllInvalid);
     }
     told_by(alloc, bits)

@@ -119,8 +119,17 @@ fn bits_and(
         return repeated_and(alloc, other.truth_at(0), array);
     }
     let mine = array.plain_bits(alloc)?;
-    let theirs = other.plain_bits(alloc)?;
-    told_by(alloc, joined_bits(alloc, &mine, &theirs, last)?)
+    let theirs = match other.plain_bits(alloc) {
+        Ok(theirs) => theirs,
+        Err(error) => {
+            drop(mine);
+            return Err(error);
+        }
+    };
+    let joined = joined_bits(alloc, &mine, &theirs, last);
+    drop(mine);
+    drop(theirs);
+    told_by(alloc, joined?)
 }
 
 // The bits that are set in both, with the last byte kept or cleared.

@@ -44,8 +44,17 @@ impl Validity {
         ensures { Gives result (λ b. IsTrue b ↔ (valid_mask (valid_of self.now) len ≡ valid_mask (valid_of other.now) len)) }
     {
         let mine = self.to_array(alloc, len)?;
-        let theirs = other.to_array(alloc, len)?;
-        same_truths(alloc, &mine, &theirs)
+        let theirs = match other.to_array(alloc, len) {
+            Ok(theirs) => theirs,
+            Err(error) => {
+                drop(mine);
+                return Err(error);
+            }
+        };
+        let same = same_truths(alloc, &mine, &theirs);
+        drop(mine);
+        drop(theirs);
+        same
     }
 
     /// Valid where the mask is true: by the nullability where all rows are, `AllInvalid` where none
@@ -60,7 +69,9 @@ impl Validity {
         ensures given { Gives result (λ v. valid_of v ≡ valid_from 0 mask (full_valid (is_nullable nullability))) }
         ensures mask { IfOk result (λ v. valid_mask (valid_of v) (length mask) ≡ mask) }
     {
-        let validity = of_mask(alloc, &mask, nullability)?;
+        let validity = of_mask(alloc, &mask, nullability);
+        drop(mask);
+        let validity = validity?;
         Ok(validity)
     }
 }
@@ -87,6 +98,15 @@ fn same_truths(alloc: Global, mine: &ArrayRef, theirs: &ArrayRef) -> Result<bool
         ≡ valid_mask (by_array theirs.now) (tree_len theirs.now))) }
 {
     let mine = mine.plain_bits(alloc)?;
-    let theirs = theirs.plain_bits(alloc)?;
-    Ok(mine == theirs)
+    let theirs = match theirs.plain_bits(alloc) {
+        Ok(theirs) => theirs,
+        Err(error) => {
+            drop(mine);
+            return Err(error);
+        }
+    };
+    let same = mine == theirs;
+    drop(mine);
+    drop(theirs);
+    Ok(same)
 }

@@ -25,11 +25,11 @@ ArrayRef::select_list_view-returns t c =
     (valid_of c.in-ListView.validity) (valid_of c.in-Ok-select_within-2.validity) c.in-ListView.flag c.args.selection.now same (rw c.in_ok-elements.ensures at e) c.in-Ok.ensures c.in-Ok-select_within.ensures c.in-Ok-select_within-2.ensures)
     c.with_parts.ensures
 
-pub ArrayRef::select_dictionary-returns : goal.ArrayRef::select_dictionary-returns
-ArrayRef::select_dictionary-returns t c =
+pub ArrayRef::select_dictionary-returns-in-Ok : goal.ArrayRef::select_dictionary-returns-in-Ok
+ArrayRef::select_dictionary-returns-in-Ok t c =
     let same = sym c.layout.ensures.parts ∙ ap tree_of c.in-Dict.is in
     Gives-weaker c.dictionary.result _ _
-    (λ a e. dictionary_selected c.args.self.now a c.in-Dict.codes c.in-Dict.values c.in_ok-codes.codes c.in-Dict.flag c.args.selection.now same (rw c.in_ok-values.ensures at e) c.in_ok-codes.ensures)
+    (λ a e. dictionary_selected c.args.self.now a c.in-Dict.codes c.in-Dict.values c.in_ok-codes.codes c.in-Dict.flag c.args.selection.now same (rw c.in-Ok.ensures at e) c.in_ok-codes.ensures)
     c.dictionary.ensures
 
 pub ArrayRef::select_list_view-select_within-requires-3 : goal.ArrayRef::select_list_view-select_within-requires-3
@@ -137,6 +137,6 @@ pub ArrayRef::select_struct-returns : goal.ArrayRef::select_struct-returns
 ArrayRef::select_struct-returns t c =
     let same = sym c.layout.ensures.parts ∙ ap tree_of c.in-Struct.is in
     Gives-weaker c.with_parts.result _ _
-    (λ a e. struct_selected c.args.self.now a c.in-Struct.names (trees_from c.in-Struct.columns.items) (trees_from c.in_ok-columns.columns.items) (valid_of c.in-Struct.validity) (valid_of c.in_ok-validity.validity) c.in-Struct.len c.args.selection.now
-    same (rw (c.in_ok-names.ensures, c.len.ensures) at e) (rw c.deref.ensures.value at c.in_ok-columns.ensures) c.in_ok-validity.ensures)
+    (λ a e. struct_selected c.args.self.now a c.in-Struct.names (trees_from c.in-Struct.columns.items) (trees_from c.in-Ok.columns.items) (valid_of c.in-Struct.validity) (valid_of c.in-Ok-select_within.validity) c.in-Struct.len c.args.selection.now
+    same (rw (c.in_ok-names.ensures, c.len.ensures) at e) (rw c.deref.ensures.value at c.in-Ok.ensures) c.in-Ok-select_within.ensures)
     c.with_parts.ensures

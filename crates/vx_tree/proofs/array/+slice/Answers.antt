@@ -13,11 +13,11 @@ use Rattle.vx_tree.proofs.Sliced.{lists_sliced}
 use Rattle.vx_tree.proofs.Columns.{AreSlices-from_each, struct_sliced, AllReach-at, AllReach-from_len, AllZip-next, columns_below}
 use Rattle.vx_tree.proofs.array.+slice.Goals as goal
 
-pub ArrayRef::slice_dictionary-returns : goal.ArrayRef::slice_dictionary-returns
-ArrayRef::slice_dictionary-returns t c =
+pub ArrayRef::slice_dictionary-returns-in-Ok : goal.ArrayRef::slice_dictionary-returns-in-Ok
+ArrayRef::slice_dictionary-returns-in-Ok t c =
     let same = sym c.layout.ensures.parts ∙ ap tree_of c.in-Dict.is in
     Gives-weaker c.dictionary.result _ _
-    (λ a e. dictionary_sliced c.args.self.now a c.in-Dict.codes c.in-Dict.values c.in_ok-codes.codes c.in-Dict.flag c.args.start (c.args.end - c.args.start) same (rw c.in_ok-values.ensures at e) c.in_ok-codes.ensures)
+    (λ a e. dictionary_sliced c.args.self.now a c.in-Dict.codes c.in-Dict.values c.in_ok-codes.codes c.in-Dict.flag c.args.start (c.args.end - c.args.start) same (rw c.in-Ok.ensures at e) c.in_ok-codes.ensures)
     c.dictionary.ensures
 
 pub ArrayRef::slice_list_view-slice_within-requires-3 : goal.ArrayRef::slice_list_view-slice_within-requires-3
@@ -30,8 +30,8 @@ pub ArrayRef::slice_list_view-returns : goal.ArrayRef::slice_list_view-returns
 ArrayRef::slice_list_view-returns t c =
     let same = sym c.layout.ensures.parts ∙ ap tree_of c.in-ListView.is in
     Gives-weaker c.with_parts.result _ _
-    (λ a e. lists_sliced c.args.self.now a c.in-ListView.elements c.in-ListView.offsets c.in-ListView.sizes c.in_ok-offsets.offsets c.in_ok-sizes.sizes
-    (valid_of c.in-ListView.validity) (valid_of c.in_ok-validity.validity) c.in-ListView.flag c.args.start (c.args.end - c.args.start) same (rw c.in_ok-elements.ensures at e) c.in_ok-offsets.ensures c.in_ok-sizes.ensures c.in_ok-validity.ensures)
+    (λ a e. lists_sliced c.args.self.now a c.in-ListView.elements c.in-ListView.offsets c.in-ListView.sizes c.in-Ok.offsets c.in-Ok-slice_within.sizes
+    (valid_of c.in-ListView.validity) (valid_of c.in-Ok-slice_within-2.validity) c.in-ListView.flag c.args.start (c.args.end - c.args.start) same (rw c.in_ok-elements.ensures at e) c.in-Ok.ensures c.in-Ok-slice_within.ensures c.in-Ok-slice_within-2.ensures)
     c.with_parts.ensures
 
 pub ArrayRef::slice_fixed_lists-returns : goal.ArrayRef::slice_fixed_lists-returns
@@ -39,7 +39,7 @@ ArrayRef::slice_fixed_lists-returns t c =
     let same = sym c.layout.ensures.parts ∙ ap tree_of c.in-FixedSizeList.is in
     Gives-weaker c.with_parts.result _ _
     (λ a e. fixed_lists_sliced c.args.self.now a c.in-FixedSizeList.elements c.in_ok-elements.elements c.in-FixedSizeList.size c.in-FixedSizeList.len c.args.start c.args.end
-    (valid_of c.in-FixedSizeList.validity) (valid_of c.in_ok-validity.validity) c.requires.start_le_end same e c.in_ok-elements.ensures c.in_ok-validity.ensures)
+    (valid_of c.in-FixedSizeList.validity) (valid_of c.in-Ok.validity) c.requires.start_le_end same e c.in_ok-elements.ensures c.in-Ok.ensures)
     c.with_parts.ensures
 
 pub ArrayRef::slice_struct-slice_columns-requires : goal.ArrayRef::slice_struct-slice_columns-requires
@@ -70,6 +70,6 @@ pub ArrayRef::slice_struct-returns : goal.ArrayRef::slice_struct-returns
 ArrayRef::slice_struct-returns t c =
     let same = sym c.layout.ensures.parts ∙ ap tree_of c.in-Struct.is in
     Gives-weaker c.with_parts.result _ _
-    (λ a e. struct_sliced c.args.self.now a c.in-Struct.names (trees_from c.in-Struct.columns.items) (trees_from c.in_ok-columns.columns.items) (valid_of c.in-Struct.validity) (valid_of c.in_ok-validity.validity) c.in-Struct.len c.args.start (c.args.end - c.args.start)
-    same (rw c.in_ok-names.ensures at e) (rw c.deref.ensures.value at c.in_ok-columns.ensures) c.in_ok-validity.ensures)
+    (λ a e. struct_sliced c.args.self.now a c.in-Struct.names (trees_from c.in-Struct.columns.items) (trees_from c.in-Ok.columns.items) (valid_of c.in-Struct.validity) (valid_of c.in-Ok-slice_within.validity) c.in-Struct.len c.args.start (c.args.end - c.args.start)
+    same (rw c.in_ok-names.ensures at e) (rw c.deref.ensures.value at c.in-Ok.ensures) c.in-Ok-slice_within.ensures)
     c.with_parts.ensures

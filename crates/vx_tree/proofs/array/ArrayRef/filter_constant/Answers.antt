@@ -8,6 +8,6 @@ pub returns : goal.returns
 returns c =
     let scalar = c.in-Constant.scalar in
     let same = sym c.layout.ensures.parts ∙ ap tree_of c.in-Constant.is in
-    Gives-weaker c.constant.result _ _
-    (λ a e. constant_filtered c.args.self.now a scalar.kind scalar.row c.in-Constant.len c.true_count.result c.args.mask.now same (rw c.in_ok-try_clone.ensures at e) c.true_count.ensures)
-    c.constant.ensures
+    Gives-weaker c.shared_constant.result _ _
+    (λ a e. constant_filtered c.args.self.now a scalar.kind scalar.row c.in-Constant.len c.true_count.result c.args.mask.now same e c.true_count.ensures)
+    c.shared_constant.ensures

@@ -13,8 +13,8 @@ returns-clause-rows c =
     let m = c.args.mask.now in
     let same = c.in_ok-try_clone.ensures in
     let fits : IsMask m (tree_len t) = rw (same, c.len.ensures) at c.in_ok-check.ensures.fits in
-    let nulled : IsNulled t (by_array m) c.in_ok-nulled.field-0 = rw same at c.in_ok-nulled.ensures.by_row in
-    rows_masked t m c.in_ok-nulled.field-0 fits.len nulled
+    let nulled : IsNulled t (by_array m) c.in_ok-masked.field-0 = rw same at c.in_ok-masked.ensures.by_row in
+    rows_masked t m c.in_ok-masked.field-0 fits.len nulled
 
 pub returns-clause-by_row : goal.returns-clause-by_row
 returns-clause-by_row c = grind (arith, common_steps)

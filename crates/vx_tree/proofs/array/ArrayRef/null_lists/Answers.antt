@@ -7,14 +7,14 @@ use Rattle.vx_tree.proofs.array.ArrayRef.null_lists.Goals as goal
 pub list_view-requires : goal.list_view-requires
 list_view-requires c =
     let parts = c.in-ListView in
-    rw c.in_ok-elements.ensures (null_lists_formed parts.elements parts.offsets parts.sizes c.in_ok-offsets.offsets c.in_ok-sizes.sizes (valid_of parts.validity) (valid_of c.in_ok-validity.validity) parts.flag c.args.len
-    (rw parts.is at c.layout.ensures.formed) c.in_ok-offsets.ensures c.in_ok-sizes.ensures c.in_ok-validity.ensures.fits)
+    rw c.in_ok-elements.ensures (null_lists_formed parts.elements parts.offsets parts.sizes c.in-Ok.offsets c.in-Ok-default_rows.sizes (valid_of parts.validity) (valid_of c.in-Ok-nulls.validity) parts.flag c.args.len
+    (rw parts.is at c.layout.ensures.formed) c.in-Ok.ensures c.in-Ok-default_rows.ensures c.in-Ok-nulls.ensures.fits)
 
-pub returns : goal.returns
-returns c =
+pub returns-in-Ok-nulls : goal.returns-in-Ok-nulls
+returns-in-Ok-nulls c =
     let parts = c.in-ListView in
     let same = sym c.layout.ensures.parts ∙ ap tree_of parts.is in
     Gives-weaker c.list_view.result _ _
-    (λ a e. lists_null c.args.self.now a parts.elements parts.offsets parts.sizes c.in_ok-offsets.offsets c.in_ok-sizes.sizes (valid_of parts.validity) (valid_of c.args.nulls.now) (valid_of c.in_ok-validity.validity) parts.flag c.args.len same
-    (rw c.in_ok-elements.ensures at e) c.in_ok-offsets.ensures c.in_ok-sizes.ensures c.in_ok-validity.ensures)
+    (λ a e. lists_null c.args.self.now a parts.elements parts.offsets parts.sizes c.in-Ok.offsets c.in-Ok-default_rows.sizes (valid_of parts.validity) (valid_of c.args.nulls.now) (valid_of c.in-Ok-nulls.validity) parts.flag c.args.len same
+    (rw c.in_ok-elements.ensures at e) c.in-Ok.ensures c.in-Ok-default_rows.ensures c.in-Ok-nulls.ensures)
     c.list_view.ensures

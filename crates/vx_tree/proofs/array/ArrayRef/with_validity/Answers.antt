@@ -34,3 +34,28 @@ pub returns-in-Struct : goal.returns-in-Struct
 returns-in-Struct c =
     let same = sym c.layout.ensures.parts ∙ ap tree_of c.in-Struct.is in
     subst (λ t. Gives c.records_under.result (λ a. a ≡ under_validity t (valid_of c.args.validity))) (sym same) (rw c.deref.ensures.value at c.records_under.ensures)
+
+pub bools_under-requires : goal.bools_under-requires
+bools_under-requires c =
+    let same = sym c.layout.ensures.parts ∙ ap tree_of c.in-Bool.is in
+    subst (λ t. WellFormed (under_validity t (valid_of c.args.validity))) same c.requires
+
+pub numbers_under-requires : goal.numbers_under-requires
+numbers_under-requires c =
+    let same = sym c.layout.ensures.parts ∙ ap tree_of c.in-Primitive.is in
+    subst (λ t. WellFormed (under_validity t (valid_of c.args.validity))) same c.requires
+
+pub fixed_lists_under-requires : goal.fixed_lists_under-requires
+fixed_lists_under-requires c =
+    let same = sym c.layout.ensures.parts ∙ ap tree_of c.in-FixedSizeList.is in
+    subst (λ t. WellFormed (under_validity t (valid_of c.args.validity))) same c.requires
+
+pub lists_under-requires : goal.lists_under-requires
+lists_under-requires c =
+    let same = sym c.layout.ensures.parts ∙ ap tree_of c.in-ListView.is in
+    subst (λ t. WellFormed (under_validity t (valid_of c.args.validity))) same c.requires
+
+pub same_views_under-requires : goal.same_views_under-requires
+same_views_under-requires c =
+    let same = sym c.layout.ensures.parts ∙ ap tree_of c.in-VarBinView.is in
+    rw c.deref-in-VarBinView.ensures.value (subst (λ t. WellFormed (under_validity t (valid_of c.args.validity))) same c.requires)

@@ -22,16 +22,16 @@ same_mask all_valid n h = refl
 same_mask all_invalid n h = refl
 same_mask (by_array t) n h = ap (valid_mask (by_array t)) h.len
 
-pub same_truths-requires-clause-mine : goal.same_truths-requires-clause-mine
-same_truths-requires-clause-mine c = ap kind_of c.in_ok-mine.ensures ∙ plain_array (valid_of c.args.self.now) c.args.len c.requires.mine
+pub same_truths-same-requires-clause-mine : goal.same_truths-same-requires-clause-mine
+same_truths-same-requires-clause-mine c = ap kind_of c.in_ok-mine.ensures ∙ plain_array (valid_of c.args.self.now) c.args.len c.requires.mine
 
-pub same_truths-requires-clause-theirs : goal.same_truths-requires-clause-theirs
-same_truths-requires-clause-theirs c = ap kind_of c.in_ok-theirs.ensures ∙ plain_array (valid_of c.args.other.now) c.args.len c.requires.theirs
+pub same_truths-same-requires-clause-theirs : goal.same_truths-same-requires-clause-theirs
+same_truths-same-requires-clause-theirs c = ap kind_of c.in-Ok.ensures ∙ plain_array (valid_of c.args.other.now) c.args.len c.requires.theirs
 
 pub returns : goal.returns
 returns c =
     let v = valid_of c.args.self.now in
     let u = valid_of c.args.other.now in
     let mine = ap (λ t. valid_mask (by_array t) (tree_len t)) c.in_ok-mine.ensures ∙ same_mask v c.args.len c.requires.mine in
-    let theirs = ap (λ t. valid_mask (by_array t) (tree_len t)) c.in_ok-theirs.ensures ∙ same_mask u c.args.len c.requires.theirs in
-    rw (mine, theirs) at c.same_truths.ensures
+    let theirs = ap (λ t. valid_mask (by_array t) (tree_len t)) c.in-Ok.ensures ∙ same_mask u c.args.len c.requires.theirs in
+    rw (mine, theirs) at c.same_truths-same.ensures

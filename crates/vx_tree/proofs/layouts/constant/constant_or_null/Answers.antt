@@ -7,17 +7,17 @@ use Rattle.std.proofs.Common.{arith}
 use Rattle.std.proofs.lemmas.Grind.{common_steps}
 use Rattle.vx_tree.proofs.layouts.constant.constant_or_null.Goals as goal
 
-pub returns-clause-by_row : goal.returns-clause-by_row
-returns-clause-by_row c =
+pub returns-in-Ok-clause-by_row : goal.returns-in-Ok-clause-by_row
+returns-in-Ok-clause-by_row c =
     Gives-weaker c.dictionary.result _ _
-    (λ a e. constant_with_nulls a c.in_ok-codes.codes c.in_ok-values.values c.args.scalar.now.kind c.args.scalar.now.row c.args.len (valid_of c.args.nulls.now) (search rules) (rw c.in_ok-try_clone-2.ensures at c.in_ok-values.ensures) e c.in_ok-codes.ensures)
+    (λ a e. constant_with_nulls a c.in_ok-codes.codes c.in-Ok.values c.args.scalar.now.kind c.args.scalar.now.row c.args.len (valid_of c.args.nulls.now) (search rules) c.in-Ok.ensures e c.in_ok-codes.ensures)
     c.dictionary.ensures
 
 pub dictionary-requires : goal.dictionary-requires
-dictionary-requires c = zero_codes c.in_ok-codes.codes c.in_ok-values.values c.args.len (valid_of c.args.nulls.now) c.in_ok-codes.ensures (ap tree_len c.in_ok-values.ensures)
+dictionary-requires c = zero_codes c.in_ok-codes.codes c.in-Ok.values c.args.len (valid_of c.args.nulls.now) c.in_ok-codes.ensures (ap tree_len c.in-Ok.ensures)
 
-pub returns-clause-one_value : goal.returns-clause-one_value
-returns-clause-one_value c = grind (arith, common_steps)
+pub returns-in-Ok-clause-one_value : goal.returns-in-Ok-clause-one_value
+returns-in-Ok-clause-one_value c = grind (arith, common_steps)
 
 pub returns-then-not-is_nullable-clause-by_row : goal.returns-then-not-is_nullable-clause-by_row
 returns-then-not-is_nullable-clause-by_row c = grind (arith, common_steps)

@@ -11,7 +11,7 @@ returns c =
     let m = c.args.array.now in
     let o = c.args.other.now in
     Gives-weaker c.told_by.result _ _
-    (λ w e. valid_both (by_array m) (by_array o) (valid_of w) m o c.in_ok-mine.mine.bits c.in_ok-theirs.theirs.bits c.in_ok-joined_bits.field-0.bits (tree_len m) refl refl e c.in_ok-mine.ensures.bits c.in_ok-theirs.ensures.bits c.in_ok-joined_bits.ensures
+    (λ w e. valid_both (by_array m) (by_array o) (valid_of w) m o c.in_ok-mine.mine.bits c.in-Ok.theirs.bits c.in_ok-joined.field-0.bits (tree_len m) refl refl e c.in_ok-mine.ensures.bits c.in-Ok.ensures.bits c.in_ok-joined.ensures
     (record { len = refl; kind = c.requires.mine }) (record { len = c.requires.same_len; kind = c.requires.theirs }))
     c.told_by.ensures
 

@@ -4,5 +4,5 @@ use Rattle.vx_tree.proofs.validity.compare.same_truths.Goals as goal
 
 pub returns : goal.returns
 returns c =
-    let d = slice_eq-Decides booleans_Decides c.in_ok-mine.mine.bits c.in_ok-theirs.theirs.bits c.eq.result c.eq.ensures in
-    rw (c.in_ok-mine.ensures.bits, c.in_ok-theirs.ensures.bits) at d
+    let d = slice_eq-Decides booleans_Decides c.in_ok-mine.mine.bits c.in-Ok.theirs.bits c.eq-same.result c.eq-same.ensures in
+    rw (c.in_ok-mine.ensures.bits, c.in-Ok.ensures.bits) at d
