@@ -84,3 +84,7 @@ rows_taken t r indices n qs v e h valid taken =
 pub take_fault-of : (t indices : Tree) (n : ℕ) → is_integers (kind_of indices) ≡ true → indices_fault (tree_len t) indices ≡ None → n ≡ tree_len indices
     → take_fault t indices ≡ take_overflow t n
 take_fault-of t indices n ints none e = rw (ints, none, e) refl
+
+-- where the indices name positions, only their number is refused
+pub taken_refuses : (t indices : Tree) (ps : List ℕ) → is_integers (kind_of indices) ≡ true → indices_fault (tree_len t) indices ≡ None → length ps ≡ tree_len indices → take_overflow t (length ps) ≡ take_fault t indices
+taken_refuses t indices ps ints none long = rw (ints, none, long) refl

@@ -50,7 +50,7 @@ impl ArrayRef {
         let taken = self.take_at(alloc, &positions, &validity);
         drop(validity);
         drop(positions);
-        Ok(taken?)
+        taken
     }
 
     // The rows at these positions, null where the validity is not true: everywhere, where there are
