@@ -38,7 +38,7 @@ impl ArrayRef {
             return Err(VortexError::LengthMismatch { expected, found });
         }
         if matches!(self.layout(), Layout::Constant { .. }) {
-            return Ok(self.filter_constant(alloc, mask)?);
+            return self.filter_constant(alloc, mask);
         }
         let filtered = self.filter_within(alloc, mask)?;
         Ok(filtered)

@@ -33,6 +33,6 @@ impl ArrayRef {
         nulls.check(self.len())?;
         let masked = self.nulled(alloc, &nulls);
         drop(nulls);
-        Ok(masked?)
+        masked
     }
 }

@@ -23,7 +23,7 @@ impl ArrayRef {
         if !self.can_select(selection.len()) {
             return Err(VortexError::Overflow);
         }
-        Ok(self.select_within(alloc, selection)?)
+        self.select_within(alloc, selection)
     }
 
     // Whether so many rows need no more elements than can be counted.

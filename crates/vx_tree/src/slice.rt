@@ -37,7 +37,7 @@ impl ArrayRef {
                 len: range.end,
             });
         }
-        Ok(self.slice_within(alloc, range.start, range.end)?)
+        self.slice_within(alloc, range.start, range.end)
     }
 
     // The rows from `start` up to `end`, which lie within, in the same layout.

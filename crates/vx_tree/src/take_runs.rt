@@ -32,7 +32,7 @@ impl ArrayRef {
     {
         let len = runs_len(runs)?;
         let selection = Selection::of_runs(runs, len);
-        Ok(self.select(alloc, &selection)?)
+        self.select(alloc, &selection)
     }
 }
 
