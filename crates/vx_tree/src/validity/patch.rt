@@ -47,6 +47,24 @@ impl Validity {
         if self.is_unchanged(patches) {
             return Ok(self);
         }
+        let patched = self.patch_nullable(alloc, len, offset, indices, patches);
+        drop(self);
+        patched
+    }
+
+    // Overwrites the rows, where null may stand in both.
+    fn patch_nullable(
+        &self,
+        alloc: Global,
+        len: usize,
+        offset: usize,
+        indices: &ArrayRef,
+        patches: &Validity,
+    ) -> Result<Validity, VortexError>
+        requires { is_unchanged (valid_of self.now) (valid_of patches.now) ≡ false }
+        ensures patched { IfOk result (λ w. IsPatched (valid_of self.now) len offset indices.now (valid_of patches.now) (valid_of w)) }
+        ensures refuses { Refuses result (patch_fault (valid_of self.now) len offset indices.now (valid_of patches.now)) }
+    {
         if !self.is_nullable() {
             return Err(VortexError::NullabilityMismatch);
         }

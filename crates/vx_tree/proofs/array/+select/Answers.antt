@@ -1,13 +1,17 @@
-use Rattle.std.proofs.Common.{ℕ, List, length, rules, ap, subst, sym, ◌∙◌, ◌≡◌, [], None, arith}
+use Rattle.std.proofs.Common.{ℕ, List, ◌*◌, length, map, rules, ap, subst, sym, ◌∙◌, ◌≡◌, [], None, arith}
+use Rattle.std.proofs.lemmas.List.{length-map}
+use Rattle.vx_base.specs.Bits.{bool_at}
+use Rattle.vx_base.specs.Integers.{byte_width, numbers, number_nth}
+use Rattle.vx_base.specs.Kinds.{booleans, integers}
 use denote.Param.Weighed.{at_most}
 use Rattle.vx_tree.specs.declared.array.ArrayRef.TheDeep.{size-ArrayRef}
 use Rattle.vx_tree.specs.Parts.{tree_of, valid_of}
 use Rattle.vx_base.proofs.Refused.{Gives-weaker}
-use Rattle.vx_tree.specs.Meaning.{tree_len, trees_from}
-use Rattle.vx_tree.specs.Formed.{WellFormed}
+use Rattle.vx_tree.specs.Meaning.{tree_len, kind_of, trees_from}
+use Rattle.vx_tree.specs.Formed.{ValidFits, WellFormed}
 use Rattle.vx_tree.specs.Tree.{fixed_list, list_view, view_array, Tree, structure}
 use Rattle.vx_tree.specs.Operations.{IsSelected, AreBelow}
-use Rattle.vx_tree.proofs.Selected.{lists_selected, ValidHasAll-from_fits}
+use Rattle.vx_tree.proofs.Selected.{bools_selected, numbers_selected, lists_selected, ValidHasAll-from_fits}
 use Rattle.vx_tree.proofs.Dictionaries.{dictionary_selected}
 use Rattle.vx_base.proofs.SizedLists.{lists_long}
 use Rattle.vx_tree.proofs.FixedLists.{lists_countable, elements_selected, fixed_lists_selected}
@@ -139,4 +143,45 @@ ArrayRef::select_struct-returns t c =
     Gives-weaker c.with_parts.result _ _
     (λ a e. struct_selected c.args.self.now a c.in-Struct.names (trees_from c.in-Struct.columns.items) (trees_from c.in-Ok.columns.items) (valid_of c.in-Struct.validity) (valid_of c.in-Ok-select_within.validity) c.in-Struct.len c.args.selection.now
     same (rw (c.in_ok-names.ensures, c.len.ensures) at e) (rw c.deref.ensures.value at c.in-Ok.ensures) c.in-Ok-select_within.ensures)
+    c.with_parts.ensures
+
+pub ArrayRef::select_bools-with_parts-requires-clause-formed : goal.ArrayRef::select_bools-with_parts-requires-clause-formed
+ArrayRef::select_bools-with_parts-requires-clause-formed t c =
+    let ps = c.args.selection.now in
+    let long : length c.in_ok-bits.bits.bits ≡ length ps = ap length c.in_ok-bits.ensures.bits ∙ length-map ps (bool_at c.in-Bool.bits.bits) in
+    subst (ValidFits (valid_of c.in-Ok.validity)) (sym long) c.in-Ok.ensures.fits
+
+pub ArrayRef::select_bools-with_parts-requires-clause-kind : goal.ArrayRef::select_bools-with_parts-requires-clause-kind
+ArrayRef::select_bools-with_parts-requires-clause-kind t c =
+    let same = sym c.layout.ensures.parts ∙ ap tree_of c.in-Bool.is in
+    ap booleans c.in-Ok.ensures.kind ∙ sym (ap kind_of same)
+
+pub ArrayRef::select_bools-returns-in-Ok : goal.ArrayRef::select_bools-returns-in-Ok
+ArrayRef::select_bools-returns-in-Ok t c =
+    let same = sym c.layout.ensures.parts ∙ ap tree_of c.in-Bool.is in
+    Gives-weaker c.with_parts.result _ _
+    (λ a e. bools_selected c.args.self.now a c.in-Bool.bits.offset c.in_ok-bits.bits.offset c.in-Bool.bits.bits c.in_ok-bits.bits.bits (valid_of c.in-Bool.validity) (valid_of c.in-Ok.validity) c.args.selection.now same e c.in_ok-bits.ensures.bits c.in-Ok.ensures)
+    c.with_parts.ensures
+
+pub ArrayRef::select_primitive-with_parts-requires-clause-formed : goal.ArrayRef::select_primitive-with_parts-requires-clause-formed
+ArrayRef::select_primitive-with_parts-requires-clause-formed t c =
+    let ps = c.args.selection.now in
+    let p = c.in-Primitive.ptype in
+    let new = c.in_ok-bytes.bytes in
+    let made : numbers p new ≡ map (number_nth (numbers p c.in-Primitive.bytes)) ps = rw c.as_slice.ensures.value at c.in_ok-bytes.ensures.ok in
+    let long : length (numbers p new) ≡ length ps = ap length made ∙ length-map ps (number_nth (numbers p c.in-Primitive.bytes)) in
+    (subst (ValidFits (valid_of c.in-Ok.validity)) (sym long) c.in-Ok.ensures.fits, c.in_ok-bytes.ensures.len ∙ ap (λ (n : ℕ). n * byte_width p) (sym long))
+
+pub ArrayRef::select_primitive-with_parts-requires-clause-kind : goal.ArrayRef::select_primitive-with_parts-requires-clause-kind
+ArrayRef::select_primitive-with_parts-requires-clause-kind t c =
+    let same = sym c.layout.ensures.parts ∙ ap tree_of c.in-Primitive.is in
+    ap (integers c.in-Primitive.ptype) c.in-Ok.ensures.kind ∙ sym (ap kind_of same)
+
+pub ArrayRef::select_primitive-returns : goal.ArrayRef::select_primitive-returns
+ArrayRef::select_primitive-returns t c =
+    let same = sym c.layout.ensures.parts ∙ ap tree_of c.in-Primitive.is in
+    let p = c.in-Primitive.ptype in
+    let made : numbers p c.in_ok-bytes.bytes ≡ map (number_nth (numbers p c.in-Primitive.bytes)) c.args.selection.now = rw c.as_slice.ensures.value at c.in_ok-bytes.ensures.ok in
+    Gives-weaker c.with_parts.result _ _
+    (λ a e. numbers_selected c.args.self.now a p c.in-Primitive.bytes c.in_ok-bytes.bytes (valid_of c.in-Primitive.validity) (valid_of c.in-Ok.validity) c.args.selection.now same e made c.in-Ok.ensures)
     c.with_parts.ensures
