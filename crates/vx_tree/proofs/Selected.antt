@@ -57,7 +57,7 @@ booleans_can_be_selected (view_array vs bs u v) n b e = refl
 
 -- ---- rows, at one position
 
-number_row : (t : PType) (bs new : List ℕ) (v w : Valid) (i k : ℕ) → is_valid_at w i ≡ is_valid_at v k → number_nth (numbers t new) i ≡ number_nth (numbers t bs) k
+pub number_row : (t : PType) (bs new : List ℕ) (v w : Valid) (i k : ℕ) → is_valid_at w i ≡ is_valid_at v k → number_nth (numbers t new) i ≡ number_nth (numbers t bs) k
     → row_at (primitive t new w) i ≡ row_at (primitive t bs v) k
 number_row t bs new v w i k a b = rw (a, b) refl
 
@@ -65,7 +65,7 @@ list_row : (e o s o2 s2 : Tree) (v w : Valid) (f f2 : Bool) (i k : ℕ) → is_v
     → row_at (list_view e o2 s2 w f2) i ≡ row_at (list_view e o s v f) k
 list_row e o s o2 s2 v w f f2 i k a b c = rw (a, b, c) refl
 
-bool_row : (a b : ℕ) (bits new : List Bool) (v w : Valid) (i k : ℕ) → is_valid_at w i ≡ is_valid_at v k → bool_at new i ≡ bool_at bits k → row_at (bools b new w) i ≡ row_at (bools a bits v) k
+pub bool_row : (a b : ℕ) (bits new : List Bool) (v w : Valid) (i k : ℕ) → is_valid_at w i ≡ is_valid_at v k → bool_at new i ≡ bool_at bits k → row_at (bools b new w) i ≡ row_at (bools a bits v) k
 bool_row a b bits new v w i k x y = rw (x, y) refl
 
 -- ---- layouts

@@ -2,12 +2,12 @@ use Rattle.std.proofs.Common.{ℕ, List, ◌*◌, length, map, rules, ap, subst,
 use Rattle.std.proofs.lemmas.List.{length-map}
 use Rattle.vx_base.specs.Bits.{bool_at}
 use Rattle.vx_base.specs.Integers.{byte_width, numbers, number_nth}
-use Rattle.vx_base.specs.Kinds.{booleans, integers}
+use Rattle.vx_base.specs.Kinds.{booleans, integers, lists, fixed_lists}
 use denote.Param.Weighed.{at_most}
 use Rattle.vx_tree.specs.declared.array.ArrayRef.TheDeep.{size-ArrayRef}
 use Rattle.vx_tree.specs.Parts.{tree_of, valid_of}
 use Rattle.vx_base.proofs.Refused.{Gives-weaker}
-use Rattle.vx_tree.specs.Meaning.{tree_len, kind_of, trees_from}
+use Rattle.vx_tree.specs.Meaning.{tree_len, kind_of, nullable, trees_from}
 use Rattle.vx_tree.specs.Formed.{ValidFits, WellFormed}
 use Rattle.vx_tree.specs.Tree.{fixed_list, list_view, view_array, Tree, structure}
 use Rattle.vx_tree.specs.Operations.{IsSelected, AreBelow}
@@ -185,3 +185,15 @@ ArrayRef::select_primitive-returns t c =
     Gives-weaker c.with_parts.result _ _
     (λ a e. numbers_selected c.args.self.now a p c.in-Primitive.bytes c.in_ok-bytes.bytes (valid_of c.in-Primitive.validity) (valid_of c.in-Ok.validity) c.args.selection.now same e made c.in-Ok.ensures)
     c.with_parts.ensures
+
+pub ArrayRef::select_list_view-with_parts-requires-clause-kind : goal.ArrayRef::select_list_view-with_parts-requires-clause-kind
+ArrayRef::select_list_view-with_parts-requires-clause-kind t c =
+    let same = sym c.layout.ensures.parts ∙ ap tree_of c.in-ListView.is in
+    let w = valid_of c.in-Ok-select_within-2.validity in
+    ap (λ (e : Tree). lists (kind_of e) (nullable w)) c.in_ok-elements.ensures ∙ ap (lists (kind_of c.in-ListView.elements)) c.in-Ok-select_within-2.ensures.kind ∙ sym (ap kind_of same)
+
+pub ArrayRef::select_fixed_lists-with_parts-requires-clause-kind : goal.ArrayRef::select_fixed_lists-with_parts-requires-clause-kind
+ArrayRef::select_fixed_lists-with_parts-requires-clause-kind t c =
+    let same = sym c.layout.ensures.parts ∙ ap tree_of c.in-FixedSizeList.is in
+    let size = c.in-FixedSizeList.size in
+    ap (λ k. fixed_lists k size (nullable (valid_of c.in-Ok.validity))) c.in_ok-elements.ensures.kind ∙ ap (fixed_lists (kind_of c.in-FixedSizeList.elements) size) c.in-Ok.ensures.kind ∙ sym (ap kind_of same)

@@ -1,15 +1,17 @@
-use Rattle.std.proofs.Common.{◌-◌, ◌≤◌, rules, ap, arith, subst, sym, ◌∙◌}
+use Rattle.std.proofs.Common.{ℕ, ◌-◌, ◌*◌, ◌≤◌, length, rules, ap, arith, subst, sym, ◌∙◌}
 use denote.Param.Weighed.{at_most}
 use Rattle.vx_tree.specs.declared.array.ArrayRef.TheDeep.{size-ArrayRef}
 use Rattle.vx_tree.specs.Parts.{tree_of, valid_of}
-use Rattle.vx_tree.specs.Meaning.{tree_len, trees_from}
-use Rattle.vx_tree.specs.Formed.{ValidCovers-from_fits, WellFormed}
+use Rattle.vx_base.specs.Integers.{byte_width, numbers}
+use Rattle.vx_base.specs.Kinds.{booleans, integers}
+use Rattle.vx_tree.specs.Meaning.{tree_len, kind_of, trees_from}
+use Rattle.vx_tree.specs.Formed.{ValidCovers-from_fits, ValidFits, WellFormed}
 use Rattle.vx_tree.specs.Operations.{IsSlice}
 use Rattle.vx_tree.specs.Tree.{Tree, list_view, structure}
 use Rattle.vx_base.proofs.Refused.{Gives-weaker}
 use Rattle.vx_tree.proofs.Dictionaries.{dictionary_sliced}
 use Rattle.vx_tree.proofs.FixedLists.{fixed_lists_sliced}
-use Rattle.vx_tree.proofs.Sliced.{lists_sliced}
+use Rattle.vx_tree.proofs.Sliced.{bools_sliced, numbers_sliced, lists_sliced, length_sliced}
 use Rattle.vx_tree.proofs.Columns.{AreSlices-from_each, struct_sliced, AllReach-at, AllReach-from_len, AllZip-next, columns_below}
 use Rattle.vx_tree.proofs.array.+slice.Goals as goal
 
@@ -72,4 +74,43 @@ ArrayRef::slice_struct-returns t c =
     Gives-weaker c.with_parts.result _ _
     (λ a e. struct_sliced c.args.self.now a c.in-Struct.names (trees_from c.in-Struct.columns.items) (trees_from c.in-Ok.columns.items) (valid_of c.in-Struct.validity) (valid_of c.in-Ok-slice_within.validity) c.in-Struct.len c.args.start (c.args.end - c.args.start)
     same (rw c.in_ok-names.ensures at e) (rw c.deref.ensures.value at c.in-Ok.ensures) c.in-Ok-slice_within.ensures)
+    c.with_parts.ensures
+
+pub ArrayRef::slice_bools-with_parts-requires-clause-formed : goal.ArrayRef::slice_bools-with_parts-requires-clause-formed
+ArrayRef::slice_bools-with_parts-requires-clause-formed t c =
+    let same = sym c.layout.ensures.parts ∙ ap tree_of c.in-Bool.is in
+    let long = ap length c.in_ok-bits.ensures.bits ∙ length_sliced c.in-Bool.bits.bits c.args.start c.args.end c.requires.start_le_end (rw same at c.requires.in_bounds) in
+    subst (ValidFits (valid_of c.in-Ok.validity)) (sym long) c.in-Ok.ensures.fits
+
+pub ArrayRef::slice_bools-with_parts-requires-clause-kind : goal.ArrayRef::slice_bools-with_parts-requires-clause-kind
+ArrayRef::slice_bools-with_parts-requires-clause-kind t c =
+    let same = sym c.layout.ensures.parts ∙ ap tree_of c.in-Bool.is in
+    ap booleans c.in-Ok.ensures.kind ∙ sym (ap kind_of same)
+
+pub ArrayRef::slice_bools-returns-in-Ok : goal.ArrayRef::slice_bools-returns-in-Ok
+ArrayRef::slice_bools-returns-in-Ok t c =
+    let same = sym c.layout.ensures.parts ∙ ap tree_of c.in-Bool.is in
+    Gives-weaker c.with_parts.result _ _
+    (λ a e. bools_sliced c.args.self.now a c.in-Bool.bits.offset c.in_ok-bits.bits.offset c.in-Bool.bits.bits c.in_ok-bits.bits.bits (valid_of c.in-Bool.validity) (valid_of c.in-Ok.validity) c.args.start c.args.end
+    c.requires.start_le_end (rw same at c.requires.in_bounds) same e c.in_ok-bits.ensures.bits c.in-Ok.ensures)
+    c.with_parts.ensures
+
+pub ArrayRef::slice_primitive-with_parts-requires-clause-formed : goal.ArrayRef::slice_primitive-with_parts-requires-clause-formed
+ArrayRef::slice_primitive-with_parts-requires-clause-formed t c =
+    let same = sym c.layout.ensures.parts ∙ ap tree_of c.in-Primitive.is in
+    let p = c.in-Primitive.ptype in
+    let long = ap length c.in_ok-bytes.ensures.ok ∙ length_sliced (numbers p c.in-Primitive.bytes) c.args.start c.args.end c.requires.start_le_end (rw same at c.requires.in_bounds) in
+    (subst (ValidFits (valid_of c.in-Ok.validity)) (sym long) c.in-Ok.ensures.fits, c.in_ok-bytes.ensures.len ∙ ap (λ (n : ℕ). n * byte_width p) (sym long))
+
+pub ArrayRef::slice_primitive-with_parts-requires-clause-kind : goal.ArrayRef::slice_primitive-with_parts-requires-clause-kind
+ArrayRef::slice_primitive-with_parts-requires-clause-kind t c =
+    let same = sym c.layout.ensures.parts ∙ ap tree_of c.in-Primitive.is in
+    ap (integers c.in-Primitive.ptype) c.in-Ok.ensures.kind ∙ sym (ap kind_of same)
+
+pub ArrayRef::slice_primitive-returns : goal.ArrayRef::slice_primitive-returns
+ArrayRef::slice_primitive-returns t c =
+    let same = sym c.layout.ensures.parts ∙ ap tree_of c.in-Primitive.is in
+    Gives-weaker c.with_parts.result _ _
+    (λ a e. numbers_sliced c.args.self.now a c.in-Primitive.ptype c.in-Primitive.bytes c.in_ok-bytes.bytes (valid_of c.in-Primitive.validity) (valid_of c.in-Ok.validity) c.args.start c.args.end
+    c.requires.start_le_end (rw same at c.requires.in_bounds) same e c.in_ok-bytes.ensures.ok c.in-Ok.ensures)
     c.with_parts.ensures
