@@ -50,6 +50,23 @@ two a false false r e = rw e refl
 
 -- ---- validities
 
+-- what one of two decides
+pub nulled_by_first : (v u w : Valid) (n : ℕ) → v ≡ non_nullable → w ≡ u → ValidFits u n → IsValidNulled v u n w
+nulled_by_first v u w n a b h = rw (a, b) (record { fits = h; state = refl; plain = λ p q. q; bits = λ i l. refl })
+
+before_true : (b : Bool) → b ≡ (b && true)
+before_true true = refl
+before_true false = refl
+
+pub nulled_everywhere : (v u w : Valid) (n : ℕ) → v ≡ all_invalid → w ≡ all_invalid → IsValidNulled v u n w
+nulled_everywhere v u w n a b = rw (a, b) (record { fits = tt; state = refl; plain = λ p q. p; bits = λ i l. refl })
+
+array_under : (t : Tree) (n : ℕ) → ValidFits (by_array t) n → IsValidNulled (by_array t) all_valid n (by_array t)
+array_under t n h = record { fits = h; state = refl; plain = λ p q. p; bits = λ i l. before_true (is_valid_at (by_array t) i) }
+
+pub nulled_array : (v u w : Valid) (t : Tree) (n : ℕ) → v ≡ by_array t → u ≡ all_valid → w ≡ v → ValidFits v n → IsValidNulled v u n w
+nulled_array v u w t n a b e h = rw (e, a, b) (array_under t n (rw a at h))
+
 length_both : (xs ys : List Bool) → length xs ≡ length ys → length (both xs ys) ≡ length xs
 length_both [] ys e = refl
 length_both (x ∷ xs) [] e = absurd (omega arith)
