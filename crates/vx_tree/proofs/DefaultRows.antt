@@ -7,7 +7,7 @@ use Rattle.vx_base.specs.Defaults.{default_row, default_fields}
 use Rattle.vx_base.specs.Kinds.{Kind, booleans, integers, texts, binaries, lists, fixed_lists, records, kind, is_nullable_kind, is_plain_integers, or_nullable}
 use Rattle.vx_base.specs.Rows.{Row, whole, items, record_of, row, rows_from, field, position_in}
 use Rattle.vx_tree.specs.Tree.{Tree, constant, dictionary, fixed_list, list_view, structure, Valid, non_nullable}
-use Rattle.vx_tree.specs.Meaning.{tree_len, kind_of, kinds_of, is_valid_at, row_at, rows_range, fields_at, trees_from, picked}
+use Rattle.vx_tree.specs.Meaning.{kind_of, kinds_of, is_valid_at, row_at, rows_range, fields_at, trees_from, picked}
 use Rattle.vx_tree.specs.Formed.{AllLen, IsCounts, IsStruct, ValidFits, WellFormed, column_count}
 use Rattle.vx_tree.specs.Shapes.{list_view_shape}
 use Rattle.vx_tree.specs.Operations.{IsNulls, IsValidNulls, IsZeroCodes}

@@ -1,4 +1,4 @@
-use Rattle.std.proofs.Common.{◌≡◌, length, map, refl, ap, sym, ◌∙◌}
+use Rattle.std.proofs.Common.{length, map, refl, ap, sym, ◌∙◌}
 use Rattle.std.specs.List.{range_with_len}
 use Rattle.vx_base.specs.DTypes.{dtype_meaning}
 use Rattle.vx_base.proofs.Refused.{Gives-weaker}

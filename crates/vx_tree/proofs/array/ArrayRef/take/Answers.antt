@@ -1,7 +1,7 @@
-use Rattle.std.proofs.Common.{◌≡◌, ◌∙◌, ap, subst, sym, inl, length, true}
+use Rattle.std.proofs.Common.{◌≡◌, ◌∙◌, ap, subst, true}
 use Rattle.vx_base.specs.Kinds.{or_nullable, is_integers}
 use Rattle.vx_base.specs.Refusals.{Refuses}
-use Rattle.vx_tree.specs.Meaning.{kind_of, tree_len}
+use Rattle.vx_tree.specs.Meaning.{kind_of}
 use Rattle.vx_tree.specs.Parts.{valid_of}
 use Rattle.vx_tree.specs.Shapes.{shape_of, taken_shape}
 use Rattle.vx_tree.proofs.Refusing.{IfOk-weaker}

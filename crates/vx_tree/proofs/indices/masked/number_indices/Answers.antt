@@ -4,7 +4,7 @@ use Rattle.vx_tree.specs.Faults.{indices_fault}
 use Rattle.vx_tree.specs.Tree.{primitive, non_nullable}
 use Rattle.vx_tree.specs.Parts.{valid_of}
 use Rattle.vx_tree.proofs.Named.{mask_counted, faults_under, indices_under, numbers_are_indices}
-use Rattle.vx_tree.proofs.Refusing.{IfOk-weaker, IfOk-tested, Tests-Refuses}
+use Rattle.vx_tree.proofs.Refusing.{IfOk-weaker, IfOk-tested}
 use Rattle.vx_tree.proofs.indices.masked.number_indices.Goals as goal
 
 pub masked_indices-indices-requires-clause-bits : goal.masked_indices-indices-requires-clause-bits
