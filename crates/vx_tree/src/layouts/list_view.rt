@@ -70,13 +70,7 @@ impl ArrayRef {
             unreachable!();
         };
         let elements = elements.try_clone(alloc)?;
-        let offsets = match offsets.slice_within(alloc, start, end) {
-            Ok(offsets) => offsets,
-            Err(error) => {
-                drop(elements);
-                return Err(error);
-            }
-        };
+        let offsets = offsets.slice_within(alloc, start, end)?;
         let sizes = match sizes.slice_within(alloc, start, end) {
             Ok(sizes) => sizes,
             Err(error) => {
@@ -126,13 +120,7 @@ impl ArrayRef {
             unreachable!();
         };
         let elements = elements.try_clone(alloc)?;
-        let offsets = match offsets.select_within(alloc, selection) {
-            Ok(offsets) => offsets,
-            Err(error) => {
-                drop(elements);
-                return Err(error);
-            }
-        };
+        let offsets = offsets.select_within(alloc, selection)?;
         let sizes = match sizes.select_within(alloc, selection) {
             Ok(sizes) => sizes,
             Err(error) => {

@@ -25,8 +25,8 @@ pub ArrayRef::select_list_view-returns : goal.ArrayRef::select_list_view-returns
 ArrayRef::select_list_view-returns t c =
     let same = sym c.layout.ensures.parts ∙ ap tree_of c.in-ListView.is in
     Gives-weaker c.with_parts.result _ _
-    (λ a e. lists_selected c.args.self.now a c.in-ListView.elements c.in-ListView.offsets c.in-ListView.sizes c.in-Ok.offsets c.in-Ok-select_within.sizes
-    (valid_of c.in-ListView.validity) (valid_of c.in-Ok-select_within-2.validity) c.in-ListView.flag c.args.selection.now same (rw c.in_ok-elements.ensures at e) c.in-Ok.ensures c.in-Ok-select_within.ensures c.in-Ok-select_within-2.ensures)
+    (λ a e. lists_selected c.args.self.now a c.in-ListView.elements c.in-ListView.offsets c.in-ListView.sizes c.in_ok-offsets.offsets c.in-Ok.sizes
+    (valid_of c.in-ListView.validity) (valid_of c.in-Ok-select_within.validity) c.in-ListView.flag c.args.selection.now same (rw c.in_ok-elements.ensures at e) c.in_ok-offsets.ensures c.in-Ok.ensures c.in-Ok-select_within.ensures)
     c.with_parts.ensures
 
 pub ArrayRef::select_dictionary-returns-in-Ok : goal.ArrayRef::select_dictionary-returns-in-Ok
@@ -189,8 +189,8 @@ ArrayRef::select_primitive-returns t c =
 pub ArrayRef::select_list_view-with_parts-requires-clause-kind : goal.ArrayRef::select_list_view-with_parts-requires-clause-kind
 ArrayRef::select_list_view-with_parts-requires-clause-kind t c =
     let same = sym c.layout.ensures.parts ∙ ap tree_of c.in-ListView.is in
-    let w = valid_of c.in-Ok-select_within-2.validity in
-    ap (λ (e : Tree). lists (kind_of e) (nullable w)) c.in_ok-elements.ensures ∙ ap (lists (kind_of c.in-ListView.elements)) c.in-Ok-select_within-2.ensures.kind ∙ sym (ap kind_of same)
+    let w = valid_of c.in-Ok-select_within.validity in
+    ap (λ (e : Tree). lists (kind_of e) (nullable w)) c.in_ok-elements.ensures ∙ ap (lists (kind_of c.in-ListView.elements)) c.in-Ok-select_within.ensures.kind ∙ sym (ap kind_of same)
 
 pub ArrayRef::select_fixed_lists-with_parts-requires-clause-kind : goal.ArrayRef::select_fixed_lists-with_parts-requires-clause-kind
 ArrayRef::select_fixed_lists-with_parts-requires-clause-kind t c =

@@ -32,8 +32,8 @@ pub ArrayRef::slice_list_view-returns : goal.ArrayRef::slice_list_view-returns
 ArrayRef::slice_list_view-returns t c =
     let same = sym c.layout.ensures.parts ∙ ap tree_of c.in-ListView.is in
     Gives-weaker c.with_parts.result _ _
-    (λ a e. lists_sliced c.args.self.now a c.in-ListView.elements c.in-ListView.offsets c.in-ListView.sizes c.in-Ok.offsets c.in-Ok-slice_within.sizes
-    (valid_of c.in-ListView.validity) (valid_of c.in-Ok-slice_within-2.validity) c.in-ListView.flag c.args.start (c.args.end - c.args.start) same (rw c.in_ok-elements.ensures at e) c.in-Ok.ensures c.in-Ok-slice_within.ensures c.in-Ok-slice_within-2.ensures)
+    (λ a e. lists_sliced c.args.self.now a c.in-ListView.elements c.in-ListView.offsets c.in-ListView.sizes c.in_ok-offsets.offsets c.in-Ok.sizes
+    (valid_of c.in-ListView.validity) (valid_of c.in-Ok-slice_within.validity) c.in-ListView.flag c.args.start (c.args.end - c.args.start) same (rw c.in_ok-elements.ensures at e) c.in_ok-offsets.ensures c.in-Ok.ensures c.in-Ok-slice_within.ensures)
     c.with_parts.ensures
 
 pub ArrayRef::slice_fixed_lists-returns : goal.ArrayRef::slice_fixed_lists-returns
