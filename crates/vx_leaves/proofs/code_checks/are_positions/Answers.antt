@@ -4,7 +4,7 @@ use Rattle.vx_base.specs.Integers.{numbers, number_nth}
 use Rattle.vx_base.specs.Rows.{whole}
 use Rattle.vx_base.proofs.NumberBytes.{number_passed}
 use Rattle.vx_tree.specs.Faults.{index_fault}
-use Rattle.vx_leaves.proofs.SetBits.{lowest_is, set_before, IsDone-next}
+use Rattle.vx_leaves.proofs.SetBits.{lowest_is, set_before, IsDone-none, IsDone-next}
 use Rattle.vx_leaves.proofs.code_checks.are_positions.Goals as goal
 
 pub overflow_add-row : goal.overflow_add-row
@@ -30,3 +30,6 @@ loop-rest-preserved g c =
     let passed : to_z w128 (of_z w128 c.int_at.result) ≡ c.int_at.result = number_passed t c.int_at.result (rw c.PTYPE.ensures at c.int_at.ensures.holds) in
     let none : index_fault c.args.len row (whole (number_nth zs row)) ≡ None = ap (λ z. index_fault c.args.len row (whole z)) (sym read ∙ sym passed) ∙ c.is_position.ensures row c.if-not-is_position.false in
     IsDone-next c.args.word rest (trailing_zeros w64 rest) _ (λ i. index_fault c.args.len (c.args.rows.start + i) (whole (number_nth zs (c.args.rows.start + i))) ≡ None) lowest none c.loop-rest.invariant
+
+pub loop-rest-init : goal.loop-rest-init
+loop-rest-init g c = IsDone-none c.args.word _

@@ -12,3 +12,7 @@ and-requires c =
 pub from_buffer_within-requires : goal.from_buffer_within-requires
 from_buffer_within-requires c =
     sym (ap length c.in_ok-valid-in_default.ensures ∙ length-valid_mask (valid_of c.parts-parts.result.validity.now) c.len.result ∙ c.len.ensures)
+
+pub returns-in_ok-valid-in_default : goal.returns-in_ok-valid-in_default
+returns-in_ok-valid-in_default c =
+    rw c.parts-parts.ensures.same (rw (c.in_ok-valid-in_default.ensures, c.len.ensures) at c.from_buffer_within.ensures)
