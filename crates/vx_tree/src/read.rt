@@ -1,6 +1,6 @@
 // Rows that are read one at a time, or as bits.
 
-ghost use Rattle.std.specs.Prelude.{◌≡◌, ◌<◌, ◌≤ℤ◌, ◌^◌, ◌-◌, pos, true, false, map, replicate, None, length, count_by, IfOk};
+ghost use Rattle.std.specs.Prelude.{◌≡◌, ◌<◌, ◌≤ℤ◌, ◌+◌, ◌^◌, ◌-◌, ◌++◌, pos, true, false, map, replicate, None, length, count_by, IfOk};
 ghost use Rattle.std.specs.Prelude.{IfSome, IsSome, IsTrue, is_some, ℕ};
 ghost use Rattle.std.specs.List.{range_with_len};
 ghost use Rattle.vx_base.specs.Refusals.{Gives, Refuses};
@@ -18,7 +18,10 @@ ghost use Rattle.vx_tree.specs.Operations.{IsValidityOf};
 use crate::array::{ArrayRef, Layout, Validity};
 use crate::layouts::constant::scalar_validity;
 use std::alloc::Global;
-use vx_base::{BitBuffer, Mask, VortexError, int_at};
+use vx_base::{BitBuffer, BitBufferMut, Mask, VortexError, int_at};
+
+// How many bits a word has.
+const WORD: usize = 64;
 
 #[tactic(auto, using(crate::specs::Formed::valid_reads))]
 impl ArrayRef {
@@ -167,6 +170,24 @@ impl ArrayRef {
         Mask::from_buffer(alloc, self.plain_bits(alloc)?)
     }
 
+    // Adds the rows of an array of plain booleans to bits.
+    pub(crate) fn append_truths(
+        &self,
+        alloc: Global,
+        bits: &mut BitBufferMut,
+    ) -> Result<(), VortexError>
+        requires kind { kind_of self.now ≡ booleans false }
+        requires short { length bits.old + tree_len self.now < 2 ^ 64 }
+        ensures { Gives result (λ _. bits.new
+            ≡ bits.old ++ map (λ i. truth_of (row_at self.now i)) (range_with_len 0 (tree_len self.now))) }
+    {
+        if self.is_repeated() {
+            return bits.append_n(self.truth_at(0), self.len());
+        }
+        let truths = self.plain_bits(alloc)?;
+        append_bits(bits, &truths)
+    }
+
     // How many of the rows of an array of plain booleans are true. Of rows that are all one it takes
     // no memory.
     pub(crate) fn plain_true_count(&self, alloc: Global) -> Result<usize, VortexError>
@@ -250,4 +271,27 @@ fn mask_of_one(value: bool, len: usize) -> Mask
     } else {
         Mask::new_false(len)
     }
+}
+
+// Adds booleans to bits: those of less than a word one by one, so that no bit after them is set.
+fn append_bits(bits: &mut BitBufferMut, more: &BitBuffer) -> Result<(), VortexError>
+    requires { length bits.old + length more.now.bits < 2 ^ 64 }
+    ensures { Gives result (λ _. bits.new ≡ bits.old ++ more.now.bits) }
+{
+    if more.len() < WORD {
+        append_each(bits, more)
+    } else {
+        bits.append_slice(more, 0, more.len())
+    }
+}
+
+// Adds booleans to bits one by one.
+fn append_each(bits: &mut BitBufferMut, more: &BitBuffer) -> Result<(), VortexError>
+    requires { length bits.old + length more.now.bits < 2 ^ 64 }
+    ensures { Gives result (λ _. bits.new ≡ bits.old ++ more.now.bits) }
+{
+    for i in 0..more.len() {
+        bits.append(more.value(i))?;
+    }
+    Ok(())
 }

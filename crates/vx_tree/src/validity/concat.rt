@@ -1,6 +1,6 @@
 // Validities that are joined, and gathered from iterators.
 
-ghost use Rattle.std.specs.Prelude.{◌≡◌, ◌⊎◌, Bool, List, None, length, map, IfOk, IfErr};
+ghost use Rattle.std.specs.Prelude.{◌≡◌, ◌⊎◌, ◌<◌, ◌+◌, ◌^◌, ◌++◌, Bool, List, None, length, map, IfOk, IfErr};
 ghost use Rattle.std.specs.Option.{option_map};
 ghost use Rattle.std.specs.List.{All};
 ghost use Rattle.std.specs.Iterator.{IsFinite, Drains};
@@ -8,6 +8,7 @@ ghost use Rattle.vx_base.specs.Booleans.{joined, count_fault};
 ghost use Rattle.vx_base.specs.Refusals.{Gives, Refuses, Tests, refusal_of};
 ghost use Rattle.vx_base.specs.declared.errors.VortexError.TheVariants.{Memory};
 ghost use Rattle.vx_tree.specs.Tree.{Valid, all_valid};
+ghost use Rattle.vx_tree.specs.Meaning.{valid_mask};
 ghost use Rattle.vx_tree.specs.Formed.{IsLenOf};
 ghost use Rattle.vx_tree.specs.Parts.{valid_of};
 ghost use Rattle.vx_tree.specs.Faults.{valid_type_fault};
@@ -19,7 +20,10 @@ use crate::collect::collect_items;
 use crate::validity::told_by;
 use std::alloc::Global;
 use std::fmt;
-use vx_base::{BitBuffer, Mask, Nullability, VortexError};
+use vx_base::{BitBuffer, BitBufferMut, Mask, Nullability, VortexError};
+
+// How many rows at most are joined by appending their bits: those of a page.
+const APPENDED: usize = 32_768;
 
 impl Validity {
     /// A state without an array as it is, and an array as one of plain booleans of its own, neither
@@ -94,6 +98,26 @@ impl Validity {
         Validity::from_mask(alloc, mask, Nullability::Nullable)
     }
 
+    // Adds the booleans of `len` rows to bits.
+    fn append_to(
+        &self,
+        alloc: Global,
+        len: usize,
+        bits: &mut BitBufferMut,
+    ) -> Result<(), VortexError>
+        requires rows { IsLenOf (valid_of self.now) len }
+        requires kind { valid_type_fault (valid_of self.now) ≡ None }
+        requires short { length bits.old + len < 2 ^ 64 }
+        ensures { Gives result (λ _. bits.new ≡ bits.old ++ valid_mask (valid_of self.now) len) }
+    {
+        match self {
+            Validity::NonNullable => bits.append_n(true, len),
+            Validity::AllValid => bits.append_n(true, len),
+            Validity::AllInvalid => bits.append_n(false, len),
+            Validity::Array(array) => array.append_truths(alloc, bits),
+        }
+    }
+
     // Whether all of them are this state, and it is one without an array.
     fn are_all(&self, parts: &[(Validity, usize)]) -> bool
         ensures { result ≡ are_all (valid_of self.now) parts.now }
@@ -148,7 +172,8 @@ fn check_types(parts: &[(Validity, usize)]) -> Result<(), VortexError>
     Ok(())
 }
 
-// Their booleans, one validity after another.
+// Their booleans, one validity after another: appended bit by bit, or, where there are many rows,
+// joined by their runs, since a loop that lets go of large results then had fewer page faults.
 fn joined_bits(alloc: Global, parts: &[(Validity, usize)]) -> Result<BitBuffer, VortexError>
     requires lens { All (λ part. IsLenOf (valid_of part.0) part.1) parts.now }
     requires types { All (λ part. valid_type_fault (valid_of part.0) ≡ None) parts.now }
@@ -156,9 +181,32 @@ fn joined_bits(alloc: Global, parts: &[(Validity, usize)]) -> Result<BitBuffer, 
     ensures offset { IfOk result (λ b. b.offset ≡ 0) }
     ensures refuses { Refuses result (count_fault (length (joined_mask parts.now))) }
 {
+    let count = row_count(parts)?;
+    if count <= APPENDED {
+        return appended_bits(alloc, count, parts);
+    }
     let masks = masks_of(alloc, parts)?;
     let mask = Mask::concat(alloc, &masks)?;
-    Ok(bits_of_mask(alloc, &mask)?)
+    bits_of_mask(alloc, &mask)
+}
+
+// The booleans of each, of which there are so many together, are appended.
+fn appended_bits(
+    alloc: Global,
+    count: usize,
+    parts: &[(Validity, usize)],
+) -> Result<BitBuffer, VortexError>
+    requires lens { All (λ part. IsLenOf (valid_of part.0) part.1) parts.now }
+    requires types { All (λ part. valid_type_fault (valid_of part.0) ≡ None) parts.now }
+    requires count { count ≡ length (joined_mask parts.now) }
+    ensures bits { Gives result (λ b. b.bits ≡ joined_mask parts.now) }
+    ensures offset { IfOk result (λ b. b.offset ≡ 0) }
+{
+    let mut bits = BitBufferMut::with_capacity(alloc, count)?;
+    for (part, len) in parts {
+        part.append_to(alloc, *len, &mut bits)?;
+    }
+    bits.freeze()
 }
 
 // The booleans of each.
@@ -172,6 +220,22 @@ fn masks_of(alloc: Global, parts: &[(Validity, usize)]) -> Result<Vec<Mask>, Vor
         masks.push(part.execute_mask(alloc, *len)?)?;
     }
     Ok(masks)
+}
+
+// How many rows they have together.
+fn row_count(parts: &[(Validity, usize)]) -> Result<usize, VortexError>
+    requires { All (λ part. IsLenOf (valid_of part.0) part.1) parts.now }
+    ensures count { IfOk result (λ n. n ≡ length (joined_mask parts.now)) }
+    ensures tests { Tests result (count_fault (length (joined_mask parts.now))) }
+{
+    let mut count = 0usize;
+    for (_, len) in parts {
+        let Some(more) = count.checked_add(*len) else {
+            return Err(VortexError::Overflow);
+        };
+        count = more;
+    }
+    Ok(count)
 }
 
 // The booleans of a mask as bits, which are made of its runs where both values stand.
